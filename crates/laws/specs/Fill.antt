@@ -1,0 +1,8 @@
+-- The shape of a loop that writes: place j of the list holds f j, for the n places from i on. Definitions only.
+use mathlib.Core.List.{List}
+use Prim.Native.Nat.{ℕ, zero, suc, _+_}
+use lib.ListN.{set}
+
+unfoldable pub fillFrom : (ℕ → ℕ) → ℕ → ℕ → List ℕ → List ℕ
+fillFrom f zero i out = out
+fillFrom f (suc n) i out = fillFrom f n (i + 1) (set out i (f i))

@@ -1,0 +1,89 @@
+-- The table check: refusals 1 to 6 in document 01's order, of 6 the lowest entry. Definitions only.
+use mathlib.Core.Bool.{Bool}
+use mathlib.Core.Option.{Option, none, some}
+use mathlib.Core.List.{List}
+use Prim.Native.Nat.{ℕ, _+_, _*_, _/_, _%_}
+use lib.Dec.{eqb, ltb, leb}
+use lib.ListN.{length}
+use Rattle.laws.specs.Choice.{pick, both}
+use Rattle.laws.specs.Scan.{allIn, firstFail}
+use Rattle.symbol.specs.declared.Symbol.{Symbol}
+use Rattle.symbol.specs.declared.State.{State}
+use Rattle.outcome.specs.declared.Refusal.{Refusal}
+use Rattle.outcome.specs.declared.Refusal.the-variants as Why
+use Rattle.machine.specs.declared.Machine.{Machine}
+use Rattle.machine.specs.declared.Checked.{Checked}
+use Rattle.machine.specs.declared.Checked.the-variants.{Accepted, Refused}
+use Rattle.machine.specs.declared.Looked.{Looked}
+use Rattle.machine.specs.declared.Looked.the-variants as Look
+use Rattle.machine.specs.Layout.{strideOf, entryCount, entryNumber, flagAt, byteAt, entryAt}
+
+abbrev pub within : ℕ → ℕ → ℕ → Bool
+within low high x = both (leb low x) (leb x high)
+
+-- where the test fails the refusal, else the rest
+abbrev pub demand : Bool → Refusal → Checked → Checked
+demand test why rest = pick test rest (Refused why)
+
+-- after a check: its refusal, else the rest
+abbrev pub checkedOn : Checked → Checked → Checked
+checkedOn (Refused why) rest = Refused why
+checkedOn Accepted rest = rest
+
+-- ---- one entry
+
+abbrev pub zeroAt : List ℕ → ℕ → ℕ → Bool
+zeroAt s i j = eqb (byteAt s i j) 0
+
+-- what stands in a defined entry beside its writes
+abbrev pub headOk : (n b0 next moves b7 : ℕ) → Bool
+headOk n b0 next moves b7 = both (eqb b0 1) (both (ltb next n) (both (ltb moves 27) (eqb b7 0)))
+
+-- a tape's write is a symbol; where the machine lacks the tape, blank and N
+abbrev pub tapeOk : (has : Bool) (k write move : ℕ) → Bool
+tapeOk has k write move = pick has (ltb write k) (both (eqb write 0) (eqb move 2))
+
+abbrev pub writesOk : (t k w0 w1 w2 moves : ℕ) → Bool
+writesOk t k w0 w1 w2 moves =
+    both (ltb w0 k)
+    (both (tapeOk (ltb 1 t) k w1 (moves / 3 % 3)) (tapeOk (ltb 2 t) k w2 (moves / 9 % 3)))
+
+unfoldable pub definedOk : Machine → List ℕ → ℕ → Bool
+definedOk m s i =
+    both
+    (headOk (m .states) (flagAt s i) (byteAt s i 1 + 256 * byteAt s i 2) (byteAt s i 6) (byteAt s i 7))
+    (writesOk (m .tapes) (m .symbols) (byteAt s i 3) (byteAt s i 4) (byteAt s i 5) (byteAt s i 6))
+
+-- an undefined entry is eight zeros
+unfoldable pub entryOk : Machine → List ℕ → ℕ → Bool
+entryOk m s i = pick (eqb (flagAt s i) 0) (allIn (zeroAt s i) 8 0) (definedOk m s i)
+
+-- ---- the table
+
+abbrev pub entryAnswer : Option ℕ → Checked
+entryAnswer none = Accepted
+entryAnswer (some i) = Refused (Why.Entry i)
+
+unfoldable pub entriesCheck : Machine → List ℕ → ℕ → Checked
+entriesCheck m s count = entryAnswer (firstFail (entryOk m s) count 0)
+
+unfoldable pub sizeCheck : Machine → List ℕ → ℕ → Checked
+sizeCheck m s count = demand (eqb (length s) (8 * count)) Why.TableSize (entriesCheck m s count)
+
+unfoldable pub tableCheck : Machine → List ℕ → Checked
+tableCheck m s =
+    demand (within 1 3 (m .tapes)) Why.Tapes
+    (demand (within 1 256 (m .symbols)) Why.Symbols
+    (demand (within 1 65536 (m .states)) Why.States
+    (demand (ltb (m .start) (m .states)) Why.Start (sizeCheck m s (entryCount m)))))
+
+-- ---- the lookup: the table check first, then the entry
+
+abbrev pub lookedOn : Checked → Looked → Looked
+lookedOn (Refused why) found = Look.Refused why
+lookedOn Accepted found = found
+
+unfoldable pub lookupOf : Machine → List ℕ → State → Symbol → Symbol → Symbol → Looked
+lookupOf m s q a0 a1 a2 =
+    lookedOn (tableCheck m s)
+    (Look.Found (entryAt s (entryNumber (m .symbols) (strideOf m) (q .0) (a0 .0) (a1 .0) (a2 .0))))

@@ -1,0 +1,6 @@
+pub mod Layout
+pub mod Check
+pub mod Packing
+pub mod CheckFacts
+pub mod CheckCases
+pub mod PackingCases

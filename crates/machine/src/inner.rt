@@ -1,0 +1,87 @@
+// Steps of the operations that the crates above call too.
+use super::Action;
+use super::Entry;
+use symbol::Dir;
+use symbol::State;
+use symbol::Symbol;
+ghost use mathlib.Core.Path.{_≡_};
+ghost use Prim.Native.Nat.{_+_, _*_, _≤_, _<_, _^_};
+ghost use lib.ListN.{length};
+ghost use Rattle.symbol.specs.Kinds.{stateOf};
+ghost use Rattle.machine.specs.Layout.{entryNumber, dirOf, actionAt, entryAt};
+
+// k^t.
+pub fn stride(tapes: u64, symbols: u64) -> u64
+    requires { ⌜ (1 ≤ tapes) × (tapes ≤ 3) × (symbols ≤ 256) ⌝ }
+    ensures { λ r. ⌜ (r ≡ symbols ^ tapes) × (r ≤ 16777216) ⌝ }
+{
+    if tapes == 1 {
+        return symbols;
+    }
+    if tapes == 2 {
+        return symbols * symbols;
+    }
+    symbols * symbols * symbols
+}
+
+// The number of an entry.
+pub fn entry_number(k: u64, stride: u64, q: u16, a0: u8, a1: u8, a2: u8) -> u64
+    requires { ⌜ (k ≤ 256) × (stride ≤ 16777216) ⌝ }
+    ensures { λ r. ⌜ (r ≡ entryNumber k stride q a0 a1 a2) × (r < 1099528404992) ⌝ }
+{
+    (q as u64) * stride + a0 as u64 + k * (a1 as u64) + k * k * (a2 as u64)
+}
+
+// The entry of a number; past the table's end there is none.
+pub fn entry_at(table: &[u8], i: usize) -> Entry
+    ensures { λ r. ⌜ r ≡ entryAt (now (table .entry)) i ⌝ }
+{
+    if table.len() / 8 <= i {
+        return Entry::Undefined;
+    }
+    let at = 8 * i;
+    if table[at] != 1 {
+        return Entry::Undefined;
+    }
+    Entry::Defined(action_at(table, i))
+}
+
+pub fn action_at(table: &[u8], i: usize) -> Action
+    requires { ⌜ 8 * i + 8 ≤ length (now table) ⌝ }
+    ensures { λ r. ⌜ r ≡ actionAt (now (table .entry)) i ⌝ }
+{
+    let at = 8 * i;
+    let next = state_of(table[at + 1], table[at + 2]);
+    let moves = table[at + 6];
+    let dir0 = dir_of(moves % 3);
+    let dir1 = dir_of(moves / 3 % 3);
+    let dir2 = dir_of(moves / 9 % 3);
+    Action {
+        next,
+        write0: Symbol(table[at + 3]),
+        write1: Symbol(table[at + 4]),
+        write2: Symbol(table[at + 5]),
+        dir0,
+        dir1,
+        dir2,
+    }
+}
+
+fn state_of(low: u8, high: u8) -> State
+    ensures { λ r. ⌜ r ≡ stateOf (low + 256 * high) ⌝ }
+{
+    State(low as u16 + 256 * (high as u16))
+}
+
+// L 0, R 1, all else N.
+pub fn dir_of(d: u8) -> Dir
+    ensures { λ r. ⌜ r ≡ dirOf d ⌝ }
+{
+    if d == 0 {
+        return Dir::L;
+    }
+    if d == 1 {
+        return Dir::R;
+    }
+    Dir::N
+}

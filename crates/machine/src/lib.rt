@@ -1,0 +1,133 @@
+// The machine's numbers, its table of eight-byte entries, the table check, and packed words.
+use outcome::Refusal;
+use packed::Packed;
+use symbol::Dir;
+use symbol::State;
+use symbol::Symbol;
+ghost use mathlib.Core.Path.{_≡_};
+ghost use lib.ListN.{length};
+ghost use Rattle.machine.specs.Layout.{singleOf};
+ghost use Rattle.machine.specs.Check.{tableCheck, lookupOf};
+ghost use Rattle.machine.specs.Packing.{packCheck, packInto};
+
+mod entries;
+pub mod inner;
+pub mod packed;
+
+// With t tapes, k symbols and n states the table has n × k^t entries of eight bytes.
+pub struct Machine {
+    pub tapes: u64,
+    pub symbols: u64,
+    pub states: u64,
+    pub start: u64,
+}
+
+// What a step does: the next state and, for each tape, the symbol written and the move of the head.
+// A tape that the machine lacks has blank and N.
+pub struct Action {
+    pub next: State,
+    pub write0: Symbol,
+    pub write1: Symbol,
+    pub write2: Symbol,
+    pub dir0: Dir,
+    pub dir1: Dir,
+    pub dir2: Dir,
+}
+
+impl Action {
+    // The action of a machine with one tape.
+    pub fn single(write: Symbol, dir: Dir, next: State) -> Action
+        ensures { λ r. ⌜ r ≡ singleOf write dir next ⌝ }
+    {
+        Action {
+            next,
+            write0: write,
+            write1: Symbol::BLANK,
+            write2: Symbol::BLANK,
+            dir0: dir,
+            dir1: Dir::N,
+            dir2: Dir::N,
+        }
+    }
+}
+
+// An entry of the table.
+pub enum Entry {
+    Undefined,
+    Defined(Action),
+}
+
+// The answer of the table check, and of packing.
+pub enum Checked {
+    Accepted,
+    Refused(Refusal),
+}
+
+// The answer of a lookup.
+pub enum Looked {
+    Found(Entry),
+    Refused(Refusal),
+}
+
+impl Machine {
+    // Refusals 1 to 6, in that order.
+    pub fn check(self, table: &[u8]) -> Checked
+        ensures { λ r. ⌜ r ≡ tableCheck self (now (table .entry)) ⌝ }
+    {
+        if !entries::within(1, 3, self.tapes) {
+            return Checked::Refused(Refusal::Tapes);
+        }
+        if !entries::within(1, 256, self.symbols) {
+            return Checked::Refused(Refusal::Symbols);
+        }
+        if !entries::within(1, 65536, self.states) {
+            return Checked::Refused(Refusal::States);
+        }
+        if self.states <= self.start {
+            return Checked::Refused(Refusal::Start);
+        }
+        let stride = inner::stride(self.tapes, self.symbols);
+        entries::check_size(self, table, self.states * stride)
+    }
+
+    // The entry for a state and the symbols read, one for each tape; past the table's end there is none.
+    pub fn lookup(self, table: &[u8], q: State, a0: Symbol, a1: Symbol, a2: Symbol) -> Looked
+        ensures { λ r. ⌜ r ≡ lookupOf self (now (table .entry)) q a0 a1 a2 ⌝ }
+    {
+        let checked = self.check(table);
+        match checked {
+            Checked::Refused(why) => {
+                return Looked::Refused(why);
+            }
+            Checked::Accepted => {
+                let stride = inner::stride(self.tapes, self.symbols);
+                let number = inner::entry_number(self.symbols, stride, q.0, a0.0, a1.0, a2.0);
+                return Looked::Found(inner::entry_at(table, number as usize));
+            }
+        }
+    }
+
+    // The packed words of a table of one tape, into the first places of `out`: after the table check
+    // 7 for several tapes, 18 for too short an output.
+    pub fn pack(self, table: &[u8], out: &mut [u64]) -> Checked
+        ensures { λ r. ⌜ (r ≡ packCheck self (now (table .entry)) (length (now (out .entry)))) × (now (out .exit) ≡ packInto self (now (table .entry)) (now (out .entry))) ⌝ }
+    {
+        let checked = self.check(table);
+        match checked {
+            Checked::Refused(why) => {
+                return Checked::Refused(why);
+            }
+            Checked::Accepted => {
+                if self.tapes != 1 {
+                    return Checked::Refused(Refusal::PackedWords);
+                }
+                let count = self.states * self.symbols;
+                if (out.len() as u64) < count {
+                    return Checked::Refused(Refusal::OutputSize);
+                }
+                packed::pack_entries(table, self.symbols, count, out);
+                return Checked::Accepted;
+            }
+        }
+    }
+}

@@ -1,0 +1,131 @@
+// Entries of a table of one tape, each packed into one word that a run reads by a single load.
+use super::Action;
+use super::Entry;
+use super::inner;
+use symbol::Dir;
+use symbol::State;
+use symbol::Symbol;
+ghost use mathlib.Core.Path.{_≡_};
+ghost use mathlib.Core.Bool.{not};
+ghost use Prim.Native.Nat.{_+_, _*_, _-_, _≤_};
+ghost use lib.Dec.{eqb};
+ghost use lib.ListN.{length};
+ghost use Rattle.laws.specs.Fill.{fillFrom};
+ghost use Rattle.machine.specs.Packing.{undefinedWord, packWord, wordAt, actionWord, dirNumber, wordDir, wordWrite, wordNext, wordRow, wordAction, wordEntry};
+
+// Byte 0 is the move, byte 1 the symbol written, bytes 2 and 3 the next state and bytes 4 to 7 the number
+// of that state's first entry, its row.
+pub struct Packed(pub u64);
+
+impl Packed {
+    pub const UNDEFINED: Packed = Packed(3);
+
+    // The word of an entry of a table with `stride` entries for each state.
+    pub fn new(entry: Entry, stride: u64) -> Packed
+        ensures { λ r. ⌜ r .0 ≡ packWord entry stride ⌝ }
+    {
+        match entry {
+            Entry::Undefined => {
+                return Packed::UNDEFINED;
+            }
+            Entry::Defined(action) => {
+                return pack_action(action, stride);
+            }
+        }
+    }
+
+    pub fn is_defined(self) -> bool
+        ensures { λ r. ⌜ r ≡ not (eqb (self .0) undefinedWord) ⌝ }
+    {
+        let undefined = Packed::UNDEFINED;
+        self.0 != undefined.0
+    }
+
+    pub fn dir(self) -> Dir
+        ensures { λ r. ⌜ r ≡ wordDir (self .0) ⌝ }
+    {
+        inner::dir_of((self.0 % 256) as u8)
+    }
+
+    pub fn write(self) -> Symbol
+        ensures { λ r. ⌜ r .0 ≡ wordWrite (self .0) ⌝ }
+    {
+        Symbol((self.0 / 256 % 256) as u8)
+    }
+
+    pub fn next(self) -> State
+        ensures { λ r. ⌜ r .0 ≡ wordNext (self .0) ⌝ }
+    {
+        State((self.0 / 65536 % 65536) as u16)
+    }
+
+    pub fn row(self) -> usize
+        ensures { λ r. ⌜ r ≡ wordRow (self .0) ⌝ }
+    {
+        (self.0 / 4294967296) as usize
+    }
+
+    // The step of the word, defined or not.
+    pub fn action(self) -> Action
+        ensures { λ r. ⌜ r ≡ wordAction (self .0) ⌝ }
+    {
+        let write = self.write();
+        let dir = self.dir();
+        let next = self.next();
+        Action::single(write, dir, next)
+    }
+
+    // The entry of the word: only UNDEFINED is undefined.
+    pub fn entry(self) -> Entry
+        ensures { λ r. ⌜ r ≡ wordEntry (self .0) ⌝ }
+    {
+        if self.is_defined() {
+            return Entry::Defined(self.action());
+        }
+        Entry::Undefined
+    }
+}
+
+// The word of an action, or UNDEFINED where its row passes 32 bits.
+fn pack_action(action: Action, stride: u64) -> Packed
+    ensures { λ r. ⌜ r .0 ≡ actionWord action stride ⌝ }
+{
+    let next = action.next.0 as u64;
+    let dir = action.dir0;
+    let low = dir_number(dir) + 256 * (action.write0.0 as u64) + 65536 * next;
+    if next == 0 {
+        return Packed(low);
+    }
+    if 4294967296 <= stride {
+        return Packed::UNDEFINED;
+    }
+    let row = next * stride;
+    if 4294967296 <= row {
+        return Packed::UNDEFINED;
+    }
+    Packed(low + 4294967296 * row)
+}
+
+fn dir_number(dir: Dir) -> u64
+    ensures { λ r. ⌜ (r ≡ dirNumber dir) × (r ≤ 2) ⌝ }
+{
+    match dir {
+        Dir::L => 0,
+        Dir::R => 1,
+        Dir::N => 2,
+    }
+}
+
+// The words of the table's first `count` entries, into the first places of `out`.
+pub(crate) fn pack_entries(table: &[u8], stride: u64, count: u64, out: &mut [u64])
+    requires { ⌜ count ≤ length (now out) ⌝ }
+    ensures { λ _. ⌜ now (out .exit) ≡ fillFrom (wordAt (now (table .entry)) stride) count 0 (now (out .entry)) ⌝ }
+{
+    let mut i: u64 = 0;
+    while i < count {
+        let at = i as usize;
+        let word = Packed::new(inner::entry_at(table, at), stride);
+        out[at] = word.0;
+        i += 1;
+    }
+}

@@ -1,0 +1,221 @@
+// What an operation answers: how a run ended, and why an operation was refused.
+use symbol::Dir;
+use symbol::State;
+ghost use mathlib.Core.Path.{_≡_};
+ghost use Rattle.outcome.specs.Numbers.{statusNumber, proofNumber, proofState, proofMove, outcomeNumber, stepsOf, isHalted, refusalNumber, placeOf};
+
+// What one step found.
+pub enum Status {
+    // An entry was defined, and the step was made.
+    Running,
+    // No entry is defined: the machine has halted.
+    Halted,
+    // A tape had no space for the step, and nothing of it was made.
+    Full,
+}
+
+impl Status {
+    pub fn number(self) -> u8
+        ensures { λ r. ⌜ r ≡ statusNumber self ⌝ }
+    {
+        match self {
+            Status::Running => 0,
+            Status::Halted => 1,
+            Status::Full => 2,
+        }
+    }
+}
+
+// Which of the two patterns showed that the machine never halts.
+pub enum NonHaltProof {
+    // The entry keeps the state, and every tape stays and is rewritten as it was read.
+    StayLoop { state: State },
+    // The entry for a blank keeps the state and moves `dir`, where all that lies ahead is blank.
+    ChainToInfinity { state: State, dir: Dir },
+}
+
+// The move of a pattern, where it has one.
+pub enum Toward {
+    Side(Dir),
+    Nowhere,
+}
+
+impl NonHaltProof {
+    pub fn number(self) -> u8
+        ensures { λ r. ⌜ r ≡ proofNumber self ⌝ }
+    {
+        match self {
+            NonHaltProof::StayLoop { state: _ } => 0,
+            NonHaltProof::ChainToInfinity { state: _, dir: _ } => 1,
+        }
+    }
+
+    // The state that is never left.
+    pub fn state(self) -> State
+        ensures { λ r. ⌜ r ≡ proofState self ⌝ }
+    {
+        match self {
+            NonHaltProof::StayLoop { state } => state,
+            NonHaltProof::ChainToInfinity { state, dir: _ } => state,
+        }
+    }
+
+    pub fn toward(self) -> Toward
+        ensures { λ r. ⌜ r ≡ proofMove self ⌝ }
+    {
+        match self {
+            NonHaltProof::StayLoop { state: _ } => Toward::Nowhere,
+            NonHaltProof::ChainToInfinity { state: _, dir } => Toward::Side(dir),
+        }
+    }
+}
+
+// How a run ended. `steps` is the whole step count since the start.
+pub enum Outcome {
+    // No entry is defined in `state` for the symbols read.
+    Halted { steps: u64, state: State },
+    // All the fuel was used, and the machine has not halted yet.
+    OutOfFuel { steps: u64 },
+    // The machine was shown never to halt.
+    NeverHalts { steps: u64, proof: NonHaltProof },
+    // The stop rule ended the run.
+    Stopped { steps: u64 },
+    // The next step lacks space.
+    Full { steps: u64 },
+}
+
+impl Outcome {
+    pub fn number(self) -> u8
+        ensures { λ r. ⌜ r ≡ outcomeNumber self ⌝ }
+    {
+        match self {
+            Outcome::Halted { steps: _, state: _ } => 0,
+            Outcome::OutOfFuel { steps: _ } => 1,
+            Outcome::NeverHalts { steps: _, proof: _ } => 2,
+            Outcome::Stopped { steps: _ } => 3,
+            Outcome::Full { steps: _ } => 4,
+        }
+    }
+
+    pub fn steps(self) -> u64
+        ensures { λ r. ⌜ r ≡ stepsOf self ⌝ }
+    {
+        match self {
+            Outcome::Halted { steps, state: _ } => steps,
+            Outcome::OutOfFuel { steps } => steps,
+            Outcome::NeverHalts { steps, proof: _ } => steps,
+            Outcome::Stopped { steps } => steps,
+            Outcome::Full { steps } => steps,
+        }
+    }
+
+    pub fn is_halted(self) -> bool
+        ensures { λ r. ⌜ r ≡ isHalted self ⌝ }
+    {
+        match self {
+            Outcome::Halted { steps: _, state: _ } => true,
+            Outcome::OutOfFuel { steps: _ } => false,
+            Outcome::NeverHalts { steps: _, proof: _ } => false,
+            Outcome::Stopped { steps: _ } => false,
+            Outcome::Full { steps: _ } => false,
+        }
+    }
+}
+
+// Why an operation was turned away: document 01's refusals, in the order of their numbers 1 to 18.
+pub enum Refusal {
+    // The tapes are not 1 to 3.
+    Tapes,
+    // The symbols are not 1 to 256.
+    Symbols,
+    // The states are not 1 to 65,536.
+    States,
+    // The start state is not below the number of states.
+    Start,
+    // The table has not 8 bytes for each entry.
+    TableSize,
+    // The entry of this number, the lowest such, is off its layout or out of range.
+    Entry(u64),
+    // The packed words are not the table's, or the table has several tapes.
+    PackedWords,
+    // The machine has several tapes.
+    SeveralTapes,
+    // The word is longer than 1,048,576.
+    WordLength,
+    // The word's symbol at this place, the first such, is none of the machine's.
+    WordSymbol(u64),
+    // A lent buffer is too small or too large.
+    BufferSize,
+    // The engine value doesn't fit, or the machine lacks the tape asked for.
+    Misfit,
+    // Steps and fuel, or the target, are over 2^62.
+    StepLimit,
+    // The timeline's settings or its value are out of range.
+    Settings,
+    // The store has too few slots.
+    StoreSize,
+    // The slot to restore holds no fitting engine of its step.
+    Slot,
+    // The glyph at this place, the first such, is not allowed.
+    Glyph(u64),
+    // The output is too short.
+    OutputSize,
+}
+
+// The place that a refusal gives, where it gives one.
+pub enum Place {
+    At(u64),
+    Unsaid,
+}
+
+impl Refusal {
+    pub fn number(self) -> u8
+        ensures { λ r. ⌜ r ≡ refusalNumber self ⌝ }
+    {
+        match self {
+            Refusal::Tapes => 1,
+            Refusal::Symbols => 2,
+            Refusal::States => 3,
+            Refusal::Start => 4,
+            Refusal::TableSize => 5,
+            Refusal::Entry(_) => 6,
+            Refusal::PackedWords => 7,
+            Refusal::SeveralTapes => 8,
+            Refusal::WordLength => 9,
+            Refusal::WordSymbol(_) => 10,
+            Refusal::BufferSize => 11,
+            Refusal::Misfit => 12,
+            Refusal::StepLimit => 13,
+            Refusal::Settings => 14,
+            Refusal::StoreSize => 15,
+            Refusal::Slot => 16,
+            Refusal::Glyph(_) => 17,
+            Refusal::OutputSize => 18,
+        }
+    }
+
+    pub fn place(self) -> Place
+        ensures { λ r. ⌜ r ≡ placeOf self ⌝ }
+    {
+        match self {
+            Refusal::Entry(i) => Place::At(i),
+            Refusal::WordSymbol(i) => Place::At(i),
+            Refusal::Glyph(i) => Place::At(i),
+            Refusal::Tapes => Place::Unsaid,
+            Refusal::Symbols => Place::Unsaid,
+            Refusal::States => Place::Unsaid,
+            Refusal::Start => Place::Unsaid,
+            Refusal::TableSize => Place::Unsaid,
+            Refusal::PackedWords => Place::Unsaid,
+            Refusal::SeveralTapes => Place::Unsaid,
+            Refusal::WordLength => Place::Unsaid,
+            Refusal::BufferSize => Place::Unsaid,
+            Refusal::Misfit => Place::Unsaid,
+            Refusal::StepLimit => Place::Unsaid,
+            Refusal::Settings => Place::Unsaid,
+            Refusal::StoreSize => Place::Unsaid,
+            Refusal::Slot => Place::Unsaid,
+            Refusal::OutputSize => Place::Unsaid,
+        }
+    }
+}

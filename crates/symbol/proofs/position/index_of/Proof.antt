@@ -1,0 +1,33 @@
+use Prim.Native.Nat.{_+_, _^_}
+use native.Mathlib.Omega.{arith}
+use mathlib.Core.Path.{_≡_, _∙_}
+use mir.Syntax.{w64}
+use mir.ValLaws.{toZ-ofZ}
+use Rattle.laws.specs.Position.{up, dn}
+use Rattle.symbol.specs.PlaceFacts.{index-alike}
+use borrow.Author.Needs.{needs}
+use Rattle.symbol.proofs.position.index_of.Statement.{statement}
+use Rattle.symbol.proofs.position.index_of.Tie as tie
+use Rattle.symbol.proofs.position.index_of.Reads as reads
+use Rattle.symbol.proofs.position.index_of.Lts as lts
+use Rattle.symbol.proofs.position.index_of_raised.Reads as index-of-raised-reads
+use Rattle.symbol.proofs.position.raised.Reads as raised-reads
+
+-- src/position.rt:45:21
+raised-requires : tie.Need-raised-requires
+raised-requires c κs = search needs
+
+-- src/position.rt:45:5
+index-of-raised-requires : tie.Need-index-of-raised-requires
+index-of-raised-requires c κs = search needs
+
+-- src/position.rt:42:1
+returns : tie.Need-returns
+returns c =
+    let z = c .before .before .args .at in
+    let e = toZ-ofZ w64 z (c .before .before .fits .at) in
+    let q : c .before .raised .result + dn z ≡ 2 ^ 63 + up z = rw e at (c .before .raised .ensures .1) in
+    c .index-of-raised .ensures ∙ index-alike _ _ _ _ _ _ (omega arith)
+
+pub index-of-spec : {M : Type 1} → statement M
+index-of-spec = tie.close (tie.spec raised-requires index-of-raised-requires returns)

@@ -1,0 +1,24 @@
+-- Symbols, states and moves by their numbers (document 01, symbol.rs). Definitions only.
+use Prim.Native.Nat.{ℕ}
+use lib.IntN.{ℤ, pos, negsuc}
+use Rattle.symbol.specs.declared.Symbol.{Symbol}
+use Rattle.symbol.specs.declared.State.{State}
+use Rattle.symbol.specs.declared.Dir.{Dir}
+use Rattle.symbol.specs.declared.Dir.the-variants.{L, R, N}
+
+abbrev pub symbolOf : ℕ → Symbol
+symbolOf n = record { 0 = n }
+
+abbrev pub stateOf : ℕ → State
+stateOf n = record { 0 = n }
+
+-- "move L, R or N (-1, 1, 0)"
+abbrev pub deltaOf : Dir → ℤ
+deltaOf L = negsuc 0
+deltaOf R = pos 1
+deltaOf N = pos 0
+
+abbrev pub reversedOf : Dir → Dir
+reversedOf L = R
+reversedOf R = L
+reversedOf N = N

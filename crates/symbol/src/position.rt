@@ -1,0 +1,69 @@
+// Positions of a tape, which are signed, and the unsigned numbers that the engines compute with: indexes into a
+// lent buffer, and positions raised by 2^63. These are the only functions that look into a signed number.
+ghost use mathlib.Core.Path.{_≡_};
+ghost use Prim.Native.Nat.{_+_, _^_};
+ghost use Rattle.laws.specs.Position.{_⊖_, up, dn};
+ghost use Rattle.symbol.specs.Places.{raisedOf, indexOf, indexOfRaised};
+
+// An index into a buffer, where there is one.
+pub enum Found {
+    At(usize),
+    Nothing,
+}
+
+// A position raised by 2^63.
+pub fn raised(at: i64) -> u64
+    ensures { λ r. ⌜ (r ≡ raisedOf at) × (r + dn at ≡ 2 ^ 63 + up at) ⌝ }
+{
+    if at >= 0 {
+        return 9223372036854775808 + at as u64;
+    }
+    9223372036854775807 - (-1 - at) as u64
+}
+
+// The position that a raised number stands for.
+pub fn signed(raised: u64) -> i64
+    ensures { λ r. ⌜ r ≡ raised ⊖ 2 ^ 63 ⌝ }
+{
+    if raised < 9223372036854775808 {
+        return -1 - ((9223372036854775807 - raised) as i64);
+    }
+    (raised - 9223372036854775808) as i64
+}
+
+// The position of an index, where index `origin` is position 0.
+pub fn of_index(index: u32, origin: u32) -> i64
+    ensures { λ r. ⌜ r ≡ index ⊖ origin ⌝ }
+{
+    signed(9223372036854775808 + index as u64 - origin as u64)
+}
+
+// The index of a position among `len` cells of which number `origin` is position 0.
+pub fn index_of(at: i64, origin: usize, len: usize) -> Found
+    ensures { λ r. ⌜ r ≡ indexOf at origin len ⌝ }
+{
+    index_of_raised(raised(at), origin, len)
+}
+
+// The same of a raised position.
+pub fn index_of_raised(raised: u64, origin: usize, len: usize) -> Found
+    ensures { λ r. ⌜ r ≡ indexOfRaised raised origin len ⌝ }
+{
+    if raised < 9223372036854775808 {
+        let below = 9223372036854775808 - raised;
+        if below <= origin as u64 {
+            let index = origin - below as usize;
+            if index < len {
+                return Found::At(index);
+            }
+        }
+        return Found::Nothing;
+    }
+    let above = raised - 9223372036854775808;
+    if origin < len {
+        if above < (len - origin) as u64 {
+            return Found::At(origin + above as usize);
+        }
+    }
+    Found::Nothing
+}
