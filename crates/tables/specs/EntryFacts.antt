@@ -1,0 +1,214 @@
+-- The check of one entry passes exactly the entries that are laid out as document 01 says. Assumes nothing.
+use mathlib.Core.Path.{_≡_, refl, sym, ap, _∙_, subst}
+use mathlib.Core.Bool.{Bool, true, false}
+use mathlib.Core.List.{List, [], _∷_}
+use Prim.Native.Nat.{ℕ, zero, suc, _+_, _*_, _/_, _%_, _≤_, _<_}
+use native.Mathlib.Nat.{add-zero, add-mul-mod-self-left, mod-eq-of-lt}
+use native.Mathlib.Omega.{arith}
+use borrow.Author.Tests.{ltb-true, ltb-false, leb-true, eqb-true, lt-ltb, le-ltb, eq-eqb, ne-eqb}
+use lib.Dec.{eqb, ltb}
+use lib.ListN.{length, getD}
+use Rattle.laws.specs.Choice.{pick, both}
+use Rattle.laws.specs.Scan.{allIn}
+use Rattle.laws.specs.Tests.{both-split, both-true, by-test, clash, pick-true, pick-false}
+use Rattle.laws.specs.ScanFacts.{all-says, all-holds}
+use Rattle.symbol.specs.declared.Dir.{Dir}
+use Rattle.symbol.specs.declared.Dir.the-variants.{L, R, N}
+use Rattle.machine.specs.declared.Machine.{Machine}
+use Rattle.machine.specs.declared.Action.{Action}
+use Rattle.machine.specs.declared.Entry.{Entry}
+use Rattle.machine.specs.declared.Entry.the-variants.{Undefined, Defined}
+use Rattle.machine.specs.Layout.{flagAt, byteAt, dirOf, actionAt, entryAt}
+use Rattle.machine.specs.Check.{zeroAt, tapeOk, definedOk, entryOk}
+use Rattle.machine.specs.Packing.{dirNumber}
+use Rattle.tables.specs.WellFormed.{Bytes, entryBytes, ActionOf, EntryOf, LaidOut}
+
+-- ---- moves and their numbers
+
+pub move-number : (d : ℕ) → d < 3 → dirNumber (dirOf d) ≡ d
+unfolding pick
+move-number zero h = refl
+move-number (suc zero) h = refl
+move-number (suc (suc zero)) h = refl
+move-number (suc (suc (suc d))) h = absurd (omega arith)
+
+pub number-move : (d : Dir) → dirOf (dirNumber d) ≡ d
+unfolding pick
+number-move L = refl
+number-move R = refl
+number-move N = refl
+
+pub number-small : (d : Dir) → dirNumber d ≤ 2
+number-small L = omega arith
+number-small R = omega arith
+number-small N = omega arith
+
+-- the three moves out of their number
+pub moves-apart : (d : ℕ) (x y z : Dir) → d ≡ dirNumber x + 3 * dirNumber y + 9 * dirNumber z
+    → (d % 3 ≡ dirNumber x) × (d / 3 % 3 ≡ dirNumber y) × (d / 9 % 3 ≡ dirNumber z)
+moves-apart d x y z e =
+    let a = number-small x in
+    let b = number-small y in
+    let c = number-small z in
+    let k : d ≡ dirNumber x + 3 * (dirNumber y + 3 * dirNumber z) = omega arith in
+    (ap (λ (n : ℕ). n % 3) k ∙ add-mul-mod-self-left (dirNumber x) 3 (dirNumber y + 3 * dirNumber z) ∙ mod-eq-of-lt (omega arith), omega arith, omega arith)
+
+two-is-n : (d : ℕ) → d ≡ 2 → dirOf d ≡ N
+two-is-n d e = ap dirOf e ∙ number-move N
+
+-- ---- from a passed check to the layout
+
+eight-zeros : (j : ℕ) → j < 8 → getD (entryBytes Undefined) j 0 ≡ 0
+eight-zeros zero h = refl
+eight-zeros (suc zero) h = refl
+eight-zeros (suc (suc zero)) h = refl
+eight-zeros (suc (suc (suc zero))) h = refl
+eight-zeros (suc (suc (suc (suc zero)))) h = refl
+eight-zeros (suc (suc (suc (suc (suc zero))))) h = refl
+eight-zeros (suc (suc (suc (suc (suc (suc zero)))))) h = refl
+eight-zeros (suc (suc (suc (suc (suc (suc (suc zero))))))) h = refl
+eight-zeros (suc (suc (suc (suc (suc (suc (suc (suc j)))))))) h = absurd (omega arith)
+
+pub record Passed (m : Machine) (s : List ℕ) (i : ℕ) : Type 0 where
+  pub next-in : byteAt s i 1 + 256 * byteAt s i 2 < m .states
+  pub moves-in : byteAt s i 6 < 27
+  pub last : byteAt s i 7 ≡ 0
+  pub write0-in : byteAt s i 3 < m .symbols
+  pub tape1 : tapeOk (ltb 1 (m .tapes)) (m .symbols) (byteAt s i 4) (byteAt s i 6 / 3 % 3) ≡ true
+  pub tape2 : tapeOk (ltb 2 (m .tapes)) (m .symbols) (byteAt s i 5) (byteAt s i 6 / 9 % 3) ≡ true
+
+pub flag-is : (s : List ℕ) (i : ℕ) → byteAt s i 0 ≡ flagAt s i
+flag-is s i = ap (λ (n : ℕ). getD s n 0) (add-zero (8 * i))
+
+module _ (m : Machine) (s : List ℕ) (i : ℕ) where
+  pub passed : definedOk m s i ≡ true → (flagAt s i ≡ 1) × Passed m s i
+  unfolding definedOk
+  passed h =
+      let p = both-split h in
+      let a = both-split (p .0) in
+      let b = both-split (a .1) in
+      let c = both-split (b .1) in
+      let w = both-split (p .1) in
+      let x = both-split (w .1) in (
+        eqb-true _ _ (a .0),
+        record {
+          next-in = ltb-true _ _ (b .0);
+          moves-in = ltb-true _ _ (c .0);
+          last = eqb-true _ _ (c .1);
+          write0-in = ltb-true _ _ (w .0);
+          tape1 = x .0;
+          tape2 = x .1;
+        },
+      )
+
+  -- a tape of the machine is written a symbol of it; one that it lacks, blank, and it stays
+  tape-write : (has : Bool) (w d : ℕ) → 1 ≤ m .symbols → tapeOk has (m .symbols) w d ≡ true → w < m .symbols
+  unfolding pick
+  tape-write true w d k h = ltb-true _ _ h
+  tape-write false w d k h = omega (arith, eqb-true w 0 (both-split h .0))
+
+  tape-lacks : (t n w d : ℕ) → n ≤ t → tapeOk (ltb t n) (m .symbols) w d ≡ true → (w ≡ 0) × (d ≡ 2)
+  tape-lacks t n w d l h =
+      let g : both (eqb w 0) (eqb d 2) ≡ true = sym (pick-false (ltb t n) (ltb w (m .symbols)) (both (eqb w 0) (eqb d 2)) (le-ltb t n l)) ∙ h in
+      (eqb-true w 0 (both-split g .0), eqb-true d 2 (both-split g .1))
+
+  module _ (bytes : Bytes s) (some : 1 ≤ m .symbols) where
+    moves-are : byteAt s i 6 < 27 → byteAt s i 6 ≡ dirNumber (actionAt s i .dir0) + 3 * dirNumber (actionAt s i .dir1) + 9 * dirNumber (actionAt s i .dir2)
+    unfolding actionAt
+    moves-are h =
+        let d = byteAt s i 6 in
+        omega (arith, move-number (d % 3) (omega arith), move-number (d / 3 % 3) (omega arith), move-number (d / 9 % 3) (omega arith))
+
+    -- a defined entry that passed holds the bytes of what is read there
+    defined-laid : flagAt s i ≡ 1 → Passed m s i → LaidOut m s i
+    unfolding actionAt
+    defined-laid f p = record { entry = Defined (actionAt s i); of-machine = of-machine; stands = stands }
+      where
+        of-machine : ActionOf m (actionAt s i)
+        of-machine = record {
+          next-in = p .next-in;
+          write0-in = p .write0-in;
+          write1-in = tape-write (ltb 1 (m .tapes)) (byteAt s i 4) (byteAt s i 6 / 3 % 3) some (p .tape1);
+          write2-in = tape-write (ltb 2 (m .tapes)) (byteAt s i 5) (byteAt s i 6 / 9 % 3) some (p .tape2);
+          lacks1 = λ l. let q = tape-lacks 1 (m .tapes) (byteAt s i 4) (byteAt s i 6 / 3 % 3) (omega arith) (p .tape1) in (q .0, two-is-n _ (q .1));
+          lacks2 = λ l. let q = tape-lacks 2 (m .tapes) (byteAt s i 5) (byteAt s i 6 / 9 % 3) (omega arith) (p .tape2) in (q .0, two-is-n _ (q .1));
+        }
+
+        stands : (j : ℕ) → j < 8 → byteAt s i j ≡ getD (entryBytes (Defined (actionAt s i))) j 0
+        stands zero h = flag-is s i ∙ f
+        stands (suc zero) h = omega (arith, bytes (8 * i + 1))
+        stands (suc (suc zero)) h = omega (arith, bytes (8 * i + 1))
+        stands (suc (suc (suc zero))) h = refl
+        stands (suc (suc (suc (suc zero)))) h = refl
+        stands (suc (suc (suc (suc (suc zero))))) h = refl
+        stands (suc (suc (suc (suc (suc (suc zero)))))) h = moves-are (p .moves-in)
+        stands (suc (suc (suc (suc (suc (suc (suc zero))))))) h = p .last
+        stands (suc (suc (suc (suc (suc (suc (suc (suc j)))))))) h = absurd (omega arith)
+
+    undefined-laid : allIn (zeroAt s i) 8 0 ≡ true → LaidOut m s i
+    undefined-laid z = record {
+      entry = Undefined;
+      of-machine = tt;
+      stands = λ j h. eqb-true _ _ (all-says (zeroAt s i) 8 0 z j (omega arith) (omega arith)) ∙ sym (eight-zeros j h);
+    }
+
+    pub entry-laid : entryOk m s i ≡ true → LaidOut m s i
+    unfolding entryOk
+    entry-laid h = by-test (eqb (flagAt s i) 0)
+        (λ z. undefined-laid (sym (pick-true _ _ _ z) ∙ h))
+        (λ z. let p = passed (sym (pick-false _ _ _ z) ∙ h) in defined-laid (p .0) (p .1))
+
+  -- ---- and back, from the layout to a passed check
+
+  tape-has : (has : Bool) (w d : ℕ) → w < m .symbols → (has ≡ false → (w ≡ 0) × (d ≡ 2)) → tapeOk has (m .symbols) w d ≡ true
+  unfolding pick
+  tape-has true w d h g = lt-ltb _ _ h
+  tape-has false w d h g = both-true (eq-eqb w 0 (g refl .0)) (eq-eqb d 2 (g refl .1))
+
+  -- the two facts of a lacking tape, as the check has them
+  lack : (t : ℕ) (w d : ℕ) (x : Dir) → (m .tapes < suc t → (w ≡ 0) × (x ≡ N)) → d ≡ dirNumber x → ltb t (m .tapes) ≡ false → (w ≡ 0) × (d ≡ 2)
+  lack t w d x f e z =
+      let l : m .tapes ≤ t = ltb-false t (m .tapes) z in
+      let q = f (omega arith) in
+      (q .0, e ∙ ap dirNumber (q .1))
+
+  laid-defined : (a : Action) → ActionOf m a → ((j : ℕ) → j < 8 → byteAt s i j ≡ getD (entryBytes (Defined a)) j 0) → entryOk m s i ≡ true
+  unfolding entryOk definedOk
+  laid-defined a o stands =
+      let b0 : flagAt s i ≡ 1 = sym (flag-is s i) ∙ stands 0 (omega arith) in
+      let b1 : byteAt s i 1 ≡ a .next .0 % 256 = stands 1 (omega arith) in
+      let b2 : byteAt s i 2 ≡ a .next .0 / 256 = stands 2 (omega arith) in
+      let b3 : byteAt s i 3 ≡ a .write0 .0 = stands 3 (omega arith) in
+      let b4 : byteAt s i 4 ≡ a .write1 .0 = stands 4 (omega arith) in
+      let b5 : byteAt s i 5 ≡ a .write2 .0 = stands 5 (omega arith) in
+      let b6 : byteAt s i 6 ≡ dirNumber (a .dir0) + 3 * dirNumber (a .dir1) + 9 * dirNumber (a .dir2) = stands 6 (omega arith) in
+      let b7 : byteAt s i 7 ≡ 0 = stands 7 (omega arith) in
+      let d0 = number-small (a .dir0) in
+      let d1 = number-small (a .dir1) in
+      let d2 = number-small (a .dir2) in
+      let p = moves-apart _ (a .dir0) (a .dir1) (a .dir2) b6 in
+      let next : byteAt s i 1 + 256 * byteAt s i 2 < m .states = omega (arith, o .next-in) in
+      let moves : byteAt s i 6 < 27 = omega arith in
+      let w0 : byteAt s i 3 < m .symbols = omega (arith, o .write0-in) in
+      pick-false _ _ _ (ne-eqb (flagAt s i) 0 (λ (z : flagAt s i ≡ 0). omega arith))
+      ∙ both-true
+      (both-true (eq-eqb _ _ b0) (both-true (lt-ltb _ _ next) (both-true (lt-ltb _ _ moves) (eq-eqb _ _ b7))))
+      (both-true (lt-ltb _ _ w0)
+      (both-true
+      (tape-has (ltb 1 (m .tapes)) (byteAt s i 4) (byteAt s i 6 / 3 % 3) (omega (arith, o .write1-in))
+      (lack 1 _ _ (a .dir1) (λ l. (b4 ∙ o .lacks1 l .0, o .lacks1 l .1)) (p .1)))
+      (tape-has (ltb 2 (m .tapes)) (byteAt s i 5) (byteAt s i 6 / 9 % 3) (omega (arith, o .write2-in))
+      (lack 2 _ _ (a .dir2) (λ l. (b5 ∙ o .lacks2 l .0, o .lacks2 l .1)) (p .2)))))
+
+  laid-undefined : ((j : ℕ) → j < 8 → byteAt s i j ≡ getD (entryBytes Undefined) j 0) → entryOk m s i ≡ true
+  unfolding entryOk
+  laid-undefined stands =
+      pick-true _ _ _ (eq-eqb _ _ (sym (flag-is s i) ∙ stands 0 (omega arith)))
+      ∙ all-holds (zeroAt s i) 8 0 (λ j a b. eq-eqb _ _ (stands j (omega arith) ∙ eight-zeros j (omega arith)))
+
+  pub laid-entry : LaidOut m s i → entryOk m s i ≡ true
+  laid-entry l = by (l .entry) (l .of-machine) (l .stands)
+    where
+      by : (e : Entry) → EntryOf m e → ((j : ℕ) → j < 8 → byteAt s i j ≡ getD (entryBytes e) j 0) → entryOk m s i ≡ true
+      by Undefined o f = laid-undefined f
+      by (Defined a) o f = laid-defined a o f

@@ -1,0 +1,6 @@
+pub mod TableMachine
+pub mod Tables
+pub mod RunFacts
+pub mod VerdictFacts
+pub mod NeverFacts
+pub mod TableFacts

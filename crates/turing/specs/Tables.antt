@@ -1,0 +1,18 @@
+-- The table's bytes as a table of the table machine, and what a table of the machine is. Definitions only.
+use mathlib.Core.Path.{_≡_}
+use mathlib.Core.List.{List}
+use Prim.Native.Nat.{ℕ, _<_}
+use Rattle.machine.specs.declared.Machine.{Machine}
+use Rattle.machine.specs.declared.Action.{Action}
+use Rattle.machine.specs.declared.Entry.the-variants.{Defined}
+use Rattle.machine.specs.Layout.{strideOf, entryNumber, entryAt}
+use Rattle.tables.specs.WellFormed.{ActionOf}
+use Rattle.turing.specs.TableMachine.{Table}
+
+-- "The entry for state q and symbols a0, a1, a2"
+unfoldable pub tableOf : Machine → List ℕ → Table
+tableOf m s q a0 a1 a2 = entryAt s (entryNumber (m .symbols) (strideOf m) q a0 a1 a2)
+
+-- every entry takes a state below n, writes symbols below k, and leaves the tapes that the machine lacks alone
+abbrev pub TableOf : Machine → Table → Type 0
+TableOf m d = (q x y z : ℕ) (a : Action) → d q x y z ≡ Defined a → ActionOf m a
