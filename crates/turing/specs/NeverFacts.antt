@@ -160,10 +160,10 @@ module _ (m : Machine) (d : Table) (table : TableOf m d) where
       let r1 : act c a .tape1 ≡ c .tape1 = b .second (omega arith) ∙ sym (v .bare .second (omega arith)) in
       let r2 : act c a .tape2 ≡ c .tape2 = b .third (omega arith) ∙ sym (v .bare .third (omega arith)) in
       record {
-        now = entry-≡ d c (act c a) (w .keeps) (r0 ∙ sym (w .blank)) (ap readT r1) (ap readT r2) ∙ v .now;
+        now = entry-≡ d c (act c a) (w .same-state) (r0 ∙ sym (w .blank)) (ap readT r1) (ap readT r2) ∙ v .now;
         walk = record {
           single = o;
-          keeps = refl;
+          same-state = refl;
           moves = w .moves;
           sideways = w .sideways;
           blank = r0;

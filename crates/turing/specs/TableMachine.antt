@@ -137,7 +137,7 @@ Beyond N h z = ⊥
 -- "the entry keeps the state and t = 1, the cell read is blank, the move is L or R and every cell strictly beyond the head that way is blank"
 pub record Walks (tapes : ℕ) (c : Config) (a : Action) (d : Dir) : Type 0 where
   pub single : tapes ≡ 1
-  pub keeps : a .next .0 ≡ c .state
+  pub same-state : a .next .0 ≡ c .state
   pub moves : a .dir0 ≡ d
   pub sideways : Sideways d
   pub blank : readT (c .tape0) ≡ zero
