@@ -2,16 +2,14 @@
 -- Every fact about positions is then a fact about naturals: `diff` and its kin turn an equation or a move into one, `same` turns one back. Assumes nothing.
 use mathlib.Core.Path.{_≡_, refl, sym, ap, subst}
 use mathlib.Core.Bool.{Bool, true, false}
-use Prim.Native.Nat.{ℕ, zero, suc, _+_, _-_, _≤_, _<_, min, max}
+use Prim.Native.Nat.{ℕ, zero, suc, _+_, _-_, _≤_, _<_}
 use native.Mathlib.Omega.{arith}
-use native.Mathlib.Decide.{decLt}
-use borrow.Author.Tests.{leb-true, leb-false, ltb-true, ltb-false, le-leb, lt-leb, lt-ltb, eqb-true, eqb-false, eq-eqb, ne-eqb, le-ltb}
+use borrow.Author.Tests.{leb-true, leb-false, ltb-true, ltb-false, le-leb, lt-ltb, eqb-true, eq-eqb}
 use lib.Dec.{T, ltb}
-use lib.IntN.{ℤ, pos, negsuc, sucℤ, predℤ, subℕ, pos-ne-negsuc}
+use lib.IntN.{ℤ, pos, negsuc, sucℤ, predℤ, subℕ}
 use lib.Signed.{ltZ, leZ, _≤ℤ_, _<ℤ_, leZ-yes, ltZ-yes}
-use Rattle.laws.specs.Choice.{pick}
-use Rattle.laws.specs.Position.{eqZ, minℤ, maxℤ, _⊖_, up, dn}
-use Rattle.laws.specs.Tests.{clash, by-test, pick-cases}
+use Rattle.laws.specs.Position.{eqZ, _⊖_, up, dn}
+use Rattle.laws.specs.Tests.{clash, by-test}
 
 -- ---- an equation of positions is an equation of naturals, and back
 

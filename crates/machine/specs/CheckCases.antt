@@ -1,9 +1,8 @@
 -- The table check and the lookup, one fact for each way through the code. Assumes nothing.
 use mathlib.Core.Path.{_≡_, refl, sym, ap, _∙_}
 use mathlib.Core.Bool.{Bool, true, false}
-use mathlib.Core.Option.{Option, none, some}
 use mathlib.Core.List.{List}
-use Prim.Native.Nat.{ℕ, zero, suc, _+_, _*_, _/_, _%_, _-_, _^_, _≤_, _<_}
+use Prim.Native.Nat.{ℕ, _+_, _*_, _/_, _%_, _-_, _^_, _≤_, _<_}
 use native.Mathlib.Nat.{mul-le-mul, pow-suc, pow-zero, one-mul}
 use native.Mathlib.Omega.{arith}
 use borrow.Author.Tests.{lt-ltb, le-ltb, eq-eqb, ne-eqb}
@@ -26,7 +25,7 @@ use Rattle.machine.specs.declared.Checked.the-variants.{Accepted, Refuse
 use Rattle.machine.specs.declared.Looked.{Looked}
 use Rattle.machine.specs.declared.Looked.the-variants as Look
 use Rattle.machine.specs.Layout.{strideOf, entryNumber, byteAt, dirOf, actionAt, entryAt}
-use Rattle.machine.specs.Check.{zeroAt, definedOk, entryOk, entryAnswer, entriesCheck, sizeCheck, tableCheck, lookedOn, lookupOf}
+use Rattle.machine.specs.Check.{zeroAt, definedOk, entryOk, entryAnswer, entriesCheck, sizeCheck, tableCheck, lookupOf}
 
 -- ---- sizes: nothing wraps
 

@@ -1,18 +1,18 @@
 -- What an accepted check says of the machine's numbers and of the table. Assumes nothing.
-use mathlib.Core.Path.{_≡_, refl, sym, ap, _∙_}
+use mathlib.Core.Path.{_≡_, refl, sym, _∙_}
 use mathlib.Core.Bool.{Bool, true, false, not}
 use mathlib.Core.List.{List}
-use Prim.Native.Nat.{ℕ, _+_, _*_, _^_, _≤_, _<_}
+use Prim.Native.Nat.{ℕ, _*_, _≤_, _<_}
 use native.Mathlib.Omega.{arith}
 use borrow.Author.Tests.{leb-true, ltb-true, eqb-true, not-false}
 use lib.ListN.{length}
-use Rattle.laws.specs.Choice.{pick, both}
+use Rattle.laws.specs.Choice.{pick}
 use Rattle.laws.specs.Tests.{both-split}
 use Rattle.outcome.specs.declared.Refusal.{Refusal}
 use Rattle.machine.specs.declared.Machine.{Machine}
 use Rattle.machine.specs.declared.Checked.{Checked}
-use Rattle.machine.specs.declared.Checked.the-variants.{Accepted, Refused}
-use Rattle.machine.specs.Layout.{strideOf, entryCount}
+use Rattle.machine.specs.declared.Checked.the-variants.{Accepted}
+use Rattle.machine.specs.Layout.{entryCount}
 use Rattle.machine.specs.Check.{within, demand, entriesCheck, sizeCheck, tableCheck}
 
 pub demand-says : (b : Bool) (why : Refusal) (rest : Checked) → demand b why rest ≡ Accepted → (b ≡ true) × (rest ≡ Accepted)

@@ -5,9 +5,8 @@ use lib.Dec.{eqb, ltb, leb}
 use lib.ListN.{length}
 use Rattle.laws.specs.Choice.{pick}
 use Rattle.laws.specs.Fill.{fillFrom}
-use Rattle.symbol.specs.Kinds.{symbolOf, stateOf}
+use Rattle.symbol.specs.Kinds.{symbolOf, stateOf, dirNumber}
 use Rattle.symbol.specs.declared.Dir.{Dir}
-use Rattle.symbol.specs.declared.Dir.the-variants.{L, R, N}
 use Rattle.outcome.specs.declared.Refusal.the-variants as Why
 use Rattle.machine.specs.declared.Machine.{Machine}
 use Rattle.machine.specs.declared.Action.{Action}
@@ -17,11 +16,6 @@ use Rattle.machine.specs.declared.Checked.{Checked}
 use Rattle.machine.specs.declared.Checked.the-variants.{Accepted, Refused}
 use Rattle.machine.specs.Layout.{entryCount, dirOf, entryAt, singleOf}
 use Rattle.machine.specs.Check.{demand, checkedOn, tableCheck}
-
-abbrev pub dirNumber : Dir → ℕ
-dirNumber L = 0
-dirNumber R = 1
-dirNumber N = 2
 
 -- "d0 + 256 × write + 65,536 × next + 2^32 × next × stride"
 abbrev pub wordOf : (d0 write next stride : ℕ) → ℕ

@@ -1,9 +1,9 @@
 -- Packed words and the packing of a table, one fact for each way through the code. Assumes nothing.
-use mathlib.Core.Path.{_≡_, refl, sym, ap, _∙_}
+use mathlib.Core.Path.{_≡_, sym, ap, _∙_}
 use mathlib.Core.Bool.{Bool, true, false, not}
 use mathlib.Core.List.{List}
 use Prim.Native.Nat.{ℕ, _+_, _*_, _-_, _^_, _≤_, _<_}
-use native.Mathlib.Nat.{mul-le-mul, one-mul, zero-mul, mul-zero}
+use native.Mathlib.Nat.{mul-le-mul, one-mul, zero-mul}
 use native.Mathlib.Omega.{arith}
 use borrow.Author.Tests.{lt-ltb, le-ltb, le-leb, lt-leb, eq-eqb, ne-eqb, not-true, not-false}
 use lib.Dec.{eqb}
@@ -14,7 +14,7 @@ use Rattle.laws.specs.FillFacts.{fill-next}
 use Rattle.symbol.specs.declared.Symbol.{Symbol}
 use Rattle.symbol.specs.declared.State.{State}
 use Rattle.symbol.specs.declared.Dir.{Dir}
-use Rattle.symbol.specs.Kinds.{symbolOf, stateOf}
+use Rattle.symbol.specs.Kinds.{symbolOf, stateOf, dirNumber}
 use Rattle.outcome.specs.declared.Refusal.{Refusal}
 use Rattle.outcome.specs.declared.Refusal.the-variants as Why
 use Rattle.machine.specs.declared.Machine.{Machine}
@@ -25,7 +25,7 @@ use Rattle.machine.specs.declared.Checked.{Checked}
 use Rattle.machine.specs.declared.Checked.the-variants.{Accepted, Refused}
 use Rattle.machine.specs.Layout.{entryCount, entryAt, singleOf}
 use Rattle.machine.specs.Check.{tableCheck}
-use Rattle.machine.specs.Packing.{dirNumber, wordOf, undefinedWord, actionWord, packWord, wordAt, wordDir, wordWrite, wordNext, wordAction, wordEntry, packCheck, packInto}
+use Rattle.machine.specs.Packing.{undefinedWord, actionWord, packWord, wordAt, wordDir, wordWrite, wordNext, wordAction, wordEntry, packCheck, packInto}
 use Rattle.machine.specs.CheckCases.{stride-one}
 
 -- ---- one action

@@ -11,7 +11,7 @@ ghost use Prim.Native.Nat.{_+_, _*_, _-_, _≤_};
 ghost use lib.Dec.{eqb};
 ghost use lib.ListN.{length};
 ghost use Rattle.laws.specs.Fill.{fillFrom};
-ghost use Rattle.machine.specs.Packing.{undefinedWord, packWord, wordAt, actionWord, dirNumber, wordDir, wordWrite, wordNext, wordRow, wordAction, wordEntry};
+ghost use Rattle.machine.specs.Packing.{undefinedWord, packWord, wordAt, actionWord, wordDir, wordWrite, wordNext, wordRow, wordAction, wordEntry};
 
 // Byte 0 is the move, byte 1 the symbol written, bytes 2 and 3 the next state and bytes 4 to 7 the number
 // of that state's first entry, its row.
@@ -92,7 +92,7 @@ fn pack_action(action: Action, stride: u64) -> Packed
 {
     let next = action.next.0 as u64;
     let dir = action.dir0;
-    let low = dir_number(dir) + 256 * (action.write0.0 as u64) + 65536 * next;
+    let low = (dir.number() as u64) + 256 * (action.write0.0 as u64) + 65536 * next;
     if next == 0 {
         return Packed(low);
     }
@@ -104,16 +104,6 @@ fn pack_action(action: Action, stride: u64) -> Packed
         return Packed::UNDEFINED;
     }
     Packed(low + 4294967296 * row)
-}
-
-fn dir_number(dir: Dir) -> u64
-    ensures { λ r. ⌜ (r ≡ dirNumber dir) × (r ≤ 2) ⌝ }
-{
-    match dir {
-        Dir::L => 0,
-        Dir::R => 1,
-        Dir::N => 2,
-    }
 }
 
 // The words of the table's first `count` entries, into the first places of `out`.

@@ -1,13 +1,13 @@
 -- For each answer enum, document 01's number and values of each of its cases. Definitions only.
 use Prim.Native.Nat.{ℕ}
 use mathlib.Core.Bool.{Bool, true, false}
+use Rattle.symbol.specs.Kinds.{dirNumber}
 use Rattle.symbol.specs.declared.State.{State}
 use Rattle.outcome.specs.declared.Status.{Status}
 use Rattle.outcome.specs.declared.Status.the-variants as S
 use Rattle.outcome.specs.declared.NonHaltProof.{NonHaltProof}
 use Rattle.outcome.specs.declared.NonHaltProof.the-variants.{StayLoop, ChainToInfinity}
-use Rattle.outcome.specs.declared.Toward.{Toward}
-use Rattle.outcome.specs.declared.Toward.the-variants.{Side, Nowhere}
+use Rattle.outcome.specs.declared.Values.{Values}
 use Rattle.outcome.specs.declared.Outcome.{Outcome}
 use Rattle.outcome.specs.declared.Outcome.the-variants.{Halted, OutOfFuel, NeverHalts, Stopped, Full}
 use Rattle.outcome.specs.declared.Refusal.{Refusal}
@@ -30,10 +30,6 @@ abbrev pub proofState : NonHaltProof → State
 proofState (StayLoop q) = q
 proofState (ChainToInfinity q d) = q
 
-abbrev pub proofMove : NonHaltProof → Toward
-proofMove (StayLoop q) = Nowhere
-proofMove (ChainToInfinity q d) = Side d
-
 -- "Halted (steps, state), OutOfFuel (steps), NeverHalts (steps, proof), Stopped (steps). The port adds Full (steps)."
 abbrev pub outcomeNumber : Outcome → ℕ
 outcomeNumber (Halted s q) = 0
@@ -55,6 +51,28 @@ isHalted (OutOfFuel s) = false
 isHalted (NeverHalts s p) = false
 isHalted (Stopped s) = false
 isHalted (Full s) = false
+
+-- the number and all values: steps, state, which pattern, its move
+abbrev pub values : (number steps state pattern dir : ℕ) → Values
+values number steps state pattern dir =
+    record {
+      number = number;
+      steps = steps;
+      state = state;
+      pattern = pattern;
+      dir = dir;
+    }
+
+abbrev pub neverValues : ℕ → NonHaltProof → Values
+neverValues s (StayLoop q) = values 2 s (q .0) 0 0
+neverValues s (ChainToInfinity q d) = values 2 s (q .0) 1 (dirNumber d)
+
+abbrev pub valuesOf : Outcome → Values
+valuesOf (Halted s q) = values 0 s (q .0) 0 0
+valuesOf (OutOfFuel s) = values 1 s 0 0 0
+valuesOf (NeverHalts s p) = neverValues s p
+valuesOf (Stopped s) = values 3 s 0 0 0
+valuesOf (Full s) = values 4 s 0 0 0
 
 -- "What each operation turns away", 1 to 18
 abbrev pub refusalNumber : Refusal → ℕ

@@ -2,7 +2,7 @@
 use symbol::Dir;
 use symbol::State;
 ghost use mathlib.Core.Path.{_≡_};
-ghost use Rattle.outcome.specs.Numbers.{statusNumber, proofNumber, proofState, proofMove, outcomeNumber, stepsOf, isHalted, refusalNumber, placeOf};
+ghost use Rattle.outcome.specs.Numbers.{statusNumber, proofNumber, proofState, outcomeNumber, stepsOf, isHalted, values, valuesOf, refusalNumber, placeOf};
 
 // What one step found.
 pub enum Status {
@@ -34,12 +34,6 @@ pub enum NonHaltProof {
     ChainToInfinity { state: State, dir: Dir },
 }
 
-// The move of a pattern, where it has one.
-pub enum Toward {
-    Side(Dir),
-    Nowhere,
-}
-
 impl NonHaltProof {
     pub fn number(self) -> u8
         ensures { λ r. ⌜ r ≡ proofNumber self ⌝ }
@@ -59,15 +53,6 @@ impl NonHaltProof {
             NonHaltProof::ChainToInfinity { state, dir: _ } => state,
         }
     }
-
-    pub fn toward(self) -> Toward
-        ensures { λ r. ⌜ r ≡ proofMove self ⌝ }
-    {
-        match self {
-            NonHaltProof::StayLoop { state: _ } => Toward::Nowhere,
-            NonHaltProof::ChainToInfinity { state: _, dir } => Toward::Side(dir),
-        }
-    }
 }
 
 // How a run ended. `steps` is the whole step count since the start.
@@ -82,6 +67,15 @@ pub enum Outcome {
     Stopped { steps: u64 },
     // The next step lacks space.
     Full { steps: u64 },
+}
+
+// The number of an outcome and its values as numbers; a value that the outcome lacks is 0.
+pub struct Values {
+    pub number: u8,
+    pub steps: u64,
+    pub state: u16,
+    pub pattern: u8,
+    pub dir: u8,
 }
 
 impl Outcome {
@@ -119,6 +113,35 @@ impl Outcome {
             Outcome::Stopped { steps: _ } => false,
             Outcome::Full { steps: _ } => false,
         }
+    }
+
+    pub fn as_values(self) -> Values
+        ensures { λ r. ⌜ r ≡ valuesOf self ⌝ }
+    {
+        match self {
+            Outcome::Halted { steps, state } => made(0, steps, state.0, 0, 0),
+            Outcome::OutOfFuel { steps } => made(1, steps, 0, 0, 0),
+            Outcome::NeverHalts { steps, proof } => match proof {
+                NonHaltProof::StayLoop { state } => made(2, steps, state.0, 0, 0),
+                NonHaltProof::ChainToInfinity { state, dir } => {
+                    made(2, steps, state.0, 1, dir.number())
+                }
+            },
+            Outcome::Stopped { steps } => made(3, steps, 0, 0, 0),
+            Outcome::Full { steps } => made(4, steps, 0, 0, 0),
+        }
+    }
+}
+
+fn made(number: u8, steps: u64, state: u16, pattern: u8, dir: u8) -> Values
+    ensures { λ r. ⌜ r ≡ values number steps state pattern dir ⌝ }
+{
+    Values {
+        number,
+        steps,
+        state,
+        pattern,
+        dir,
     }
 }
 

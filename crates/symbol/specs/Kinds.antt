@@ -12,6 +12,12 @@ symbolOf n = record { 0 = n }
 abbrev pub stateOf : ℕ → State
 stateOf n = record { 0 = n }
 
+-- "L 0, R 1, N 2"
+abbrev pub dirNumber : Dir → ℕ
+dirNumber L = 0
+dirNumber R = 1
+dirNumber N = 2
+
 -- "move L, R or N (-1, 1, 0)"
 abbrev pub deltaOf : Dir → ℤ
 deltaOf L = negsuc 0

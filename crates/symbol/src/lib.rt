@@ -1,8 +1,9 @@
 // Tape symbols, states and head moves.
 ghost use mathlib.Core.Path.{_≡_};
+ghost use Prim.Native.Nat.{_≤_};
 ghost use mathlib.Core.Bool.{Bool};
 ghost use lib.Dec.{eqb};
-ghost use Rattle.symbol.specs.Kinds.{symbolOf, stateOf, deltaOf, reversedOf};
+ghost use Rattle.symbol.specs.Kinds.{symbolOf, stateOf, dirNumber, deltaOf, reversedOf};
 
 pub mod position;
 
@@ -57,6 +58,17 @@ pub enum Dir {
 }
 
 impl Dir {
+    // The move's number in a table's entry and in a packed word.
+    pub fn number(self) -> u8
+        ensures { λ r. ⌜ (r ≡ dirNumber self) × (r ≤ 2) ⌝ }
+    {
+        match self {
+            Dir::L => 0,
+            Dir::R => 1,
+            Dir::N => 2,
+        }
+    }
+
     // The change of the head's position.
     pub fn delta(self) -> i64
         ensures { λ r. ⌜ r ≡ deltaOf self ⌝ }

@@ -1,21 +1,18 @@
 -- THE TABLE CHECK: it accepts exactly the well-formed tables, and a refusal is the first that applies, of 6 with the lowest entry. Assumes nothing.
-use mathlib.Core.Path.{_≡_, refl, sym, ap, _∙_, subst}
+use mathlib.Core.Path.{_≡_, sym, ap, _∙_, subst}
 use mathlib.Core.Bool.{Bool, true, false}
-use mathlib.Core.Option.{Option, none, some}
+use mathlib.Core.Option.{Option, some}
 use mathlib.Core.List.{List}
-use Prim.Native.Nat.{ℕ, zero, suc, _+_, _*_, _≤_, _<_}
+use Prim.Native.Nat.{ℕ, zero, suc, _*_, _≤_, _<_}
 use native.Mathlib.Decide.{ℕ-discrete}
 use native.Mathlib.Omega.{arith}
-use borrow.Author.Tests.{ltb-true, ltb-false, eqb-true, eqb-false, le-leb, lt-ltb, eq-eqb}
+use borrow.Author.Tests.{ltb-true, eqb-true, eqb-false, le-leb, lt-ltb, eq-eqb}
 use lib.Dec.{eqb, ltb}
 use lib.ListN.{length}
-use Rattle.laws.specs.Choice.{pick}
-use Rattle.laws.specs.Scan.{firstFail}
 use Rattle.laws.specs.Tests.{both-true, by-test, clash, pick-true, pick-false}
 use Rattle.laws.specs.ScanFacts.{Scanned, clean, failed, scanned, clean-none}
 use Rattle.outcome.specs.declared.Refusal.{Refusal}
 use Rattle.outcome.specs.declared.Refusal.the-variants as Why
-use Rattle.outcome.specs.declared.Place.the-variants.{At, Unsaid}
 use Rattle.outcome.specs.Numbers.{refusalNumber, placeOf}
 use Rattle.machine.specs.declared.Machine.{Machine}
 use Rattle.machine.specs.declared.Checked.{Checked}

@@ -1,16 +1,16 @@
 -- The check of one entry passes exactly the entries that are laid out as document 01 says. Assumes nothing.
-use mathlib.Core.Path.{_≡_, refl, sym, ap, _∙_, subst}
+use mathlib.Core.Path.{_≡_, refl, sym, ap, _∙_}
 use mathlib.Core.Bool.{Bool, true, false}
-use mathlib.Core.List.{List, [], _∷_}
+use mathlib.Core.List.{List}
 use Prim.Native.Nat.{ℕ, zero, suc, _+_, _*_, _/_, _%_, _≤_, _<_}
 use native.Mathlib.Nat.{add-zero, add-mul-mod-self-left, mod-eq-of-lt}
 use native.Mathlib.Omega.{arith}
-use borrow.Author.Tests.{ltb-true, ltb-false, leb-true, eqb-true, lt-ltb, le-ltb, eq-eqb, ne-eqb}
+use borrow.Author.Tests.{ltb-true, ltb-false, eqb-true, lt-ltb, le-ltb, eq-eqb, ne-eqb}
 use lib.Dec.{eqb, ltb}
-use lib.ListN.{length, getD}
+use lib.ListN.{getD}
 use Rattle.laws.specs.Choice.{pick, both}
 use Rattle.laws.specs.Scan.{allIn}
-use Rattle.laws.specs.Tests.{both-split, both-true, by-test, clash, pick-true, pick-false}
+use Rattle.laws.specs.Tests.{both-split, both-true, by-test, pick-true, pick-false}
 use Rattle.laws.specs.ScanFacts.{all-says, all-holds}
 use Rattle.symbol.specs.declared.Dir.{Dir}
 use Rattle.symbol.specs.declared.Dir.the-variants.{L, R, N}
@@ -18,9 +18,9 @@ use Rattle.machine.specs.declared.Machine.{Machine}
 use Rattle.machine.specs.declared.Action.{Action}
 use Rattle.machine.specs.declared.Entry.{Entry}
 use Rattle.machine.specs.declared.Entry.the-variants.{Undefined, Defined}
-use Rattle.machine.specs.Layout.{flagAt, byteAt, dirOf, actionAt, entryAt}
+use Rattle.machine.specs.Layout.{flagAt, byteAt, dirOf, actionAt}
 use Rattle.machine.specs.Check.{zeroAt, tapeOk, definedOk, entryOk}
-use Rattle.machine.specs.Packing.{dirNumber}
+use Rattle.symbol.specs.Kinds.{dirNumber}
 use Rattle.tables.specs.WellFormed.{Bytes, entryBytes, ActionOf, EntryOf, LaidOut}
 
 -- ---- moves and their numbers

@@ -1,23 +1,20 @@
 -- THE LOOKUP: what is read at a place of a well-formed table is the entry whose bytes stand there. Assumes nothing.
 use mathlib.Core.Path.{_≡_, refl, sym, ap, _∙_}
-use mathlib.Core.Bool.{Bool, true, false}
 use mathlib.Core.List.{List}
-use Prim.Native.Nat.{ℕ, zero, suc, _+_, _*_, _/_, _%_, _≤_, _<_}
+use Prim.Native.Nat.{ℕ, _+_, _*_, _/_, _%_, _<_}
 use native.Mathlib.Nat.{div-add-mod}
 use native.Mathlib.Omega.{arith}
-use borrow.Author.Tests.{lt-ltb, le-ltb, ltb-true, ltb-false, eq-eqb, ne-eqb}
+use borrow.Author.Tests.{lt-ltb, ltb-true, ltb-false, eq-eqb}
 use lib.Dec.{ltb}
 use lib.ListN.{length, getD}
-use Rattle.laws.specs.Choice.{pick, both}
+use Rattle.laws.specs.Choice.{both}
 use Rattle.laws.specs.Tests.{both-true, by-test, pick-true, pick-false}
-use Rattle.symbol.specs.Kinds.{symbolOf, stateOf}
-use Rattle.symbol.specs.declared.Dir.{Dir}
 use Rattle.machine.specs.declared.Machine.{Machine}
 use Rattle.machine.specs.declared.Action.{Action}
 use Rattle.machine.specs.declared.Entry.{Entry}
 use Rattle.machine.specs.declared.Entry.the-variants.{Undefined, Defined}
 use Rattle.machine.specs.Layout.{entryCount, flagAt, byteAt, dirOf, actionAt, entryAt}
-use Rattle.machine.specs.Packing.{dirNumber}
+use Rattle.symbol.specs.Kinds.{symbolOf, stateOf, dirNumber}
 use Rattle.machine.specs.CheckCases.{entry-past}
 use Rattle.tables.specs.WellFormed.{entryBytes, EntryOf, LaidOut, WellFormed}
 use Rattle.tables.specs.EntryFacts.{flag-is, number-move, moves-apart}

@@ -13,7 +13,7 @@ use Rattle.machine.specs.declared.Action.{Action}
 use Rattle.machine.specs.declared.Entry.{Entry}
 use Rattle.machine.specs.declared.Entry.the-variants.{Undefined, Defined}
 use Rattle.machine.specs.Layout.{entryCount, byteAt}
-use Rattle.machine.specs.Packing.{dirNumber}
+use Rattle.symbol.specs.Kinds.{dirNumber}
 
 -- a list of bytes
 abbrev pub Bytes : List ℕ → Type 0

@@ -1,12 +1,11 @@
 -- A configuration has one verdict. Assumes nothing.
 use mathlib.Core.Path.{_≡_, refl, sym, ap, _∙_, subst}
 use Prim.Native.Nat.{ℕ}
-use native.Mathlib.Omega.{arith}
 use Rattle.symbol.specs.declared.Dir.{Dir}
 use Rattle.outcome.specs.declared.Outcome.{Outcome}
 use Rattle.machine.specs.declared.Action.{Action}
 use Rattle.machine.specs.declared.Entry.{Entry}
-use Rattle.machine.specs.declared.Entry.the-variants.{Undefined, Defined}
+use Rattle.machine.specs.declared.Entry.the-variants.{Defined}
 use Rattle.turing.specs.TableMachine.{Table, Config, entry, Stays, Sideways, Walks, chainAt, Verdict, halts, stays, walks, goes}
 use Rattle.turing.specs.RunFacts.{not-defined}
 

@@ -5,64 +5,48 @@ use Rattle.laws.specs.Tests.{tests, via}
 use borrow.Author.Needs.{needs}
 use Rattle.machine.proofs.Machine.check.Statement.{statement}
 use Rattle.machine.proofs.Machine.check.Tie as tie
-use Rattle.machine.proofs.Machine.check.Reads as reads
-use Rattle.machine.proofs.Machine.check.Lts as lts
-use Rattle.machine.proofs.entries.check_size.Reads as check-size-reads
-use Rattle.machine.proofs.entries.within.Reads as within-reads
-use Rattle.machine.proofs.inner.stride.Reads as stride-reads
 
--- src/lib.rt:78:13
 within-requires : tie.Need-within-requires
 within-requires c κs = search needs
 
--- src/lib.rt:79:13
 returns : tie.Need-returns
 unfolding tableCheck
 returns c = search (tests, via) depth 9
 
--- src/lib.rt:81:13
 within-requires-2 : tie.Need-within-requires-2
 within-requires-2 c κs = search needs
 
--- src/lib.rt:82:13
 returns-2 : tie.Need-returns-2
 unfolding tableCheck
 returns-2 c = search (tests, via) depth 9
 
--- src/lib.rt:84:13
 within-requires-3 : tie.Need-within-requires-3
 within-requires-3 c κs = search needs
 
--- src/lib.rt:85:13
 returns-3 : tie.Need-returns-3
 unfolding tableCheck
 returns-3 c = search (tests, via) depth 9
 
--- src/lib.rt:88:13
 returns-4 : tie.Need-returns-4
 unfolding tableCheck
 returns-4 c = search (tests, via) depth 9
 
--- src/lib.rt:90:13
 stride-requires : tie.Need-stride-requires
 stride-requires c κs =
     let t = within-passed _ _ _ _ (c .before .before .before .before .before .before .before .within .ensures) (c .before .before .before .before .before .before .if1 .left) in
     let k = within-passed _ _ _ _ (c .before .before .before .before .before .within2 .ensures) (c .before .before .before .before .if2 .left) in
     (t .0, t .1, k .1)
 
--- src/lib.rt:91:42
 mul-check-size : tie.Need-mul-check-size
 mul-check-size c =
     let n = within-passed _ _ _ _ (c .before .before .before .before .before .within3 .ensures) (c .before .before .before .before .if3 .left) in
     record { fits = count-small _ _ (n .1) (c .before .stride .ensures .1) }
 
--- src/lib.rt:91:9
 check-size-requires : tie.Need-check-size-requires
 check-size-requires c κs =
     let n = within-passed _ _ _ _ (c .before .before .before .before .before .within3 .ensures) (c .before .before .before .before .if3 .left) in
     count-fits _ _ (n .1) (c .before .stride .ensures .1)
 
--- src/lib.rt:75:5
 returns-5 : tie.Need-returns-5
 unfolding tableCheck
 returns-5 c = search (tests, via, size-via) depth 9

@@ -4,46 +4,32 @@ use Rattle.machine.specs.CheckCases.{looked-refused, looked-found}
 use borrow.Author.Needs.{needs}
 use Rattle.machine.proofs.Machine.lookup.Statement.{statement}
 use Rattle.machine.proofs.Machine.lookup.Tie as tie
-use Rattle.machine.proofs.Machine.lookup.Reads as reads
-use Rattle.machine.proofs.Machine.lookup.Lts as lts
-use Rattle.machine.proofs.Machine.check.Reads as check-reads
-use Rattle.machine.proofs.inner.entry_at.Reads as entry-at-reads
-use Rattle.machine.proofs.inner.entry_number.Reads as entry-number-reads
-use Rattle.machine.proofs.inner.stride.Reads as stride-reads
 
--- src/lib.rt:98:13
 check-requires : tie.Need-check-requires
 check-requires c κs = search needs
 
--- src/lib.rt:100:30
 enum-known-checked : tie.Need-enum-known-checked
 enum-known-checked c = search needs
 
--- src/lib.rt:101:17
 returns : tie.Need-returns
 returns c = looked-refused _ _ _ _ _ _ _ (c .before .before .before .check .ensures) _ (c .before .checked .given .1)
 
--- src/lib.rt:104:21
 enum-told : tie.Need-enum-told
 enum-told c = search needs
 
--- src/lib.rt:104:21
 stride-requires : tie.Need-stride-requires
 stride-requires c κs =
     let g = ranges _ _ (sym (c .before .before .check .ensures) ∙ c .enum-told .given .1) in
     (g .tapes-low, g .tapes-high, g .symbols-high)
 
--- src/lib.rt:105:21
 entry-number-requires : tie.Need-entry-number-requires
 entry-number-requires c κs =
     let g = ranges _ _ (sym (c .before .before .before .check .ensures) ∙ c .before .enum-told .given .1) in
     (g .symbols-high, c .stride .ensures .1)
 
--- src/lib.rt:106:38
 entry-at-requires : tie.Need-entry-at-requires
 entry-at-requires c κs = search needs
 
--- src/lib.rt:106:17
 returns-2 : tie.Need-returns-2
 returns-2 c = looked-found _ _ _ _ _ _ _ (c .before .before .before .before .before .check .ensures) _ _ _ (c .before .before .before .enum-told .given .1) (c .entry-at .ensures) (c .before .entry-number .ensures .0) (c .before .before .stride .ensures .0)
 

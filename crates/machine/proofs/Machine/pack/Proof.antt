@@ -6,56 +6,42 @@ use Rattle.machine.specs.CheckFacts.{ranges}
 use Rattle.machine.specs.PackingCases.{packs-refused, packs-several, packs-short, packs-whole}
 use Rattle.machine.proofs.Machine.pack.Statement.{statement}
 use Rattle.machine.proofs.Machine.pack.Tie as tie
-use Rattle.machine.proofs.Machine.pack.Reads as reads
-use Rattle.machine.proofs.Machine.pack.Lts as lts
-use Rattle.machine.proofs.Machine.check.Reads as check-reads
-use Rattle.machine.proofs.packed.pack_entries.Reads as pack-entries-reads
 
--- src/lib.rt:116:13
 check-requires : tie.Need-check-requires
 check-requires c κs = search needs
 
--- src/lib.rt:118:30
 enum-known-checked : tie.Need-enum-known-checked
 enum-known-checked c = search needs
 
--- src/lib.rt:119:17
 returns : tie.Need-returns
 returns c =
     let p = packs-refused _ _ _ _ (c .before .before .before .check .ensures) _ (c .before .checked .given .1) in
     (p .answer, p .holds)
 
--- src/lib.rt:122:20
 enum-told : tie.Need-enum-told
 enum-told c = search needs
 
--- src/lib.rt:123:21
 returns-2 : tie.Need-returns-2
 returns-2 c =
     let p = packs-several _ _ _ _ (c .before .before .before .before .check .ensures) (c .before .before .enum-told .given .1) (c .if1 .taken) in
     (p .answer, p .holds)
 
--- src/lib.rt:125:29
 mul-count : tie.Need-mul-count
 mul-count c =
     let g = ranges _ _ (sym (c .before .before .before .before .before .check .ensures) ∙ c .before .before .before .enum-told .given .1) in
     record { fits = count-small _ _ (g .states-high) (omega arith) }
 
--- src/lib.rt:127:21
 returns-3 : tie.Need-returns-3
 returns-3 c =
     let p = packs-short _ _ _ _ (c .before .before .before .before .before .before .check .ensures) (c .before .before .before .before .enum-told .given .1) (c .before .before .if1 .left) (c .if2 .taken) in
     (p .answer, p .holds)
 
--- src/lib.rt:129:17
 pack-entries-requires : tie.Need-pack-entries-requires
 pack-entries-requires c κs = search needs
 
--- src/lib.rt:130:17
 same-length : tie.Need-same-length
 same-length c = search needs
 
--- src/lib.rt:130:17
 returns-4 : tie.Need-returns-4
 returns-4 c =
     let p = packs-whole _ _ _ _ (c .before .before .before .before .before .before .before .before .before .before .check .ensures) (c .before .before .before .before .before .before .before .before .enum-told .given .1) (c .before .before .before .before .before .before .if1 .left) _ (c .before .before .before .before .if2 .left) (c .before .before .pack-entries .ensures) in

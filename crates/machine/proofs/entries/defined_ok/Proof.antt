@@ -3,89 +3,65 @@ use Rattle.laws.specs.Tests.{tests, via}
 use borrow.Author.Needs.{needs}
 use Rattle.machine.proofs.entries.defined_ok.Statement.{statement}
 use Rattle.machine.proofs.entries.defined_ok.Tie as tie
-use Rattle.machine.proofs.entries.defined_ok.Reads as reads
-use Rattle.machine.proofs.entries.defined_ok.Lts as lts
-use Rattle.machine.proofs.entries.head_ok.Reads as head-ok-reads
-use Rattle.machine.proofs.entries.writes_ok.Reads as writes-ok-reads
 
--- src/entries.rt:78:14
 mul-at : tie.Need-mul-at
 mul-at c = search needs
 
--- src/entries.rt:79:23
 add-moves : tie.Need-add-moves
 add-moves c = search needs
 
--- src/entries.rt:79:17
 shared-slice-read-moves : tie.Need-shared-slice-read-moves
 shared-slice-read-moves c = search needs
 
--- src/entries.rt:80:27
 shared-slice-read-head-ok : tie.Need-shared-slice-read-head-ok
 shared-slice-read-head-ok c = search needs
 
--- src/entries.rt:80:44
 add-head-ok : tie.Need-add-head-ok
 add-head-ok c = search needs
 
--- src/entries.rt:80:38
 shared-slice-read-head-ok-2 : tie.Need-shared-slice-read-head-ok-2
 shared-slice-read-head-ok-2 c = search needs
 
--- src/entries.rt:80:59
 add-head-ok-2 : tie.Need-add-head-ok-2
 add-head-ok-2 c = search needs
 
--- src/entries.rt:80:53
 shared-slice-read-head-ok-3 : tie.Need-shared-slice-read-head-ok-3
 shared-slice-read-head-ok-3 c = search needs
 
--- src/entries.rt:80:81
 add-head-ok-3 : tie.Need-add-head-ok-3
 add-head-ok-3 c = search needs
 
--- src/entries.rt:80:75
 shared-slice-read-head-ok-4 : tie.Need-shared-slice-read-head-ok-4
 shared-slice-read-head-ok-4 c = search needs
 
--- src/entries.rt:80:9
 head-ok-requires : tie.Need-head-ok-requires
 head-ok-requires c κs = search needs
 
--- src/entries.rt:81:9
 returns : tie.Need-returns
 unfolding definedOk
 returns c = search (tests, via) depth 9
 
--- src/entries.rt:83:41
 add-writes-ok : tie.Need-add-writes-ok
 add-writes-ok c = search needs
 
--- src/entries.rt:83:35
 shared-slice-read-writes-ok : tie.Need-shared-slice-read-writes-ok
 shared-slice-read-writes-ok c = search needs
 
--- src/entries.rt:83:56
 add-writes-ok-2 : tie.Need-add-writes-ok-2
 add-writes-ok-2 c = search needs
 
--- src/entries.rt:83:50
 shared-slice-read-writes-ok-2 : tie.Need-shared-slice-read-writes-ok-2
 shared-slice-read-writes-ok-2 c = search needs
 
--- src/entries.rt:83:71
 add-writes-ok-3 : tie.Need-add-writes-ok-3
 add-writes-ok-3 c = search needs
 
--- src/entries.rt:83:65
 shared-slice-read-writes-ok-3 : tie.Need-shared-slice-read-writes-ok-3
 shared-slice-read-writes-ok-3 c = search needs
 
--- src/entries.rt:83:5
 writes-ok-requires : tie.Need-writes-ok-requires
 writes-ok-requires c κs = search needs
 
--- src/entries.rt:74:1
 returns-2 : tie.Need-returns-2
 unfolding definedOk
 returns-2 c = search (tests, via) depth 9

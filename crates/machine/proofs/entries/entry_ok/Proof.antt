@@ -2,32 +2,22 @@ use Rattle.machine.specs.CheckCases.{entry-zeros, entry-defined}
 use borrow.Author.Needs.{needs}
 use Rattle.machine.proofs.entries.entry_ok.Statement.{statement}
 use Rattle.machine.proofs.entries.entry_ok.Tie as tie
-use Rattle.machine.proofs.entries.entry_ok.Reads as reads
-use Rattle.machine.proofs.entries.entry_ok.Lts as lts
-use Rattle.machine.proofs.entries.defined_ok.Reads as defined-ok-reads
-use Rattle.machine.proofs.entries.zeros.Reads as zeros-reads
 
--- src/entries.rt:51:14
 mul-at : tie.Need-mul-at
 mul-at c = search needs
 
--- src/entries.rt:52:8
 shared-slice-read-if1 : tie.Need-shared-slice-read-if1
 shared-slice-read-if1 c = search needs
 
--- src/entries.rt:53:9
 zeros-requires : tie.Need-zeros-requires
 zeros-requires c κs = search needs
 
--- src/entries.rt:53:9
 returns : tie.Need-returns
 returns c = search entry-zeros
 
--- src/entries.rt:55:5
 defined-ok-requires : tie.Need-defined-ok-requires
 defined-ok-requires c κs = search needs
 
--- src/entries.rt:47:1
 returns-2 : tie.Need-returns-2
 returns-2 c = search entry-defined
 

@@ -1,18 +1,13 @@
 use Rattle.laws.specs.Tests.{tests}
 use Rattle.machine.proofs.entries.tape_ok.Statement.{statement}
 use Rattle.machine.proofs.entries.tape_ok.Tie as tie
-use Rattle.machine.proofs.entries.tape_ok.Reads as reads
-use Rattle.machine.proofs.entries.tape_ok.Lts as lts
 
--- src/entries.rt:118:9
 returns : tie.Need-returns
 returns c = search tests depth 9
 
--- src/entries.rt:121:9
 returns-2 : tie.Need-returns-2
 returns-2 c = search tests depth 9
 
--- src/entries.rt:114:1
 returns-3 : tie.Need-returns-3
 returns-3 c = search tests depth 9
 

@@ -4,11 +4,9 @@ use Rattle.laws.specs.Tests.{tests}
 use Rattle.laws.specs.ScanFacts.{all-hit, all-next, all-end}
 use Rattle.laws.specs.Scan.{allIn}
 use mathlib.Core.Path.{_≡_, refl}
-use Prim.Native.Nat.{ℕ, _*_, _-_}
+use Prim.Native.Nat.{_*_, _-_}
 use Rattle.machine.proofs.entries.zeros.Statement.{statement}
 use Rattle.machine.proofs.entries.zeros.Tie as tie
-use Rattle.machine.proofs.entries.zeros.Reads as reads
-use Rattle.machine.proofs.entries.zeros.Lts as lts
 
 abbrev Inv-loop : tie.InvT-loop
 Inv-loop table i at j₀ j =
@@ -17,39 +15,30 @@ Inv-loop table i at j₀ j =
 abbrev μ-loop : tie.MeasureT-loop
 μ-loop table i at j₀ j = 8 - j
 
--- src/entries.rt:63:14
 mul-at : tie.Need-mul-at Inv-loop μ-loop
 mul-at c = search needs
 
--- src/entries.rt:65:5
 loop-holds : tie.Need-loop-holds Inv-loop μ-loop
 loop-holds c = (refl, refl)
 
--- src/entries.rt:66:18
 add-if1 : tie.Need-add-if1 Inv-loop μ-loop
 add-if1 c = search needs
 
--- src/entries.rt:66:12
 shared-slice-read-if1 : tie.Need-shared-slice-read-if1 Inv-loop μ-loop
 shared-slice-read-if1 c = search needs
 
--- src/entries.rt:67:13
 returns : tie.Need-returns Inv-loop μ-loop
 returns c = search (all-hit, tests)
 
--- src/entries.rt:69:9
 add-j : tie.Need-add-j Inv-loop μ-loop
 add-j c = search needs
 
--- src/entries.rt:65:5
 loop-less : tie.Need-loop-less Inv-loop μ-loop
 loop-less c = search needs
 
--- src/entries.rt:65:5
 loop-again : tie.Need-loop-again Inv-loop μ-loop
 loop-again c = search (all-next, tests)
 
--- src/entries.rt:59:1
 returns-2 : tie.Need-returns-2 Inv-loop μ-loop
 returns-2 c = search all-end
 

@@ -2,80 +2,58 @@ use Rattle.machine.specs.CheckCases.{action-made}
 use borrow.Author.Needs.{needs}
 use Rattle.machine.proofs.inner.action_at.Statement.{statement}
 use Rattle.machine.proofs.inner.action_at.Tie as tie
-use Rattle.machine.proofs.inner.action_at.Reads as reads
-use Rattle.machine.proofs.inner.action_at.Lts as lts
-use Rattle.machine.proofs.inner.dir_of.Reads as dir-of-reads
-use Rattle.machine.proofs.inner.state_of.Reads as state-of-reads
 
--- src/inner.rt:53:14
 mul-at : tie.Need-mul-at
 mul-at c = search needs
 
--- src/inner.rt:54:31
 add-state-of : tie.Need-add-state-of
 add-state-of c = search needs
 
--- src/inner.rt:54:25
 shared-slice-read-state-of : tie.Need-shared-slice-read-state-of
 shared-slice-read-state-of c = search needs
 
--- src/inner.rt:54:46
 add-state-of-2 : tie.Need-add-state-of-2
 add-state-of-2 c = search needs
 
--- src/inner.rt:54:40
 shared-slice-read-state-of-2 : tie.Need-shared-slice-read-state-of-2
 shared-slice-read-state-of-2 c = search needs
 
--- src/inner.rt:54:9
 state-of-requires : tie.Need-state-of-requires
 state-of-requires c κs = search needs
 
--- src/inner.rt:55:23
 add-moves : tie.Need-add-moves
 add-moves c = search needs
 
--- src/inner.rt:55:17
 shared-slice-read-moves : tie.Need-shared-slice-read-moves
 shared-slice-read-moves c = search needs
 
--- src/inner.rt:56:9
 dir-of-requires : tie.Need-dir-of-requires
 dir-of-requires c κs = search needs
 
--- src/inner.rt:57:9
 dir-of-requires-2 : tie.Need-dir-of-requires-2
 dir-of-requires-2 c κs = search needs
 
--- src/inner.rt:58:9
 dir-of-requires-3 : tie.Need-dir-of-requires-3
 dir-of-requires-3 c κs = search needs
 
--- src/inner.rt:61:30
 add-t12 : tie.Need-add-t12
 add-t12 c = search needs
 
--- src/inner.rt:61:24
 shared-slice-read-t11 : tie.Need-shared-slice-read-t11
 shared-slice-read-t11 c = search needs
 
--- src/inner.rt:62:30
 add-t9 : tie.Need-add-t9
 add-t9 c = search needs
 
--- src/inner.rt:62:24
 shared-slice-read-t14 : tie.Need-shared-slice-read-t14
 shared-slice-read-t14 c = search needs
 
--- src/inner.rt:63:30
 add-t20 : tie.Need-add-t20
 add-t20 c = search needs
 
--- src/inner.rt:63:24
 shared-slice-read-t22 : tie.Need-shared-slice-read-t22
 shared-slice-read-t22 c = search needs
 
--- src/inner.rt:49:1
 returns : tie.Need-returns
 returns c = search action-made
 

@@ -1,18 +1,13 @@
 use Rattle.laws.specs.Tests.{tests}
 use Rattle.machine.proofs.inner.dir_of.Statement.{statement}
 use Rattle.machine.proofs.inner.dir_of.Tie as tie
-use Rattle.machine.proofs.inner.dir_of.Reads as reads
-use Rattle.machine.proofs.inner.dir_of.Lts as lts
 
--- src/inner.rt:81:9
 returns : tie.Need-returns
 returns c = search tests depth 9
 
--- src/inner.rt:84:9
 returns-2 : tie.Need-returns-2
 returns-2 c = search tests depth 9
 
--- src/inner.rt:77:1
 returns-3 : tie.Need-returns-3
 returns-3 c = search tests depth 9
 

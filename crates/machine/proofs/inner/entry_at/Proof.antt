@@ -2,31 +2,22 @@ use Rattle.machine.specs.CheckCases.{entry-past, entry-none, entry-some}
 use borrow.Author.Needs.{needs}
 use Rattle.machine.proofs.inner.entry_at.Statement.{statement}
 use Rattle.machine.proofs.inner.entry_at.Tie as tie
-use Rattle.machine.proofs.inner.entry_at.Reads as reads
-use Rattle.machine.proofs.inner.entry_at.Lts as lts
-use Rattle.machine.proofs.inner.action_at.Reads as action-at-reads
 
--- src/inner.rt:40:9
 returns : tie.Need-returns
 returns c = search entry-past
 
--- src/inner.rt:42:14
 mul-at : tie.Need-mul-at
 mul-at c = search needs
 
--- src/inner.rt:43:8
 shared-slice-read-if2 : tie.Need-shared-slice-read-if2
 shared-slice-read-if2 c = search needs
 
--- src/inner.rt:44:9
 returns-2 : tie.Need-returns-2
 returns-2 c = search entry-none
 
--- src/inner.rt:46:20
 action-at-requires : tie.Need-action-at-requires
 action-at-requires c κs = search needs
 
--- src/inner.rt:36:1
 returns-3 : tie.Need-returns-3
 returns-3 c = search entry-some
 

@@ -3,52 +3,42 @@ use native.Mathlib.Omega.{arith}
 use Rattle.machine.specs.CheckCases.{parts}
 use Rattle.machine.proofs.inner.entry_number.Statement.{statement}
 use Rattle.machine.proofs.inner.entry_number.Tie as tie
-use Rattle.machine.proofs.inner.entry_number.Reads as reads
-use Rattle.machine.proofs.inner.entry_number.Lts as lts
 
--- src/inner.rt:32:5
 mul-result : tie.Need-mul-result
 mul-result c =
     let p = parts (c .args .k) (c .args .stride) (c .args .q) (c .args .a1) (c .args .a2) (omega arith) (omega arith) (omega arith) (omega arith) (omega arith) in
     omega arith
 
--- src/inner.rt:32:5
 add-result : tie.Need-add-result
 add-result c =
     let p = parts (c .args .k) (c .args .stride) (c .args .q) (c .args .a1) (c .args .a2) (omega arith) (omega arith) (omega arith) (omega arith) (omega arith) in
     omega arith
 
--- src/inner.rt:32:39
 mul-result-2 : tie.Need-mul-result-2
 mul-result-2 c =
     let p = parts (c .args .k) (c .args .stride) (c .args .q) (c .args .a1) (c .args .a2) (omega arith) (omega arith) (omega arith) (omega arith) (omega arith) in
     omega arith
 
--- src/inner.rt:32:5
 add-result-2 : tie.Need-add-result-2
 add-result-2 c =
     let p = parts (c .args .k) (c .args .stride) (c .args .q) (c .args .a1) (c .args .a2) (omega arith) (omega arith) (omega arith) (omega arith) (omega arith) in
     omega arith
 
--- src/inner.rt:32:57
 mul-result-3 : tie.Need-mul-result-3
 mul-result-3 c =
     let p = parts (c .args .k) (c .args .stride) (c .args .q) (c .args .a1) (c .args .a2) (omega arith) (omega arith) (omega arith) (omega arith) (omega arith) in
     omega arith
 
--- src/inner.rt:32:57
 mul-result-4 : tie.Need-mul-result-4
 mul-result-4 c =
     let p = parts (c .args .k) (c .args .stride) (c .args .q) (c .args .a1) (c .args .a2) (omega arith) (omega arith) (omega arith) (omega arith) (omega arith) in
     omega arith
 
--- src/inner.rt:32:5
 add-result-3 : tie.Need-add-result-3
 add-result-3 c =
     let p = parts (c .args .k) (c .args .stride) (c .args .q) (c .args .a1) (c .args .a2) (omega arith) (omega arith) (omega arith) (omega arith) (omega arith) in
     omega arith
 
--- src/inner.rt:28:1
 returns : tie.Need-returns
 returns c =
     let p = parts (c .args .k) (c .args .stride) (c .args .q) (c .args .a1) (c .args .a2) (omega arith) (omega arith) (omega arith) (omega arith) (omega arith) in

@@ -2,30 +2,22 @@ use native.Mathlib.Omega.{arith}
 use Rattle.machine.specs.CheckCases.{square-fits, cube-fits, stride-one, stride-two, stride-three}
 use Rattle.machine.proofs.inner.stride.Statement.{statement}
 use Rattle.machine.proofs.inner.stride.Tie as tie
-use Rattle.machine.proofs.inner.stride.Reads as reads
-use Rattle.machine.proofs.inner.stride.Lts as lts
 
--- src/inner.rt:19:9
 returns : tie.Need-returns
 returns c = (search stride-one, omega arith)
 
--- src/inner.rt:22:16
 mul-result : tie.Need-mul-result
 mul-result c = omega (arith, square-fits _ (c .before .before .pre .2))
 
--- src/inner.rt:22:9
 returns-2 : tie.Need-returns-2
 returns-2 c = (search stride-two, omega (arith, square-fits _ (c .before .before .pre .2)))
 
--- src/inner.rt:24:5
 mul-result-2 : tie.Need-mul-result-2
 mul-result-2 c = omega (arith, square-fits _ (c .before .before .pre .2))
 
--- src/inner.rt:24:5
 mul-result-3 : tie.Need-mul-result-3
 mul-result-3 c = omega (arith, cube-fits _ (c .before .before .pre .2))
 
--- src/inner.rt:14:1
 returns-3 : tie.Need-returns-3
 returns-3 c = (search stride-three, cube-fits _ (c .before .before .pre .2))
 

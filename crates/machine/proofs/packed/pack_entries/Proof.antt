@@ -6,14 +6,10 @@ use Rattle.laws.specs.Fill.{fillFrom}
 use lib.ListN.{length, length-set}
 use native.Mathlib.Omega.{arith}
 use native.Mathlib.Nat.{sub-zero}
-use mathlib.Core.Path.{_≡_, refl, sym, ap, _∙_}
-use Prim.Native.Nat.{ℕ, _≤_, _-_}
+use mathlib.Core.Path.{_≡_, refl}
+use Prim.Native.Nat.{_≤_, _-_}
 use Rattle.machine.proofs.packed.pack_entries.Statement.{statement}
 use Rattle.machine.proofs.packed.pack_entries.Tie as tie
-use Rattle.machine.proofs.packed.pack_entries.Reads as reads
-use Rattle.machine.proofs.packed.pack_entries.Lts as lts
-use Rattle.machine.proofs.inner.entry_at.Reads as entry-at-reads
-use Rattle.machine.proofs.packed.Packed.new.Reads as new-reads
 
 abbrev Inv-loop : tie.InvT-loop
 Inv-loop table stride count out₀ i₀ out i =
@@ -22,43 +18,33 @@ Inv-loop table stride count out₀ i₀ out i =
 abbrev μ-loop : tie.MeasureT-loop
 μ-loop table stride count out₀ i₀ out i = count - i
 
--- src/packed.rt:127:5
 loop-holds : tie.Need-loop-holds Inv-loop μ-loop
 loop-holds c = (omega arith, refl, rw sub-zero)
 
--- src/packed.rt:129:32
 entry-at-requires : tie.Need-entry-at-requires Inv-loop μ-loop
 entry-at-requires c κs = search needs
 
--- src/packed.rt:129:13
 new-requires : tie.Need-new-requires Inv-loop μ-loop
 new-requires c κs = search needs
 
--- src/packed.rt:130:9
 mul-out : tie.Need-mul-out Inv-loop μ-loop
 mul-out c = search needs
 
--- src/packed.rt:130:9
 slice-write-out : tie.Need-slice-write-out Inv-loop μ-loop
 slice-write-out c = search needs
 
--- src/packed.rt:131:9
 add-i : tie.Need-add-i Inv-loop μ-loop
 add-i c = search needs
 
--- src/packed.rt:127:5
 loop-less : tie.Need-loop-less Inv-loop μ-loop
 loop-less c = search needs
 
--- src/packed.rt:127:5
 loop-again : tie.Need-loop-again Inv-loop μ-loop
 loop-again c = (omega arith, simp length-set (omega arith), search pack-turn)
 
--- src/packed.rt:122:1
 same-length : tie.Need-same-length Inv-loop μ-loop
 same-length c = search needs
 
--- src/packed.rt:122:1
 returns : tie.Need-returns Inv-loop μ-loop
 returns c = search fill-end
 

@@ -1,30 +1,22 @@
 use borrow.Author.Needs.{needs}
 use Rattle.symbol.proofs.Dir.delta.Statement.{statement}
 use Rattle.symbol.proofs.Dir.delta.Tie as tie
-use Rattle.symbol.proofs.Dir.delta.Reads as reads
-use Rattle.symbol.proofs.Dir.delta.Lts as lts
 
--- src/lib.rt:65:23
 enum-told : tie.Need-enum-told
 enum-told c = search needs
 
--- src/lib.rt:66:23
 enum-told-2 : tie.Need-enum-told-2
 enum-told-2 c = search needs
 
--- src/lib.rt:67:23
 enum-told-3 : tie.Need-enum-told-3
 enum-told-3 c = search needs
 
--- src/lib.rt:61:5
 returns : tie.Need-returns
 returns c = rw (c .enum-told .given .1)
 
--- src/lib.rt:61:5
 returns-2 : tie.Need-returns-2
 returns-2 c = rw (c .enum-told2 .given .1)
 
--- src/lib.rt:61:5
 returns-3 : tie.Need-returns-3
 returns-3 c = rw (c .enum-told3 .given .1)
 

@@ -8,20 +8,13 @@ use Rattle.symbol.specs.PlaceFacts.{index-alike}
 use borrow.Author.Needs.{needs}
 use Rattle.symbol.proofs.position.index_of.Statement.{statement}
 use Rattle.symbol.proofs.position.index_of.Tie as tie
-use Rattle.symbol.proofs.position.index_of.Reads as reads
-use Rattle.symbol.proofs.position.index_of.Lts as lts
-use Rattle.symbol.proofs.position.index_of_raised.Reads as index-of-raised-reads
-use Rattle.symbol.proofs.position.raised.Reads as raised-reads
 
--- src/position.rt:45:21
 raised-requires : tie.Need-raised-requires
 raised-requires c κs = search needs
 
--- src/position.rt:45:5
 index-of-raised-requires : tie.Need-index-of-raised-requires
 index-of-raised-requires c κs = search needs
 
--- src/position.rt:42:1
 returns : tie.Need-returns
 returns c =
     let z = c .before .before .args .at in

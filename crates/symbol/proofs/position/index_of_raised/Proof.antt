@@ -3,46 +3,34 @@ use Rattle.symbol.specs.PlaceFacts.{index-in, index-before, index-past}
 use borrow.Author.Needs.{needs}
 use Rattle.symbol.proofs.position.index_of_raised.Statement.{statement}
 use Rattle.symbol.proofs.position.index_of_raised.Tie as tie
-use Rattle.symbol.proofs.position.index_of_raised.Reads as reads
-use Rattle.symbol.proofs.position.index_of_raised.Lts as lts
 
--- src/position.rt:53:21
 sub-below : tie.Need-sub-below
 sub-below c = search needs
 
--- src/position.rt:55:25
 sub-index : tie.Need-sub-index
 sub-index c = search needs
 
--- src/position.rt:57:17
 returns : tie.Need-returns
 returns c = index-in _ _ _ _ _ (omega arith) (omega arith)
 
--- src/position.rt:60:9
 returns-2 : tie.Need-returns-2
 returns-2 c = index-past _ _ _ _ (omega arith)
 
--- src/position.rt:60:9
 returns-3 : tie.Need-returns-3
 returns-3 c = index-before _ _ _ _ (omega arith)
 
--- src/position.rt:64:21
 sub-if5 : tie.Need-sub-if5
 sub-if5 c = search needs
 
--- src/position.rt:65:30
 add-t16 : tie.Need-add-t16
 add-t16 c = search needs
 
--- src/position.rt:65:13
 returns-4 : tie.Need-returns-4
 returns-4 c = index-in _ _ _ _ _ (omega arith) (omega arith)
 
--- src/position.rt:49:1
 returns-5 : tie.Need-returns-5
 returns-5 c = index-past _ _ _ _ (omega arith)
 
--- src/position.rt:49:1
 returns-6 : tie.Need-returns-6
 returns-6 c = index-past _ _ _ _ (omega arith)
 

@@ -1,29 +1,21 @@
 use Prim.Native.Nat.{_+_, _-_, _^_}
-use native.Mathlib.Omega.{arith}
-use mathlib.Core.Path.{_≡_, _∙_}
+use mathlib.Core.Path.{_∙_}
 use mir.Syntax.{w64}
 use mir.ValLaws.{toZ-ofZ}
 use Rattle.laws.specs.PositionFacts.{ints, diff-⊖}
 use borrow.Author.Needs.{needs}
 use Rattle.symbol.proofs.position.of_index.Statement.{statement}
 use Rattle.symbol.proofs.position.of_index.Tie as tie
-use Rattle.symbol.proofs.position.of_index.Reads as reads
-use Rattle.symbol.proofs.position.of_index.Lts as lts
-use Rattle.symbol.proofs.position.signed.Reads as signed-reads
 
--- src/position.rt:38:12
 add-signed : tie.Need-add-signed
 add-signed c = search needs
 
--- src/position.rt:38:12
 sub-signed : tie.Need-sub-signed
 sub-signed c = search needs
 
--- src/position.rt:38:5
 signed-requires : tie.Need-signed-requires
 signed-requires c κs = search needs
 
--- src/position.rt:35:1
 returns : tie.Need-returns
 returns c =
     let i = c .before .args .index in

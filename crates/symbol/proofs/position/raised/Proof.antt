@@ -3,7 +3,7 @@ use native.Mathlib.Omega.{arith}
 use lib.IntN.{negsuc, _-ℤ_}
 use mir.Syntax.{w64}
 use mir.ValLaws.{toZ-ofZ}
-use Rattle.symbol.proofs.Laws.{Up, Down, is-up, is-down}
+use Rattle.symbol.proofs.Laws.{is-up, is-down}
 use Rattle.symbol.proofs.position.raised.Statement.{statement}
 use Rattle.symbol.proofs.position.raised.Tie as tie
 

@@ -1,5 +1,5 @@
 -- `signed` meets its contract. Assumes nothing.
-use Prim.Native.Nat.{ℕ, _-_, _^_, _<_}
+use Prim.Native.Nat.{_-_, _^_}
 use native.Mathlib.Omega.{arith}
 use mathlib.Core.Path.{_≡_, _∙_}
 use lib.IntN.{pos, negsuc}
@@ -11,18 +11,13 @@ use Rattle.symbol.proofs.Laws.{below-zero, below-is, above-is}
 use borrow.Author.Needs.{needs}
 use Rattle.symbol.proofs.position.signed.Statement.{statement}
 use Rattle.symbol.proofs.position.signed.Tie as tie
-use Rattle.symbol.proofs.position.signed.Reads as reads
-use Rattle.symbol.proofs.position.signed.Lts as lts
 
--- src/position.rt:29:23
 sub-result : tie.Need-sub-result
 sub-result c = search needs
 
--- src/position.rt:29:22
 cast-result : tie.Need-cast-result
 cast-result c = search needs
 
--- src/position.rt:29:16
 sub-result-2 : tie.Need-sub-result-2
 sub-result-2 c =
     let n = 9223372036854775807 - c .before .args .raised in
@@ -30,7 +25,6 @@ sub-result-2 c =
     let f : SFits w64 (negsuc n) = record { sfits = omega arith } in
     rw (e, below-zero n) f
 
--- src/position.rt:29:9
 returns : tie.Need-returns
 returns c =
     let b = c .before .args .raised in
@@ -39,11 +33,9 @@ returns c =
     let f : SFits w64 (negsuc n) = record { sfits = omega arith } in
     rw (e, below-zero n) (toZ-ofZ w64 (negsuc n) f ∙ below-is n b (2 ^ 63) (omega arith))
 
--- src/position.rt:31:5
 cast-result-2 : tie.Need-cast-result-2
 cast-result-2 c = search needs
 
--- src/position.rt:25:1
 returns-2 : tie.Need-returns-2
 returns-2 c =
     let b = c .before .args .raised in
