@@ -5,7 +5,7 @@ use Prim.Native.Nat.{ℕ, zero, suc, _+_, _-_, _≤_, _<_}
 use native.Mathlib.Decide.{ℕ-discrete}
 use native.Mathlib.Omega.{arith}
 use lib.ListN.{length, getD, set, length-set}
-use lib.Seq.{getD-set-same, getD-set-other}
+use lib.Seq.{getD-set-same, getD-set-other, set-comm}
 use Rattle.laws.specs.Fill.{fillFrom}
 
 -- ---- one turn
@@ -50,3 +50,11 @@ fill-in f (suc n) i out j d a b h = by (ℕ-discrete i j) (fill-in f n (i + 1) (
         → getD (fillFrom f n (i + 1) (set out i (f i))) j d ≡ f j
     by (yes e) r = rw (← e) (fill-before f n (i + 1) (set out i (f i)) i d (omega arith) ∙ getD-set-same out i (f i) d (omega arith))
     by (no g) r = r (omega arith) (omega arith) (simp length-set h)
+
+-- a store below the places that are written may come first
+pub set-fill : (f : ℕ → ℕ) (n i : ℕ) (out : List ℕ) (j w : ℕ) → j < i → set (fillFrom f n i out) j w ≡ fillFrom f n i (set out j w)
+unfolding fillFrom
+set-fill f zero i out j w h = refl
+set-fill f (suc n) i out j w h =
+    set-fill f n (i + 1) (set out i (f i)) j w (omega arith)
+    ∙ ap (fillFrom f n (i + 1)) (set-comm out i j (f i) w (λ e. omega arith))

@@ -1,8 +1,10 @@
 pub mod Choice
 pub mod Scan
+pub mod ScanDown
 pub mod Fill
 pub mod Position
 pub mod Tests
 pub mod ScanFacts
+pub mod ScanDownFacts
 pub mod FillFacts
 pub mod PositionFacts

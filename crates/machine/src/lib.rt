@@ -13,6 +13,7 @@ ghost use Rattle.machine.specs.Packing.{packCheck, packInto};
 mod entries;
 pub mod inner;
 pub mod packed;
+pub mod word;
 
 // With t tapes, k symbols and n states the table has n × k^t entries of eight bytes.
 pub struct Machine {

@@ -5,7 +5,6 @@ use Prim.Native.Nat.{ℕ}
 use Rattle.outcome.specs.declared.NonHaltProof.{NonHaltProof}
 use Rattle.outcome.specs.declared.Outcome.the-variants.{NeverHalts}
 use Rattle.machine.specs.declared.Machine.{Machine}
-use Rattle.machine.specs.declared.Entry.{Entry}
 use Rattle.machine.specs.declared.Checked.the-variants.{Accepted}
 use Rattle.machine.specs.Layout.{strideOf, entryNumber}
 use Rattle.machine.specs.Check.{tableCheck}

@@ -1,0 +1,27 @@
+-- The check of an input word: refusals 9 and 10, of 10 the first place. Definitions only.
+use mathlib.Core.Bool.{Bool}
+use mathlib.Core.Option.{Option, none, some}
+use mathlib.Core.List.{List}
+use Prim.Native.Nat.{ℕ}
+use lib.Dec.{ltb, leb}
+use lib.ListN.{length, getD}
+use Rattle.laws.specs.Scan.{firstFail}
+use Rattle.outcome.specs.declared.Refusal.the-variants as Why
+use Rattle.machine.specs.declared.Checked.{Checked}
+use Rattle.machine.specs.declared.Checked.the-variants.{Accepted, Refused}
+use Rattle.machine.specs.Check.{demand}
+
+abbrev pub symbolIn : (k : ℕ) → List ℕ → ℕ → Bool
+symbolIn k w i = ltb (getD w i 0) k
+
+abbrev pub symbolAnswer : Option ℕ → Checked
+symbolAnswer none = Accepted
+symbolAnswer (some i) = Refused (Why.WordSymbol i)
+
+-- "10 a word symbol not below k (first place given)"
+unfoldable pub symbolsCheck : (k : ℕ) → List ℕ → Checked
+symbolsCheck k w = symbolAnswer (firstFail (symbolIn k w) (length w) 0)
+
+-- "9 word over 1,048,576"
+unfoldable pub wordCheck : (k : ℕ) → List ℕ → Checked
+wordCheck k w = demand (leb (length w) 1048576) Why.WordLength (symbolsCheck k w)

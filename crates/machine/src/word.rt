@@ -1,0 +1,29 @@
+// The check of an input word, wherever one is taken.
+use super::Checked;
+use outcome::Refusal;
+ghost use mathlib.Core.Path.{_≡_};
+ghost use Rattle.machine.specs.Word.{wordCheck, symbolsCheck};
+
+// 9 for a word over 1,048,576; 10 for a symbol not below `symbols`, with the first place.
+pub fn check_word(symbols: u64, word: &[u8]) -> Checked
+    ensures { λ r. ⌜ r ≡ wordCheck symbols (now (word .entry)) ⌝ }
+{
+    if 1048576 < word.len() {
+        return Checked::Refused(Refusal::WordLength);
+    }
+    check_symbols(symbols, word)
+}
+
+fn check_symbols(symbols: u64, word: &[u8]) -> Checked
+    ensures { λ r. ⌜ r ≡ symbolsCheck symbols (now (word .entry)) ⌝ }
+{
+    let mut i: usize = 0;
+    while i < word.len() {
+        let x = word[i];
+        if symbols <= (x as u64) {
+            return Checked::Refused(Refusal::WordSymbol(i as u64));
+        }
+        i += 1;
+    }
+    Checked::Accepted
+}

@@ -1,0 +1,185 @@
+-- The plain engine over its lent cells, as the code goes: what a configuration is, what is looked at before a step, the step, the run.
+-- Definitions only.
+use mathlib.Core.Bool.{Bool, true, false}
+use mathlib.Core.List.{List}
+use Prim.Native.Nat.{ℕ, zero, suc, _+_}
+use lib.Dec.{eqb}
+use lib.ListN.{length}
+use Rattle.laws.specs.Choice.{pick, both}
+use Rattle.symbol.specs.declared.State.{State}
+use Rattle.symbol.specs.declared.Dir.{Dir}
+use Rattle.symbol.specs.declared.Dir.the-variants.{L, R, N}
+use Rattle.outcome.specs.declared.NonHaltProof.{NonHaltProof}
+use Rattle.outcome.specs.declared.NonHaltProof.the-variants.{StayLoop, ChainToInfinity}
+use Rattle.outcome.specs.declared.Outcome.{Outcome}
+use Rattle.outcome.specs.declared.Outcome.the-variants.{Halted, OutOfFuel, NeverHalts, Stopped, Full}
+use Rattle.outcome.specs.declared.Status.{Status}
+use Rattle.outcome.specs.declared.Status.the-variants as Step
+use Rattle.machine.specs.declared.Machine.{Machine}
+use Rattle.machine.specs.declared.Action.{Action}
+use Rattle.machine.specs.declared.Entry.{Entry}
+use Rattle.machine.specs.declared.Entry.the-variants.{Undefined, Defined}
+use Rattle.machine.specs.Layout.{strideOf, entryNumber, entryAt}
+use Rattle.tape.specs.Moves.{Held, held, readOf, roomFor, actOf}
+use Rattle.tape.specs.Questions.{blankBeyond}
+use Rattle.sim.specs.declared.Simulator.{Simulator}
+use Rattle.sim.specs.declared.StopRule.{StopRule}
+use Rattle.sim.specs.declared.StopRule.the-variants as Rule
+use Rattle.sim.specs.declared.inner.Look.{Look}
+use Rattle.sim.specs.declared.inner.Look.the-variants.{Halt, Never, Go}
+
+-- ---- what stays the same through a run
+
+pub record Task : Type 0 where
+  pub machine : Machine
+  pub table : List ℕ
+  -- whether the never test is made
+  pub proves : Bool
+  pub rule : StopRule
+
+abbrev pub task : Machine → List ℕ → Bool → StopRule → Task
+task m s p r = record { machine = m; table = s; proves = p; rule = r }
+
+-- ---- the engine's value with its three buffers
+
+pub record Conf : Type 0 where
+  pub sim : Simulator
+  pub c0 : List ℕ
+  pub c1 : List ℕ
+  pub c2 : List ℕ
+
+abbrev pub conf : Simulator → List ℕ → List ℕ → List ℕ → Conf
+conf v c0 c1 c2 = record { sim = v; c0 = c0; c1 = c1; c2 = c2 }
+
+abbrev pub tape0 : Conf → Held
+tape0 σ = held (σ .sim .t0) (σ .c0)
+
+abbrev pub tape1 : Conf → Held
+tape1 σ = held (σ .sim .t1) (σ .c1)
+
+abbrev pub tape2 : Conf → Held
+tape2 σ = held (σ .sim .t2) (σ .c2)
+
+-- ---- what is looked at before a step: no entry; else, where asked, a proved loop; else the entry
+
+unfoldable pub stays : Dir → Bool
+stays L = false
+stays R = false
+stays N = true
+
+abbrev pub rewrites : (w0 w1 w2 r0 r1 r2 : ℕ) → Bool
+rewrites w0 w1 w2 r0 r1 r2 = both (eqb w0 r0) (both (eqb w1 r1) (eqb w2 r2))
+
+-- every tape stays and rewrites what it read
+unfoldable pub staysAll : Action → (r0 r1 r2 : ℕ) → Bool
+staysAll a r0 r1 r2 =
+    both (stays (a .dir0))
+    (both (stays (a .dir1))
+    (both (stays (a .dir2)) (rewrites (a .write0 .0) (a .write1 .0) (a .write2 .0) r0 r1 r2)))
+
+-- an entry that keeps the state: the first pattern, or the second where there is one tape
+unfoldable pub loopOf : (tapes : ℕ) → State → Action → (r0 r1 r2 : ℕ) → Held → Look
+loopOf tapes q a r0 r1 r2 h =
+    pick (staysAll a r0 r1 r2) (Never (StayLoop q))
+    (pick (both (eqb tapes 1) (both (eqb r0 0) (blankBeyond h (a .dir0)))) (Never (ChainToInfinity q (a .dir0))) (Go a))
+
+unfoldable pub judgeOf : (proves : Bool) (tapes : ℕ) → State → Action → (r0 r1 r2 : ℕ) → Held → Look
+judgeOf p tapes q a r0 r1 r2 h = pick (both p (eqb (a .next .0) (q .0))) (loopOf tapes q a r0 r1 r2 h) (Go a)
+
+unfoldable pub lookOn : Entry → (proves : Bool) (tapes : ℕ) → State → (r0 r1 r2 : ℕ) → Held → Look
+lookOn Undefined p tapes q r0 r1 r2 h = Halt
+lookOn (Defined a) p tapes q r0 r1 r2 h = judgeOf p tapes q a r0 r1 r2 h
+
+unfoldable pub entryOf : Machine → List ℕ → State → (r0 r1 r2 : ℕ) → Entry
+entryOf m s q r0 r1 r2 = entryAt s (entryNumber (m .symbols) (strideOf m) (q .0) r0 r1 r2)
+
+unfoldable pub lookWith : Machine → List ℕ → (proves : Bool) → Conf → Look
+lookWith m s p σ =
+    lookOn (entryOf m s (σ .sim .state) (readOf (tape0 σ)) (readOf (tape1 σ)) (readOf (tape2 σ)))
+    p (m .tapes) (σ .sim .state) (readOf (tape0 σ)) (readOf (tape1 σ)) (readOf (tape2 σ)) (tape0 σ)
+
+abbrev pub lookOf : Task → Conf → Look
+lookOf k σ = lookWith (k .machine) (k .table) (k .proves) σ
+
+-- ---- space, decided for all tapes before anything is written
+
+unfoldable pub roomsFor : Simulator → (n0 n1 n2 : ℕ) → Action → Bool
+roomsFor v n0 n1 n2 a =
+    both (roomFor (v .t0) n0 (a .dir0)) (both (roomFor (v .t1) n1 (a .dir1)) (roomFor (v .t2) n2 (a .dir2)))
+
+abbrev pub roomyOf : Conf → Action → Bool
+roomyOf σ a = roomsFor (σ .sim) (length (σ .c0)) (length (σ .c1)) (length (σ .c2)) a
+
+-- ---- a step
+
+abbrev pub stepWith : Conf → Action → Held → Held → Held → Conf
+stepWith σ a h0 h1 h2 =
+    conf
+    (record {
+      state = a .next;
+      steps = σ .sim .steps + 1;
+      t0 = h0 .tape;
+      t1 = h1 .tape;
+      t2 = h2 .tape;
+    })
+    (h0 .cells) (h1 .cells) (h2 .cells)
+
+unfoldable pub stepOf : Conf → Action → Conf
+stepOf σ a =
+    stepWith σ a (actOf (tape0 σ) (a .write0 .0) (a .dir0)) (actOf (tape1 σ) (a .write1 .0) (a .dir1))
+    (actOf (tape2 σ) (a .write2 .0) (a .dir2))
+
+-- ---- a run: "halted, never, fuel, space, in that order, before each step"; the stop rule after it
+
+pub record End : Type 0 where
+  pub at : Conf
+  pub outcome : Outcome
+
+abbrev pub end : Conf → Outcome → End
+end σ o = record { at = σ; outcome = o }
+
+abbrev pub onLook : {A : Type 0} → Look → A → (NonHaltProof → A) → (Action → A) → A
+onLook Halt h n g = h
+onLook (Never p) h n g = n p
+onLook (Go a) h n g = g a
+
+unfoldable pub matches : StopRule → State → Bool
+matches Rule.Never q = false
+matches (Rule.From p) q = eqb (p .0) (q .0)
+
+abbrev pub haltedEnd : Conf → End
+haltedEnd σ = end σ (Halted (σ .sim .steps) (σ .sim .state))
+
+abbrev pub neverEnd : Conf → NonHaltProof → End
+neverEnd σ p = end σ (NeverHalts (σ .sim .steps) p)
+
+abbrev pub fuelEnd : Conf → End
+fuelEnd σ = end σ (OutOfFuel (σ .sim .steps))
+
+abbrev pub fullEnd : Conf → End
+fullEnd σ = end σ (Full (σ .sim .steps))
+
+abbrev pub stoppedEnd : Conf → End
+stoppedEnd σ = end σ (Stopped (σ .sim .steps))
+
+unfoldable pub runOf : Task → ℕ → Conf → End
+runOf k zero σ = onLook (lookOf k σ) (haltedEnd σ) (neverEnd σ) (λ a. fuelEnd σ)
+runOf k (suc f) σ =
+    onLook (lookOf k σ) (haltedEnd σ) (neverEnd σ)
+    (λ a.
+    let on : End = runOf k f (stepOf σ a) in
+    pick (roomyOf σ a) (pick (matches (k .rule) (σ .sim .state)) (stoppedEnd (stepOf σ a)) on) (fullEnd σ))
+
+-- ---- one step, without the tests of never and fuel (without the first, no look is never)
+
+pub record Once : Type 0 where
+  pub at : Conf
+  pub status : Status
+
+abbrev pub once : Conf → Status → Once
+once σ s = record { at = σ; status = s }
+
+unfoldable pub onceOf : Machine → List ℕ → Conf → Once
+onceOf m s σ =
+    onLook (lookWith m s false σ) (once σ Step.Halted) (λ p. once σ Step.Halted)
+    (λ a. pick (roomyOf σ a) (once (stepOf σ a) Step.Running) (once σ Step.Full))

@@ -1,0 +1,159 @@
+-- The look, the step and the run, one fact for each way through the code. Assumes nothing.
+use mathlib.Core.Path.{_≡_, refl, sym, ap, _∙_}
+use mathlib.Core.Bool.{Bool, true, false}
+use mathlib.Core.List.{List}
+use Prim.Native.Nat.{ℕ, zero, suc, _+_, _-_}
+use native.Mathlib.Omega.{arith}
+use borrow.Author.Tests.{eq-eqb, ne-eqb}
+use Rattle.laws.specs.Choice.{pick, both}
+use Rattle.laws.specs.Tests.{both-split}
+use Rattle.symbol.specs.declared.State.{State}
+use Rattle.symbol.specs.declared.Dir.{Dir}
+use Rattle.outcome.specs.declared.NonHaltProof.{NonHaltProof}
+use Rattle.outcome.specs.declared.NonHaltProof.the-variants.{StayLoop, ChainToInfinity}
+use Rattle.outcome.specs.declared.Status.the-variants as Step
+use Rattle.machine.specs.declared.Machine.{Machine}
+use Rattle.machine.specs.declared.Action.{Action}
+use Rattle.machine.specs.declared.Entry.{Entry}
+use Rattle.machine.specs.declared.Entry.the-variants.{Undefined, Defined}
+use Rattle.machine.specs.Layout.{strideOf, entryNumber, entryAt}
+use Rattle.tape.specs.declared.Tape.{Tape}
+use Rattle.tape.specs.Moves.{Held, held, readOf, roomFor, actOf}
+use Rattle.tape.specs.Questions.{blankBeyond}
+use Rattle.sim.specs.declared.Simulator.{Simulator}
+use Rattle.sim.specs.declared.inner.Look.{Look}
+use Rattle.sim.specs.declared.inner.Look.the-variants.{Halt, Never, Go}
+use Rattle.sim.specs.Engine.{Task, Conf, conf, staysAll, loopOf, judgeOf, lookOn, entryOf, lookWith, lookOf, roomsFor, roomyOf, stepOf, matches, End, end, haltedEnd, neverEnd, fuelEnd, fullEnd, stoppedEnd, runOf, once, onceOf}
+
+pub entry-is : (m : Machine) (s : List ℕ) (q : State) (r0 r1 r2 number stride : ℕ) (e : Entry) → e ≡ entryAt s number
+    → number ≡ entryNumber (m .symbols) stride (q .0) r0 r1 r2 → stride ≡ strideOf m → e ≡ entryOf m s q r0 r1 r2
+unfolding entryOf
+entry-is m s q r0 r1 r2 number stride e p n k = rw (p, n, k)
+
+-- ---- an entry that keeps the state
+
+module _ (tapes : ℕ) (q : State) (a : Action) (r0 r1 r2 : ℕ) (h : Held) (st : Bool) (is : st ≡ staysAll a r0 r1 r2) where
+  pub loop-stays : st ≡ true → Never (StayLoop q) ≡ loopOf tapes q a r0 r1 r2 h
+  unfolding loopOf pick
+  loop-stays e = simp (← is, e)
+
+  module _ (moves : st ≡ false) where
+    pub loop-several : (tapes ≡ 1 → ⊥) → Go a ≡ loopOf tapes q a r0 r1 r2 h
+    unfolding loopOf pick both
+    loop-several n = simp (← is, moves, ne-eqb _ _ n)
+
+    module _ (one : tapes ≡ 1) where
+      pub loop-reads : (r0 ≡ 0 → ⊥) → Go a ≡ loopOf tapes q a r0 r1 r2 h
+      unfolding loopOf pick both
+      loop-reads n = simp (← is, moves, eq-eqb _ _ one, ne-eqb _ _ n)
+
+      module _ (blank : r0 ≡ 0) (b : Bool) (beyond : b ≡ blankBeyond h (a .dir0)) where
+        pub loop-chain : b ≡ true → Never (ChainToInfinity q (a .dir0)) ≡ loopOf tapes q a r0 r1 r2 h
+        unfolding loopOf pick both
+        loop-chain e = simp (← is, moves, eq-eqb _ _ one, eq-eqb _ _ blank, ← beyond, e)
+
+        pub loop-goes : b ≡ false → Go a ≡ loopOf tapes q a r0 r1 r2 h
+        unfolding loopOf pick both
+        loop-goes e = simp (← is, moves, eq-eqb _ _ one, eq-eqb _ _ blank, ← beyond, e)
+
+module _ (p : Bool) (tapes : ℕ) (q : State) (a : Action) (r0 r1 r2 : ℕ) (h : Held) where
+  pub judge-off : p ≡ false → Go a ≡ judgeOf p tapes q a r0 r1 r2 h
+  unfolding judgeOf pick both
+  judge-off e = simp e
+
+  pub judge-leaves : p ≡ true → (a .next .0 ≡ q .0 → ⊥) → Go a ≡ judgeOf p tapes q a r0 r1 r2 h
+  unfolding judgeOf pick both
+  judge-leaves e n = simp (e, ne-eqb _ _ n)
+
+  pub judge-loop : (x : Look) → x ≡ loopOf tapes q a r0 r1 r2 h → p ≡ true → a .next .0 ≡ q .0 → x ≡ judgeOf p tapes q a r0 r1 r2 h
+  unfolding judgeOf pick both
+  judge-loop x l e k = simp (e, eq-eqb _ _ k, l)
+
+-- ---- the look
+
+module _ (m : Machine) (s : List ℕ) (p : Bool) (v : Simulator) (c0 c1 c2 : List ℕ) (r0 r1 r2 : ℕ) (e : Entry)
+    (found : e ≡ entryOf m s (v .state) r0 r1 r2) (q0 : r0 ≡ readOf (held (v .t0) c0)) (q1 : r1 ≡ readOf (held (v .t1) c1)) (q2 : r2 ≡ readOf (held (v .t2) c2)) where
+  is-entry : entryOf m s (v .state) (readOf (held (v .t0) c0)) (readOf (held (v .t1) c1)) (readOf (held (v .t2) c2)) ≡ e
+  is-entry = rw (← q0, ← q1, ← q2) (sym found)
+
+  pub look-halt : e ≡ Undefined → Halt ≡ lookWith m s p (conf v c0 c1 c2)
+  unfolding lookWith lookOn
+  look-halt z = rw (is-entry, z)
+
+  pub look-judged : (a : Action) (x : Look) → x ≡ judgeOf p (m .tapes) (v .state) a r0 r1 r2 (held (v .t0) c0) → e ≡ Defined a → x ≡ lookWith m s p (conf v c0 c1 c2)
+  unfolding lookWith lookOn
+  look-judged a x j z = rw (is-entry, z) (rw (← q0, ← q1, ← q2) j)
+
+-- ---- the step
+
+pub stepped : (v : Simulator) (c0 c1 c2 d0 d1 d2 : List ℕ) (a : Action) (u0 u1 u2 : Tape)
+    → held u0 d0 ≡ actOf (held (v .t0) c0) (a .write0 .0) (a .dir0) → held u1 d1 ≡ actOf (held (v .t1) c1) (a .write1 .0) (a .dir1)
+    → held u2 d2 ≡ actOf (held (v .t2) c2) (a .write2 .0) (a .dir2)
+    → conf (record { state = a .next; steps = v .steps + 1; t0 = u0; t1 = u1; t2 = u2 }) d0 d1 d2 ≡ stepOf (conf v c0 c1 c2) a
+unfolding stepOf
+stepped v c0 c1 c2 d0 d1 d2 a u0 u1 u2 p0 p1 p2 =
+    λ i. conf (record { state = a .next; steps = v .steps + 1; t0 = p0 i .tape; t1 = p1 i .tape; t2 = p2 i .tape }) (p0 i .cells) (p1 i .cells) (p2 i .cells)
+
+pub rooms-each : (v : Simulator) (n0 n1 n2 : ℕ) (a : Action) → roomsFor v n0 n1 n2 a ≡ true
+    → (roomFor (v .t0) n0 (a .dir0) ≡ true) × (roomFor (v .t1) n1 (a .dir1) ≡ true) × (roomFor (v .t2) n2 (a .dir2) ≡ true)
+unfolding roomsFor
+rooms-each v n0 n1 n2 a r =
+    let p = both-split r in
+    let q = both-split (p .1) in
+    (p .0, q .0, q .1)
+
+-- ---- one turn of the run, for any end x that the run stands for
+
+module _ (k : Task) (σ : Conf) (x : End) where
+  pub run-halt : (f : ℕ) → lookOf k σ ≡ Halt → runOf k f σ ≡ x → haltedEnd σ ≡ x
+  unfolding runOf
+  run-halt zero e p = simp e at p
+  run-halt (suc f) e p = simp e at p
+
+  pub run-never : (f : ℕ) (n : NonHaltProof) → lookOf k σ ≡ Never n → runOf k f σ ≡ x → neverEnd σ n ≡ x
+  unfolding runOf
+  run-never zero n e p = simp e at p
+  run-never (suc f) n e p = simp e at p
+
+  module _ (a : Action) (go : lookOf k σ ≡ Go a) where
+    pub run-fuel : (f : ℕ) → f ≡ 0 → runOf k f σ ≡ x → fuelEnd σ ≡ x
+    unfolding runOf
+    run-fuel zero z p = simp go at p
+    run-fuel (suc f) z p = absurd (omega arith)
+
+    pub run-full : (f : ℕ) → (f ≡ 0 → ⊥) → roomyOf σ a ≡ false → runOf k f σ ≡ x → fullEnd σ ≡ x
+    unfolding runOf pick
+    run-full zero n r p = absurd (n refl)
+    run-full (suc f) n r p = simp (go, r) at p
+
+    pub run-last : (f : ℕ) → (f ≡ 0 → ⊥) → roomyOf σ a ≡ true → matches (k .rule) (σ .sim .state) ≡ true → runOf k f σ ≡ x → stoppedEnd (stepOf σ a) ≡ x
+    unfolding runOf pick
+    run-last zero n r s p = absurd (n refl)
+    run-last (suc f) n r s p = simp (go, r, s) at p
+
+    pub run-next : (f : ℕ) → (f ≡ 0 → ⊥) → roomyOf σ a ≡ true → matches (k .rule) (σ .sim .state) ≡ false → runOf k f σ ≡ x → runOf k (f - 1) (stepOf σ a) ≡ x
+    unfolding runOf pick
+    run-next zero n r s p = absurd (n refl)
+    run-next (suc f) n r s p =
+        let e : suc f - 1 ≡ f = omega arith in
+        rw e (simp (go, r, s) at p)
+
+-- ---- one step
+
+module _ (m : Machine) (s : List ℕ) (v : Simulator) (c0 c1 c2 : List ℕ) (l : Look) (e : l ≡ lookWith m s false (conf v c0 c1 c2)) where
+  pub once-halt : l ≡ Halt → once (conf v c0 c1 c2) Step.Halted ≡ onceOf m s (conf v c0 c1 c2)
+  unfolding onceOf
+  once-halt z = simp (← e, z)
+
+  pub once-never : (p : NonHaltProof) → l ≡ Never p → once (conf v c0 c1 c2) Step.Halted ≡ onceOf m s (conf v c0 c1 c2)
+  unfolding onceOf
+  once-never p z = simp (← e, z)
+
+  module _ (a : Action) (z : l ≡ Go a) (r : Bool) (rp : r ≡ roomyOf (conf v c0 c1 c2) a) where
+    pub once-full : r ≡ false → once (conf v c0 c1 c2) Step.Full ≡ onceOf m s (conf v c0 c1 c2)
+    unfolding onceOf pick
+    once-full q = simp (← e, z, ← rp, q)
+
+    pub once-made : (u : Simulator) (d0 d1 d2 : List ℕ) → r ≡ true → conf u d0 d1 d2 ≡ stepOf (conf v c0 c1 c2) a → once (conf u d0 d1 d2) Step.Running ≡ onceOf m s (conf v c0 c1 c2)
+    unfolding onceOf pick
+    once-made u d0 d1 d2 q st = ap (λ (τ : Conf). once τ Step.Running) st ∙ simp (← e, z, ← rp, q)

@@ -1,0 +1,162 @@
+// The plain engine: one step at a time on dense tapes, one to three of them.
+use machine::Checked;
+use machine::Machine;
+use outcome::Outcome;
+use outcome::Refusal;
+use outcome::Status;
+use symbol::State;
+use tape::Tape;
+ghost use mathlib.Core.Path.{_≡_};
+ghost use Rattle.sim.specs.Engine.{conf};
+ghost use Rattle.sim.specs.Operations.{given, runAnswer, stepGiven, stepAnswer, made, newAnswer};
+
+mod checks;
+pub mod inner;
+pub mod questions;
+
+// The engine's value. Its cells are lent, one buffer for each tape; fields and buffers of tapes that the machine
+// lacks are neither read nor changed.
+pub struct Simulator {
+    pub state: State,
+    pub steps: u64,
+    pub t0: Tape,
+    pub t1: Tape,
+    pub t2: Tape,
+}
+
+// When a run stops besides: never, or after a step that left this state.
+pub enum StopRule {
+    Never,
+    From(State),
+}
+
+// How a run ended, or why it was refused.
+pub enum Answer {
+    Done(Outcome),
+    Refused(Refusal),
+}
+
+// The engine handed back, with the answer.
+pub struct Answered {
+    pub sim: Simulator,
+    pub answer: Answer,
+}
+
+// What a step found, or why it was refused.
+pub enum StepAnswer {
+    Done(Status),
+    Refused(Refusal),
+}
+
+pub struct Stepped {
+    pub sim: Simulator,
+    pub answer: StepAnswer,
+}
+
+// A fresh engine, or why there is none.
+pub enum Fresh {
+    Made(Simulator),
+    Refused(Refusal),
+}
+
+impl Simulator {
+    // Starts in the start state with the word on tape 0, heads at position 0, all else blank.
+    pub fn new(
+        m: Machine,
+        table: &[u8],
+        word: &[u8],
+        c0: &mut [u8],
+        c1: &mut [u8],
+        c2: &mut [u8],
+    ) -> Fresh
+        ensures { λ r. ⌜ made r (now (c0 .exit)) (now (c1 .exit)) (now (c2 .exit)) ≡ newAnswer m (now (table .entry)) (now (word .entry)) (now (c0 .entry)) (now (c1 .entry)) (now (c2 .entry)) ⌝ }
+    {
+        let checked = checks::fresh_check(m, table, word, c0.len(), c1.len(), c2.len());
+        match checked {
+            Checked::Refused(why) => {
+                return Fresh::Refused(why);
+            }
+            Checked::Accepted => {
+                let t0 = tape::inner::fresh(c0, word);
+                let t1 = checks::blank(1 < m.tapes, c1);
+                let t2 = checks::blank(2 < m.tapes, c2);
+                let start = m.start;
+                return Fresh::Made(Simulator {
+                    state: State(start as u16),
+                    steps: 0,
+                    t0,
+                    t1,
+                    t2,
+                });
+            }
+        }
+    }
+
+    // Runs until the machine halts, is shown never to halt, has used its fuel, lacks space, or stops by the rule.
+    pub fn run(
+        self,
+        m: Machine,
+        table: &[u8],
+        c0: &mut [u8],
+        c1: &mut [u8],
+        c2: &mut [u8],
+        rule: StopRule,
+        fuel: u64,
+    ) -> Answered
+        ensures { λ r. ⌜ given (conf (r .sim) (now (c0 .exit)) (now (c1 .exit)) (now (c2 .exit))) (r .answer) ≡ runAnswer m (now (table .entry)) rule fuel (conf self (now (c0 .entry)) (now (c1 .entry)) (now (c2 .entry))) ⌝ }
+    {
+        let checked = self.run_check(m, table, c0, c1, c2, fuel);
+        match checked {
+            Checked::Refused(why) => {
+                return Answered {
+                    sim: self,
+                    answer: Answer::Refused(why),
+                };
+            }
+            Checked::Accepted => {
+                let stride = machine::inner::stride(m.tapes, m.symbols);
+                let bare = self.bare(m.tapes);
+                let ran = bare.run_turns(m, stride, true, rule, table, c0, c1, c2, fuel);
+                let after = ran.sim;
+                let outcome = ran.outcome;
+                return Answered {
+                    sim: after.hand_back(m.tapes, self),
+                    answer: Answer::Done(outcome),
+                };
+            }
+        }
+    }
+
+    // Makes one step, whether or not it is a proved loop, or says that the machine has halted or lacks space.
+    pub fn step(
+        self,
+        m: Machine,
+        table: &[u8],
+        c0: &mut [u8],
+        c1: &mut [u8],
+        c2: &mut [u8],
+    ) -> Stepped
+        ensures { λ r. ⌜ stepGiven (conf (r .sim) (now (c0 .exit)) (now (c1 .exit)) (now (c2 .exit))) (r .answer) ≡ stepAnswer m (now (table .entry)) (conf self (now (c0 .entry)) (now (c1 .entry)) (now (c2 .entry))) ⌝ }
+    {
+        let checked = self.run_check(m, table, c0, c1, c2, 1);
+        match checked {
+            Checked::Refused(why) => {
+                return Stepped {
+                    sim: self,
+                    answer: StepAnswer::Refused(why),
+                };
+            }
+            Checked::Accepted => {
+                let stride = machine::inner::stride(m.tapes, m.symbols);
+                let bare = self.bare(m.tapes);
+                let made = bare.step_once(m, stride, table, c0, c1, c2);
+                let after = made.sim;
+                let status = made.status;
+                return Stepped {
+                    sim: after.hand_back(m.tapes, self),
+                    answer: StepAnswer::Done(status),
+                };
+            }
+        }
+    }
+}

@@ -1,0 +1,11 @@
+pub mod Meaning
+pub mod Statement
+pub mod Counts
+pub mod TapeFacts
+pub mod StepFacts
+pub mod LookFacts
+pub mod Refinement
+pub mod RunFacts
+pub mod FreshFacts
+pub mod CountFacts
+pub mod QuestionFacts

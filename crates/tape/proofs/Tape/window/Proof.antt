@@ -1,0 +1,20 @@
+use mir.ValLaws.{toZ-ofZ}
+use Rattle.tape.specs.QuestionCases.{window-is}
+use borrow.Author.Needs.{needs}
+use Rattle.tape.proofs.Tape.window.Statement.{statement}
+use Rattle.tape.proofs.Tape.window.Tie as tie
+
+raised-requires : tie.Need-raised-requires
+raised-requires c κs = search needs
+
+fill-window-requires : tie.Need-fill-window-requires
+fill-window-requires c κs = search needs
+
+same-length : tie.Need-same-length
+same-length c = search needs
+
+returns : tie.Need-returns
+returns c = search (window-is, toZ-ofZ)
+
+pub window-spec : {M : Type 1} → statement M
+window-spec = tie.close (tie.spec raised-requires fill-window-requires same-length returns)

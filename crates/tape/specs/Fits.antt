@@ -1,0 +1,47 @@
+-- When a tape's numbers and cells fit (document 01, refusal 12), and what the functions on one tape may assume. Definitions only.
+use mathlib.Core.Bool.{Bool}
+use mathlib.Core.List.{List}
+use Prim.Native.Nat.{ℕ, _+_, _≤_, _<_}
+use lib.Dec.{ltb, leb}
+use lib.ListN.{length, getD}
+use Rattle.laws.specs.Choice.{both}
+use Rattle.laws.specs.Scan.{allIn}
+use Rattle.symbol.specs.declared.position.Found.{Found}
+use Rattle.symbol.specs.declared.position.Found.the-variants.{At, Nothing}
+use Rattle.tape.specs.declared.Tape.{Tape}
+
+-- "length from 32 to the buffer's, head and origin below it, lowest ≤ head ≤ highest, all inside"
+abbrev pub shapeFits : Tape → (cap : ℕ) → Bool
+shapeFits t cap =
+    both (leb 32 (t .len))
+    (both (leb (t .len) cap)
+    (both (ltb (t .head) (t .len))
+    (both (ltb (t .origin) (t .len))
+    (both (leb (t .lowest) (t .head))
+    (both (leb (t .head) (t .highest)) (ltb (t .highest) (t .len)))))))
+
+abbrev pub symbolAt : (k : ℕ) → List ℕ → ℕ → Bool
+symbolAt k c i = ltb (getD c i 0) k
+
+-- "symbols below k": of the first len cells, those past are not looked at
+unfoldable pub tapeFits : (k : ℕ) → Tape → List ℕ → Bool
+tapeFits k t c = both (shapeFits t (length c)) (allIn (symbolAt k c) (t .len) 0)
+
+-- true of every tape that fits, and of one that the machine lacks, whose numbers are 0
+pub record TapeOk (t : Tape) (c : List ℕ) : Type 0 where
+  pub len-in : t .len ≤ length c
+  pub len-small : t .len ≤ 1073741824
+  pub head-in : t .head ≤ t .len
+  pub origin-in : t .origin ≤ t .len
+  pub low-in : t .lowest ≤ t .len
+  pub high-in : t .highest ≤ t .len
+
+-- a tape with a cell under its head has a buffer of at most 2^30 cells; one that the machine lacks has any
+pub record TapeSafe (t : Tape) (c : List ℕ) : Type 0 where
+  pub ok : TapeOk t c
+  pub sized : t .head < t .len → length c ≤ 1073741824
+
+-- how many cells there must be for an index that was found
+abbrev pub reach : Found → ℕ
+reach (At i) = i + 1
+reach Nothing = 0

@@ -1,0 +1,365 @@
+// One tape's operations, which ask that its numbers lie inside its cells.
+use super::Span;
+use super::Spot;
+use super::Tape;
+use super::cells;
+use symbol::Dir;
+use symbol::position;
+use symbol::position::Found;
+ghost use mathlib.Core.Path.{_≡_};
+ghost use mathlib.Core.Bool.{true, false};
+ghost use Prim.Native.Nat.{_+_, _≤_, _^_};
+ghost use lib.ListN.{length};
+ghost use Rattle.tape.specs.Growth.{extra};
+ghost use Rattle.tape.specs.Moves.{held, freshOf, readOf, leaves, roomFor, growOf, shiftOf, actOf};
+ghost use Rattle.tape.specs.Fits.{TapeOk, shapeFits, tapeFits, reach};
+ghost use Rattle.tape.specs.Questions.{blankBeyond, cellAt, spanOf, spotOf, nonBlankOf, countOf, raisedCell, windowFrom, windowOf, cellsBelow, findOf};
+
+// A tape that holds a word from position 0 on.
+pub fn fresh(cells: &mut [u8], word: &[u8]) -> Tape
+    requires { ⌜ 32 + length (now word) ≤ length (now cells) ⌝ }
+    ensures { λ r. ⌜ held r (now (cells .exit)) ≡ freshOf (now (word .entry)) (now (cells .entry)) ⌝ }
+{
+    let n = word.len();
+    cells::blank(cells, 0, 16);
+    cells::lay(cells, 16, word);
+    cells::blank(cells, 16 + n, 32 + n);
+    Tape {
+        len: 32 + n,
+        origin: 16,
+        head: 16,
+        lowest: 16,
+        highest: 16,
+    }
+}
+
+// How many cells a growth adds: as many as there are, where the buffer has room for them.
+pub fn extra(len: usize, cap: usize) -> usize
+    requires { ⌜ len ≤ 1073741824 ⌝ }
+    ensures { λ r. ⌜ (r ≡ extra len cap) × (r ≤ len) ⌝ }
+{
+    if len + len <= cap {
+        return len;
+    }
+    0
+}
+
+fn smaller(a: usize, b: usize) -> usize
+    ensures { λ r. ⌜ r ≡ Prim.Native.Nat.min a b ⌝ }
+{
+    if a < b {
+        return a;
+    }
+    b
+}
+
+fn larger(a: usize, b: usize) -> usize
+    ensures { λ r. ⌜ r ≡ Prim.Native.Nat.max a b ⌝ }
+{
+    if a < b {
+        return b;
+    }
+    a
+}
+
+impl Tape {
+    // The symbol under the head.
+    pub fn read(self, cells: &[u8]) -> u8
+        requires { ⌜ TapeOk self (now cells) ⌝ }
+        ensures { λ r. ⌜ r ≡ readOf (held self (now (cells .entry))) ⌝ }
+    {
+        let head = self.head;
+        if head < self.len {
+            return cells[head];
+        }
+        0
+    }
+
+    // Whether the move leaves the cells.
+    pub fn leaves(self, d: Dir) -> bool
+        requires { ⌜ (self .head ≤ self .len) × (self .len ≤ 1073741824) ⌝ }
+        ensures { λ r. ⌜ r ≡ leaves self d ⌝ }
+    {
+        match d {
+            Dir::L => self.head == 0,
+            Dir::R => self.head + 1 == self.len,
+            Dir::N => false,
+        }
+    }
+
+    // Whether the move has room in a buffer of `cap` cells.
+    pub fn room(self, cap: usize, d: Dir) -> bool
+        requires { ⌜ (self .head ≤ self .len) × (self .len ≤ 1073741824) ⌝ }
+        ensures { λ r. ⌜ r ≡ roomFor self cap d ⌝ }
+    {
+        if self.leaves(d) {
+            return 1 <= extra(self.len, cap);
+        }
+        true
+    }
+
+    // New blanks on the side to which a move leaves the cells.
+    fn grow(self, cells: &mut [u8], d: Dir) -> Tape
+        requires { ⌜ TapeOk self (now cells) ⌝ }
+        ensures { λ r. ⌜ held r (now (cells .exit)) ≡ growOf (held self (now (cells .entry))) d ⌝ }
+    {
+        let len = self.len;
+        let more = extra(len, cells.len());
+        match d {
+            Dir::L => {
+                cells::open_left(cells, more, len);
+                Tape {
+                    len: len + more,
+                    origin: self.origin + more,
+                    head: self.head + more,
+                    lowest: self.lowest + more,
+                    highest: self.highest + more,
+                }
+            }
+            Dir::R => {
+                cells::blank(cells, len, len + more);
+                Tape {
+                    len: len + more,
+                    origin: self.origin,
+                    head: self.head,
+                    lowest: self.lowest,
+                    highest: self.highest,
+                }
+            }
+            Dir::N => self,
+        }
+    }
+
+    // The head moved, which stays inside the cells.
+    fn shifted(self, d: Dir) -> Tape
+        requires { ⌜ (self .head ≤ 4294967296) × (leaves self d ≡ false) ⌝ }
+        ensures { λ r. ⌜ r ≡ shiftOf self d ⌝ }
+    {
+        match d {
+            Dir::L => {
+                let head = self.head - 1;
+                let lowest = smaller(self.lowest, head);
+                Tape {
+                    len: self.len,
+                    origin: self.origin,
+                    head,
+                    lowest,
+                    highest: self.highest,
+                }
+            }
+            Dir::R => {
+                let head = self.head + 1;
+                let highest = larger(self.highest, head);
+                Tape {
+                    len: self.len,
+                    origin: self.origin,
+                    head,
+                    lowest: self.lowest,
+                    highest,
+                }
+            }
+            Dir::N => self,
+        }
+    }
+
+    // Writes at the head and moves it, growing where the move leaves the cells; the caller has asked `room`.
+    pub fn act(self, cells: &mut [u8], w: u8, d: Dir) -> Tape
+        requires { ⌜ TapeOk self (now cells) ⌝ }
+        requires { ⌜ roomFor self (length (now cells)) d ≡ true ⌝ }
+        ensures { λ r. ⌜ held r (now (cells .exit)) ≡ actOf (held self (now (cells .entry))) w d ⌝ }
+    {
+        let head = self.head;
+        if self.len <= head {
+            return self;
+        }
+        cells::put(cells, head, w);
+        if self.leaves(d) {
+            let grown = self.grow(cells, d);
+            return grown.shifted(d);
+        }
+        self.shifted(d)
+    }
+
+    fn shape_fits(self, cap: usize) -> bool
+        ensures { λ r. ⌜ r ≡ shapeFits self cap ⌝ }
+    {
+        if self.len < 32 {
+            return false;
+        }
+        if cap < self.len {
+            return false;
+        }
+        if self.len <= self.head {
+            return false;
+        }
+        if self.len <= self.origin {
+            return false;
+        }
+        if self.head < self.lowest {
+            return false;
+        }
+        if self.highest < self.head {
+            return false;
+        }
+        self.highest < self.len
+    }
+
+    // Whether the numbers lie inside the cells, and every cell holds a symbol below `k`.
+    pub fn fits(self, k: u64, cells: &[u8]) -> bool
+        ensures { λ r. ⌜ r ≡ tapeFits k self (now (cells .entry)) ⌝ }
+    {
+        if !self.shape_fits(cells.len()) {
+            return false;
+        }
+        cells::all_below(cells, self.len, k)
+    }
+
+    // Whether every cell strictly beyond the head that way is blank.
+    pub fn only_blanks_beyond(self, cells: &[u8], d: Dir) -> bool
+        requires { ⌜ TapeOk self (now cells) ⌝ }
+        ensures { λ r. ⌜ r ≡ blankBeyond (held self (now (cells .entry))) d ⌝ }
+    {
+        match d {
+            Dir::L => cells::all_blank(cells, 0, self.head),
+            Dir::R => cells::all_blank(cells, self.head + 1, self.len),
+            Dir::N => false,
+        }
+    }
+
+    // The symbol at a position; a cell outside is blank.
+    pub fn get(self, cells: &[u8], at: i64) -> u8
+        requires { ⌜ TapeOk self (now cells) ⌝ }
+        ensures { λ r. ⌜ r ≡ cellAt (self .origin) (self .len) (now (cells .entry)) at ⌝ }
+    {
+        let found = position::index_of(at, self.origin, self.len);
+        cells::at(cells, found)
+    }
+
+    // The positions of the lowest and the highest non-blank cell.
+    pub fn non_blank(self, cells: &[u8]) -> Span
+        requires { ⌜ TapeOk self (now cells) ⌝ }
+        ensures { λ r. ⌜ r ≡ nonBlankOf (held self (now (cells .entry))) ⌝ }
+    {
+        let first = cells::first_written(cells, 0, self.len);
+        let last = cells::last_written(cells, self.len);
+        span(first, last, self.origin)
+    }
+
+    // How many cells are not blank.
+    pub fn count_non_blank(self, cells: &[u8]) -> u64
+        requires { ⌜ TapeOk self (now cells) ⌝ }
+        ensures { λ r. ⌜ r ≡ countOf (held self (now (cells .entry))) ⌝ }
+    {
+        cells::count_written(cells, self.len)
+    }
+
+    // The symbol `j` places above a raised position; past i64 it is blank.
+    fn get_raised(self, cells: &[u8], from: u64, j: usize) -> u8
+        requires { ⌜ TapeOk self (now cells) ⌝ }
+        ensures { λ r. ⌜ r ≡ raisedCell (held self (now (cells .entry))) (from + j) ⌝ }
+    {
+        if 18446744073709551615 - from < j as u64 {
+            return 0;
+        }
+        let found = position::index_of_raised(from + j as u64, self.origin, self.len);
+        cells::at(cells, found)
+    }
+
+    // The symbols from a raised position on, into the whole of `out`.
+    fn fill_window(self, cells: &[u8], from: u64, out: &mut [u8])
+        requires { ⌜ TapeOk self (now cells) ⌝ }
+        ensures { λ _. ⌜ now (out .exit) ≡ windowFrom (held self (now (cells .entry))) from (now (out .entry)) ⌝ }
+    {
+        let n = out.len();
+        let mut j = 0;
+        while j < n {
+            let x = self.get_raised(cells, from, j);
+            out[j] = x;
+            j += 1;
+        }
+    }
+
+    // The symbols from a position on, into the whole of `out`; positions past i64 are blank.
+    pub fn window(self, cells: &[u8], from: i64, out: &mut [u8])
+        requires { ⌜ TapeOk self (now cells) ⌝ }
+        ensures { λ _. ⌜ now (out .exit) ≡ windowOf (held self (now (cells .entry))) from (now (out .entry)) ⌝ }
+    {
+        let raised = position::raised(from);
+        self.fill_window(cells, raised, out);
+    }
+
+    // The nearest non-blank cell at a position or beyond it that way; N looks at the position alone.
+    pub fn find_non_blank(self, cells: &[u8], from: i64, dir: Dir) -> Spot
+        requires { ⌜ TapeOk self (now cells) ⌝ }
+        ensures { λ r. ⌜ r ≡ findOf (held self (now (cells .entry))) from dir ⌝ }
+    {
+        let raised = position::raised(from);
+        match dir {
+            Dir::L => {
+                let to = cells_below(raised, self.origin + 1, self.len);
+                spot(cells::last_written(cells, to), self.origin)
+            }
+            Dir::R => {
+                let start = cells_below(raised, self.origin, self.len);
+                spot(cells::first_written(cells, start, self.len), self.origin)
+            }
+            Dir::N => {
+                if self.get(cells, from) == 0 {
+                    return Spot::Nowhere;
+                }
+                Spot::At(from)
+            }
+        }
+    }
+}
+
+// How many of `len` cells lie below a raised position, where index `origin` is position 0.
+fn cells_below(raised: u64, origin: usize, len: usize) -> usize
+    requires { ⌜ (origin ≤ 4294967296) × (len ≤ 4294967296) ⌝ }
+    ensures { λ r. ⌜ r ≡ cellsBelow raised (2 ^ 63) origin len ⌝ }
+{
+    if raised < 9223372036854775808 {
+        let below = 9223372036854775808 - raised;
+        if origin as u64 <= below {
+            return 0;
+        }
+        return smaller(origin - below as usize, len);
+    }
+    let above = raised - 9223372036854775808;
+    if len as u64 <= above {
+        return len;
+    }
+    smaller(origin + above as usize, len)
+}
+
+// The positions of two indexes.
+fn span(first: Found, last: Found, origin: usize) -> Span
+    requires { ⌜ (reach first ≤ 1073741824) × (reach last ≤ 1073741824) × (origin ≤ 1073741824) ⌝ }
+    ensures { λ r. ⌜ r ≡ spanOf origin first last ⌝ }
+{
+    match first {
+        Found::Nothing => Span::Empty,
+        Found::At(i) => match last {
+            Found::Nothing => Span::Empty,
+            Found::At(j) => {
+                let from = position::of_index(i as u32, origin as u32);
+                let to = position::of_index(j as u32, origin as u32);
+                Span::Cells { from, to }
+            }
+        },
+    }
+}
+
+// The position of an index.
+fn spot(found: Found, origin: usize) -> Spot
+    requires { ⌜ (reach found ≤ 1073741824) × (origin ≤ 1073741824) ⌝ }
+    ensures { λ r. ⌜ r ≡ spotOf origin found ⌝ }
+{
+    match found {
+        Found::Nothing => Spot::Nowhere,
+        Found::At(i) => {
+            let at = position::of_index(i as u32, origin as u32);
+            Spot::At(at)
+        }
+    }
+}
