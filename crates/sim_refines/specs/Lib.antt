@@ -9,3 +9,5 @@ pub mod RunFacts
 pub mod FreshFacts
 pub mod CountFacts
 pub mod QuestionFacts
+pub mod Operations
+pub mod OperationFacts
