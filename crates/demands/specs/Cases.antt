@@ -8,7 +8,7 @@ use Rattle.laws.specs.Choice.{pick, both}
 use Rattle.laws.specs.Scan.{allIn, firstFail}
 use Rattle.laws.specs.Fill.{fillFrom}
 use Rattle.symbol.specs.Kinds.{symbolOf, stateOf}
-use Rattle.symbol.specs.declared.Dir.the-variants.{L, R, N}
+use Rattle.symbol.specs.declared.Dir.the-variants.{R, N}
 use Rattle.outcome.specs.declared.NonHaltProof.the-variants.{StayLoop, ChainToInfinity}
 use Rattle.outcome.specs.declared.Outcome.the-variants.{Halted, OutOfFuel, NeverHalts}
 use Rattle.outcome.specs.declared.Refusal.{Refusal}

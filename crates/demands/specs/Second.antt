@@ -38,16 +38,16 @@ use Rattle.sim_refines.specs.QuestionFacts.{find-is, non-blank-is, count-is}
 pub record PlainEngine : Type 0 where
   -- a fresh engine holds the start configuration, with the word on tape 0, and fits
   pub fresh : (m : Machine) (s w c0 c1 c2 : List ℕ) (v : Simulator) (d0 d1 d2 : List ℕ) → newAnswer m s w c0 c1 c2 ≡ made (New.Made v) d0 d1 d2
-    → (configOf m (conf v d0 d1 d2) ≡ start (m .start) w) × (simFits m v d0 d1 d2 ≡ true)
+      → (configOf m (conf v d0 d1 d2) ≡ start (m .start) w) × (simFits m v d0 d1 d2 ≡ true)
   -- an accepted run is a run of the table machine: configuration, step count, answer, stop rule, space (RunHolds, Refines)
   pub runs : (m : Machine) (s : List ℕ) → Bytes s → (rule : StopRule) (fuel : ℕ) (σ τ : Conf) (o : Outcome)
-    → runAnswer m s rule fuel σ ≡ given τ (Ans.Done o) → RunHolds m s rule fuel σ τ o
+      → runAnswer m s rule fuel σ ≡ given τ (Ans.Done o) → RunHolds m s rule fuel σ τ o
   -- an accepted step is one step of the table machine, or none where it has halted or lacks space
   pub steps : (m : Machine) (s : List ℕ) → Bytes s → (σ τ : Conf) (x : Status)
-    → stepAnswer m s σ ≡ stepGiven τ (StepAns.Done x) → StepHolds m s σ τ x × HandedBack m σ τ
+      → stepAnswer m s σ ≡ stepGiven τ (StepAns.Done x) → StepHolds m s σ τ x × HandedBack m σ τ
   -- where the answer is never, the table machine halts at no step
   pub never : (m : Machine) (s : List ℕ) → Bytes s → (rule : StopRule) (fuel : ℕ) (σ τ : Conf) (n : ℕ) (p : NonHaltProof)
-    → runAnswer m s rule fuel σ ≡ given τ (Ans.Done (NeverHalts n p)) → (j : ℕ) → ¬ (Halted (tableOf m s) (run (tableOf m s) j (configOf m σ)))
+      → runAnswer m s rule fuel σ ≡ given τ (Ans.Done (NeverHalts n p)) → (j : ℕ) → ¬ (Halted (tableOf m s) (run (tableOf m s) j (configOf m σ)))
   -- the questions answer what the table machine's tape holds (a cell by its position is `tapeOf`'s own; the window by `window-is`)
   pub finds : (h : Held) (z : ℤ) (d : Dir) → Finds (tapeOf h .cell) z d (findOf h z d)
   pub spans : (h : Held) → Spans (tapeOf h .cell) (nonBlankOf h)
@@ -61,7 +61,7 @@ plain-engine = record {
   never = λ m s b rule fuel σ τ n p e. run-never-halts m s b rule fuel σ τ (NeverHalts n p) e n p refl;
   finds = find-is;
   spans = non-blank-is;
-  counts = count-is
+  counts = count-is;
 }
 
 -- ---- "Packing and unpacking a one-tape entry gives the entry."

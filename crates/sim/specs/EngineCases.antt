@@ -8,7 +8,6 @@ use borrow.Author.Tests.{eq-eqb, ne-eqb}
 use Rattle.laws.specs.Choice.{pick, both}
 use Rattle.laws.specs.Tests.{both-split}
 use Rattle.symbol.specs.declared.State.{State}
-use Rattle.symbol.specs.declared.Dir.{Dir}
 use Rattle.outcome.specs.declared.NonHaltProof.{NonHaltProof}
 use Rattle.outcome.specs.declared.NonHaltProof.the-variants.{StayLoop, ChainToInfinity}
 use Rattle.outcome.specs.declared.Status.the-variants as Step

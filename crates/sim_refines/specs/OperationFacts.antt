@@ -2,26 +2,25 @@
 use mathlib.Core.Path.{_≡_, refl, sym, ap, _∙_, subst}
 use mathlib.Core.Bool.{Bool, true, false}
 use mathlib.Core.List.{List}
-use Prim.Native.Nat.{ℕ, _+_, _≤_, _<_, _^_}
+use Prim.Native.Nat.{ℕ, _+_, _≤_}
 use native.Mathlib.Omega.{arith}
-use borrow.Author.Tests.{leb-true, ltb-true, le-ltb, lt-ltb, le-leb, ltb-false}
-use lib.Dec.{ltb, leb}
+use borrow.Author.Tests.{leb-true, ltb-true, le-ltb, lt-ltb, le-leb}
+use lib.Dec.{leb}
 use lib.ListN.{length}
-use Rattle.laws.specs.Choice.{pick, both}
-use Rattle.laws.specs.Tests.{both-split, both-true, by-test, clash, pick-cases, pick-true, pick-false}
+use Rattle.laws.specs.Choice.{pick}
+use Rattle.laws.specs.Tests.{both-split, both-true, clash, pick-cases, pick-true, pick-false}
 use Rattle.symbol.specs.Kinds.{stateOf}
 use Rattle.outcome.specs.declared.NonHaltProof.{NonHaltProof}
 use Rattle.outcome.specs.declared.Outcome.{Outcome}
 use Rattle.outcome.specs.declared.Outcome.the-variants.{NeverHalts}
 use Rattle.outcome.specs.declared.Status.{Status}
 use Rattle.outcome.specs.declared.Status.the-variants as Step
-use Rattle.outcome.specs.declared.Refusal.{Refusal}
 use Rattle.machine.specs.declared.Machine.{Machine}
 use Rattle.machine.specs.declared.Action.{Action}
 use Rattle.machine.specs.declared.Entry.the-variants.{Defined}
 use Rattle.machine.specs.declared.Checked.{Checked}
 use Rattle.machine.specs.declared.Checked.the-variants.{Accepted, Refused}
-use Rattle.machine.specs.CheckFacts.{Ranges, ranges}
+use Rattle.machine.specs.CheckFacts.{ranges}
 use Rattle.machine.specs.WordFacts.{word-says}
 use Rattle.tables.specs.WellFormed.{Bytes}
 use Rattle.turing.specs.TableMachine.{Config, run, start, entry, step, Halted}
@@ -29,9 +28,9 @@ use Rattle.turing.specs.Tables.{tableOf}
 use Rattle.turing.specs.TableFacts.{accepted-table}
 use Rattle.turing.specs.RunFacts.{not-defined, step-act}
 use Rattle.tape.specs.declared.Tape.{Tape}
-use Rattle.tape.specs.Moves.{Held, held, noTape, freshOf}
+use Rattle.tape.specs.Moves.{held, noTape, freshOf}
 use Rattle.tape.specs.Fits.{tapeFits}
-use Rattle.tape.specs.FitFacts.{TapeFits, fits-says, fits-holds}
+use Rattle.tape.specs.FitFacts.{fits-says, fits-holds}
 use Rattle.sim.specs.declared.Simulator.{Simulator}
 use Rattle.sim.specs.declared.StopRule.{StopRule}
 use Rattle.sim.specs.declared.StopRule.the-variants as Rule
@@ -39,14 +38,14 @@ use Rattle.sim.specs.declared.Answer.the-variants as Ans
 use Rattle.sim.specs.declared.StepAnswer.the-variants as StepAns
 use Rattle.sim.specs.declared.Fresh.the-variants as New
 use Rattle.sim.specs.declared.inner.Look.{Look}
-use Rattle.sim.specs.declared.inner.Look.the-variants.{Halt, Never, Go}
-use Rattle.sim.specs.Engine.{Task, task, Conf, conf, tape0, tape1, tape2, End, end, onLook, lookWith, lookOf, roomyOf, stepOf, runOf, Once, once, onceOf}
-use Rattle.sim.specs.Operations.{has1, has2, ifHas, bareSim, bareOf, handBack, backOf, stepsMost, simFits, runCheck, Given, given, ranBack, runOn, runAnswer, StepGiven, stepGiven, stepBack, stepOn, stepAnswer, freshCheck, blankTape, made, madeWith, freshOn, Made, newAnswer}
+use Rattle.sim.specs.declared.inner.Look.the-variants.{Never}
+use Rattle.sim.specs.Engine.{task, Conf, conf, tape0, tape1, tape2, End, end, onLook, lookWith, roomyOf, stepOf, runOf, Once, once, onceOf}
+use Rattle.sim.specs.Operations.{has1, has2, ifHas, bareSim, bareOf, handBack, backOf, simFits, runCheck, Given, given, ranBack, runOn, runAnswer, StepGiven, stepGiven, stepBack, stepOn, stepAnswer, freshCheck, blankTape, made, madeWith, freshOn, Made, newAnswer}
 use Rattle.sim.specs.OperationCases.{Passed, run-says, FreshPassed, fresh-says}
 use Rattle.sim_refines.specs.Meaning.{tapeOf, has, tapeIf, configOf, FitsIf, EngineFits}
 use Rattle.sim_refines.specs.Statement.{Refines, Kept, Sees, no-entry, loops, goes-on}
 use Rattle.sim_refines.specs.StepFacts.{step-config, step-keeps}
-use Rattle.sim_refines.specs.LookFacts.{look-sees, no-test-no-loop}
+use Rattle.sim_refines.specs.LookFacts.{look-sees}
 use Rattle.sim_refines.specs.Refinement.{plain-refines}
 use Rattle.sim_refines.specs.RunFacts.{never-halts}
 use Rattle.sim_refines.specs.FreshFacts.{freshIf, fresh-holds, fresh-engine-fits}
@@ -66,7 +65,7 @@ config-bare m σ = λ i. record {
   steps = σ .sim .steps;
   tape0 = tapeOf (held (σ .sim .t0) (σ .c0));
   tape1 = bare-if (has m 1) (σ .sim .t1) (σ .c1) i;
-  tape2 = bare-if (has m 2) (σ .sim .t2) (σ .c2) i
+  tape2 = bare-if (has m 2) (σ .sim .t2) (σ .c2) i;
 }
 
 back-if : (has : Bool) (t u : Tape) (c : List ℕ) (k : ℕ) → FitsIf has k (held u c) → pick has (pick has u t) noTape ≡ u
@@ -82,7 +81,7 @@ bare-back m σ e f = λ i. conf (record {
   steps = e .sim .steps;
   t0 = e .sim .t0;
   t1 = back-if (has m 1) (σ .sim .t1) (e .sim .t1) (e .c1) (m .symbols) (f .fits1) i;
-  t2 = back-if (has m 2) (σ .sim .t2) (e .sim .t2) (e .c2) (m .symbols) (f .fits2) i
+  t2 = back-if (has m 2) (σ .sim .t2) (e .sim .t2) (e .c2) (m .symbols) (f .fits2) i;
 }) (e .c0) (e .c1) (e .c2)
 
 -- ---- the check's rule of fitting, and the one of the theorem
@@ -109,7 +108,7 @@ bare-fits m σ e =
       steps-in = leb-true _ _ (b .0);
       fits0 = fits-says (m .symbols) (σ .sim .t0) (σ .c0) (c .0);
       fits1 = fits-if (has m 1) (m .symbols) (σ .sim .t1) (σ .c1) (d .0);
-      fits2 = fits-if (has m 2) (m .symbols) (σ .sim .t2) (σ .c2) (d .1)
+      fits2 = fits-if (has m 2) (m .symbols) (σ .sim .t2) (σ .c2) (d .1);
     }
 
 back-fits : (m : Machine) (σ e : Conf) → EngineFits m e → simFits m (backOf m σ e .sim) (e .c0) (e .c1) (e .c2) ≡ true
@@ -125,7 +124,7 @@ unfolding handBack
 handed-back m σ e k = record {
   fits = back-fits m σ e (k .fits);
   tape1 = λ l. (pick-false (has m 1) _ _ (le-ltb 1 (m .tapes) (omega arith)), k .left1 l);
-  tape2 = λ l. (pick-false (has m 2) _ _ (le-ltb 2 (m .tapes) (omega arith)), k .left2 l)
+  tape2 = λ l. (pick-false (has m 2) _ _ (le-ltb 2 (m .tapes) (omega arith)), k .left2 l);
 }
 
 -- ---- the run
@@ -137,7 +136,7 @@ accepted-run (Refused why) σ d τ o e =
 accepted-run Accepted σ d τ o e = (refl, e)
 
 module _ (m : Machine) (s : List ℕ) (bytes : Bytes s) (rule : StopRule) (fuel : ℕ) (σ τ : Conf) (o : Outcome)
-  (done : runAnswer m s rule fuel σ ≡ given τ (Ans.Done o)) where
+    (done : runAnswer m s rule fuel σ ≡ given τ (Ans.Done o)) where
   abbrev ending : End
   ending = runOf (task m s true rule) fuel (bareOf m σ)
 
@@ -166,7 +165,7 @@ module _ (m : Machine) (s : List ℕ) (bytes : Bytes s) (rule : StopRule) (fuel 
     refines = subst (Refines (task m s true rule) fuel (bareOf m σ)) end-is refined;
     same-before = config-bare m σ;
     same-after = config-bare m τ;
-    back = subst (HandedBack m σ) back-is (handed-back m σ (ending .at) (refined .went .kept))
+    back = subst (HandedBack m σ) back-is (handed-back m σ (ending .at) (refined .went .kept));
   }
 
   -- "`never` means never": nor at any later step, nor from where the run began
@@ -231,12 +230,12 @@ module _ (m : Machine) (s : List ℕ) (bytes : Bytes s) (σ τ : Conf) (x : Stat
           record {
             kept = k;
             holds = running (λ h. not-defined _ a (ap (entry (tableOf m s)) (config-bare m σ) ∙ h) e)
-                (config-back _ (k .fits) ∙ step-config m s (bareOf m σ) bare-engine t a e r ∙ sym (step-act (tableOf m s) _ a e) ∙ ap (step (tableOf m s)) (config-bare m σ))
+                (config-back _ (k .fits) ∙ step-config m s (bareOf m σ) bare-engine t a e r ∙ sym (step-act (tableOf m s) _ a e) ∙ ap (step (tableOf m s)) (config-bare m σ));
           })
           (λ r. record { kept = still; holds = full a (sym (ap (entry (tableOf m s)) (config-bare m σ)) ∙ e) r back-same })
 
       by : (l : Look) → lookWith m s false (bareOf m σ) ≡ l → Sees (task m s false Rule.Never) (configOf m (bareOf m σ)) l
-        → Stepped (onLook l (once (bareOf m σ) Step.Halted) (λ p. once (bareOf m σ) Step.Halted)
+          → Stepped (onLook l (once (bareOf m σ) Step.Halted) (λ p. once (bareOf m σ) Step.Halted)
           (λ a. pick (roomyOf (bareOf m σ) a) (once (stepOf (bareOf m σ) a) Step.Running) (once (bareOf m σ) Step.Full)))
       by l q (no-entry h) = record { kept = still; holds = halted (sym (ap (entry (tableOf m s)) (config-bare m σ)) ∙ h) back-same }
       by l q (loops p t v) = absurd (clash t refl)
@@ -251,7 +250,7 @@ module _ (m : Machine) (s : List ℕ) (bytes : Bytes s) (σ τ : Conf) (x : Stat
 -- ---- a fresh engine
 
 accepted-fresh : (c : Checked) (c0 c1 c2 : List ℕ) (d : Made) (v : Simulator) (d0 d1 d2 : List ℕ) → freshOn c c0 c1 c2 d ≡ made (New.Made v) d0 d1 d2
-  → (c ≡ Accepted) × (d ≡ made (New.Made v) d0 d1 d2)
+    → (c ≡ Accepted) × (d ≡ made (New.Made v) d0 d1 d2)
 accepted-fresh (Refused why) c0 c1 c2 d v d0 d1 d2 e =
     let k = ap (λ (g : Made). g .answer) e in
     let z : _≡_ {A = ℕ} 0 1 = cc in absurd (omega arith)
@@ -262,7 +261,7 @@ room-if has n e h = leb-true 32 n (sym (pick-true has (leb 32 n) true h) ∙ e)
 
 module _ (m : Machine) (s w c0 c1 c2 : List ℕ) (v : Simulator) (d0 d1 d2 : List ℕ) (done : newAnswer m s w c0 c1 c2 ≡ made (New.Made v) d0 d1 d2) where
   new-accepted : (freshCheck m s w (length c0) (length c1) (length c2) ≡ Accepted)
-    × (madeWith m (freshOf w c0) (blankTape (has1 m) c1) (blankTape (has2 m) c2) ≡ made (New.Made v) d0 d1 d2)
+      × (madeWith m (freshOf w c0) (blankTape (has1 m) c1) (blankTape (has2 m) c2) ≡ made (New.Made v) d0 d1 d2)
   unfolding newAnswer
   new-accepted = accepted-fresh _ _ _ _ _ _ _ _ _ done
 

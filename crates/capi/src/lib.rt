@@ -1,0 +1,5 @@
+// The engines behind functions with C linkage, on numbers and slices. Each returns 0, or the number of its refusal.
+mod numbers;
+pub mod plain;
+pub mod questions;
+pub mod tables;

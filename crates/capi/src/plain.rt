@@ -1,0 +1,95 @@
+// The plain engine: fresh, one step, a run.
+use super::numbers;
+use sim::Fresh;
+use sim::Simulator;
+ghost use mathlib.Core.Path.{_≡_};
+ghost use Rattle.sim.specs.Engine.{conf};
+ghost use Rattle.sim.specs.Operations.{newAnswer, stepAnswer, runAnswer};
+ghost use Rattle.capi.specs.Numbers.{machineOf, engineOf, ruleOf};
+ghost use Rattle.capi.specs.Calls.{call, newCall, stepCall, ranCall};
+
+#[no_mangle]
+pub extern "C" fn tm_sim_new(
+    tapes: u64,
+    symbols: u64,
+    states: u64,
+    start: u64,
+    table: &[u8],
+    word: &[u8],
+    c0: &mut [u8],
+    c1: &mut [u8],
+    c2: &mut [u8],
+    state: &mut u16,
+    engine: &mut [u64; 16],
+    out: &mut [u64; 8],
+) -> u8
+    ensures { λ r. ⌜ call r (now (state .exit)) (now (engine .exit)) (now (out .exit)) (now (c0 .exit)) (now (c1 .exit)) (now (c2 .exit)) ≡ newCall (newAnswer (machineOf tapes symbols states start) (now (table .entry)) (now (word .entry)) (now (c0 .entry)) (now (c1 .entry)) (now (c2 .entry))) (now (state .entry)) (now (engine .entry)) (now (out .entry)) ⌝ }
+{
+    let m = numbers::machine_of(tapes, symbols, states, start);
+    let fresh = Simulator::new(m, table, word, c0, c1, c2);
+    match fresh {
+        Fresh::Made(sim) => {
+            *state = sim.state.0;
+            numbers::put_engine(engine, sim);
+            return 0;
+        }
+        Fresh::Refused(why) => {
+            return numbers::refuse(out, why);
+        }
+    }
+}
+
+#[no_mangle]
+pub extern "C" fn tm_sim_step(
+    tapes: u64,
+    symbols: u64,
+    states: u64,
+    start: u64,
+    table: &[u8],
+    c0: &mut [u8],
+    c1: &mut [u8],
+    c2: &mut [u8],
+    state: &mut u16,
+    engine: &mut [u64; 16],
+    out: &mut [u64; 8],
+) -> u8
+    ensures { λ r. ⌜ call r (now (state .exit)) (now (engine .exit)) (now (out .exit)) (now (c0 .exit)) (now (c1 .exit)) (now (c2 .exit)) ≡ stepCall (stepAnswer (machineOf tapes symbols states start) (now (table .entry)) (conf (engineOf (now (state .entry)) (now (engine .entry))) (now (c0 .entry)) (now (c1 .entry)) (now (c2 .entry)))) (now (engine .entry)) (now (out .entry)) ⌝ }
+{
+    let m = numbers::machine_of(tapes, symbols, states, start);
+    let sim = numbers::engine_of(*state, engine);
+    let stepped = sim.step(m, table, c0, c1, c2);
+    let after = stepped.sim;
+    let answer = stepped.answer;
+    *state = after.state.0;
+    numbers::put_engine(engine, after);
+    numbers::tell_step(out, answer)
+}
+
+#[no_mangle]
+pub extern "C" fn tm_sim_run(
+    tapes: u64,
+    symbols: u64,
+    states: u64,
+    start: u64,
+    table: &[u8],
+    c0: &mut [u8],
+    c1: &mut [u8],
+    c2: &mut [u8],
+    state: &mut u16,
+    engine: &mut [u64; 16],
+    rule: u64,
+    fuel: u64,
+    out: &mut [u64; 8],
+) -> u8
+    ensures { λ r. ⌜ call r (now (state .exit)) (now (engine .exit)) (now (out .exit)) (now (c0 .exit)) (now (c1 .exit)) (now (c2 .exit)) ≡ ranCall (runAnswer (machineOf tapes symbols states start) (now (table .entry)) (ruleOf rule) fuel (conf (engineOf (now (state .entry)) (now (engine .entry))) (now (c0 .entry)) (now (c1 .entry)) (now (c2 .entry)))) (now (engine .entry)) (now (out .entry)) ⌝ }
+{
+    let m = numbers::machine_of(tapes, symbols, states, start);
+    let sim = numbers::engine_of(*state, engine);
+    let stop = numbers::rule_of(rule);
+    let ran = sim.run(m, table, c0, c1, c2, stop, fuel);
+    let after = ran.sim;
+    let answer = ran.answer;
+    *state = after.state.0;
+    numbers::put_engine(engine, after);
+    numbers::tell_answer(out, answer)
+}
