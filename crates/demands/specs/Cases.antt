@@ -29,7 +29,7 @@ use Rattle.sim.specs.declared.Answer.the-variants.{Done, Refused}
 use Rattle.sim.specs.declared.Fresh.{Fresh}
 use Rattle.sim.specs.declared.Fresh.the-variants as New
 use Rattle.sim.specs.Engine.{conf, stays, staysAll, loopOf, judgeOf, lookOn, entryOf, lookWith, roomsFor, stepOf, matches, runOf}
-use Rattle.sim.specs.Operations.{bareSim, handBack, sizesFit, simFits, engineCheck, fuelFits, runCheck, runAnswer, freshSizes, freshCheck, Made, newAnswer}
+use Rattle.sim.specs.Operations.{bareSim, handBack, sizesFit, simFits, valueCheck, fuelFits, fuelCheck, runCheck, runAnswer, freshSizes, freshCheck, Made, newAnswer}
 use Rattle.demands.specs.CaseTables.{machine, listing, walker, stayer, writer, pair}
 
 -- a run of a fresh engine with 64 cells a tape
@@ -78,7 +78,7 @@ pub data AllRight : List Case → Type 0 where
   right : {a b : Answer} {rest : List Case} → a ≡ b → AllRight rest → AllRight (case a b ∷ rest)
 
 pub starred-cases : AllRight starred
-unfolding runAnswer runCheck engineCheck tableCheck sizeCheck entriesCheck entryOk definedOk allIn firstFail pick both sizesFit simFits tapeFits fuelFits newAnswer freshCheck freshSizes wordCheck symbolsCheck freshOf blanked laid fillFrom bareSim handBack runOf lookWith lookOn entryOf entryAt actionAt judgeOf loopOf staysAll stays blankBeyond readOf roomsFor roomFor leaves extra stepOf actOf moveOf grownBy movedUp shiftOf matches
+unfolding runAnswer runCheck fuelCheck valueCheck tableCheck sizeCheck entriesCheck entryOk definedOk allIn firstFail pick both sizesFit simFits tapeFits fuelFits newAnswer freshCheck freshSizes wordCheck symbolsCheck freshOf blanked laid fillFrom bareSim handBack runOf lookWith lookOn entryOf entryAt actionAt judgeOf loopOf staysAll stays blankBeyond readOf roomsFor roomFor leaves extra stepOf actOf moveOf grownBy movedUp shiftOf matches
 starred-cases = right refl (right refl (right refl (right refl (right refl (right refl (right refl (right refl done)))))))
 
 -- "Packed 1, R, next 1, stride 2: 8,590,000,385."

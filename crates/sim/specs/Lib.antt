@@ -6,3 +6,4 @@ pub mod EngineCases
 pub mod TurnCases
 pub mod OperationCases
 pub mod QuestionCases
+pub mod FastCases

@@ -32,7 +32,7 @@ use Rattle.sim.specs.declared.StepAnswer.the-variants as StepAns
 use Rattle.sim.specs.declared.Fresh.the-variants as New
 use Rattle.sim.specs.Engine.{Conf, conf, task, end, runOf, once, onceOf}
 use Rattle.sim.specs.Turns.{LookOk, RunOk}
-use Rattle.sim.specs.Operations.{has1, has2, ifHas, bareSim, handBack, cellsMost, stepsMost, sizesFit, simFits, engineCheck, fuelFits, runCheck, given, runAnswer, stepGiven, stepAnswer, freshSizes, freshCheck, blankTape, made, madeWith, newAnswer}
+use Rattle.sim.specs.Operations.{has1, has2, ifHas, bareSim, handBack, cellsMost, stepsMost, sizesFit, simFits, valueCheck, engineCheck, fuelFits, fuelCheck, runCheck, wordsRight, fastCheck, given, runAnswer, stepGiven, stepAnswer, freshSizes, freshCheck, blankTape, made, madeWith, newAnswer}
 
 -- ---- the checks' returns
 
@@ -41,33 +41,45 @@ module _ (m : Machine) (s : List ℕ) (v : Simulator) (c0 c1 c2 : List ℕ) (r :
   unfolding engineCheck
   engine-table why e = rw (← checked, e)
 
-  module _ (passed : r ≡ Accepted) (z : Bool) (sizes : z ≡ sizesFit m (length c0) (length c1) (length c2)) where
-    pub engine-sizes : z ≡ false → Refused Why.BufferSize ≡ engineCheck m s (conf v c0 c1 c2)
-    unfolding engineCheck pick
-    engine-sizes e = rw (← checked, passed, ← sizes, e)
+  pub engine-value : (x : Checked) → r ≡ Accepted → x ≡ valueCheck m (conf v c0 c1 c2) → x ≡ engineCheck m s (conf v c0 c1 c2)
+  unfolding engineCheck
+  engine-value x e p = rw (← checked, e) p
 
-    module _ (sized : z ≡ true) (f : Bool) (fits : f ≡ simFits m v c0 c1 c2) where
-      pub engine-misfit : f ≡ false → Refused Why.Misfit ≡ engineCheck m s (conf v c0 c1 c2)
-      unfolding engineCheck pick
-      engine-misfit e = rw (← checked, passed, ← sizes, sized, ← fits, e)
+module _ (m : Machine) (fuel : ℕ) (v : Simulator) (c0 c1 c2 : List ℕ) (r : Checked) (checked : r ≡ valueCheck m (conf v c0 c1 c2)) where
+  pub fuel-refused : (why : Refusal) → r ≡ Refused why → Refused why ≡ fuelCheck m fuel (conf v c0 c1 c2)
+  unfolding fuelCheck
+  fuel-refused why e = rw (← checked, e)
 
-      pub engine-passed : f ≡ true → Accepted ≡ engineCheck m s (conf v c0 c1 c2)
-      unfolding engineCheck pick
-      engine-passed e = rw (← checked, passed, ← sizes, sized, ← fits, e)
+  module _ (passed : r ≡ Accepted) (b : Bool) (limit : b ≡ fuelFits (v .steps) fuel) where
+    pub fuel-over : b ≡ false → Refused Why.StepLimit ≡ fuelCheck m fuel (conf v c0 c1 c2)
+    unfolding fuelCheck pick
+    fuel-over e = rw (← checked, passed, ← limit, e)
 
-module _ (m : Machine) (s : List ℕ) (fuel : ℕ) (v : Simulator) (c0 c1 c2 : List ℕ) (r : Checked) (checked : r ≡ engineCheck m s (conf v c0 c1 c2)) where
+    pub fuel-passed : b ≡ true → Accepted ≡ fuelCheck m fuel (conf v c0 c1 c2)
+    unfolding fuelCheck pick
+    fuel-passed e = rw (← checked, passed, ← limit, e)
+
+module _ (m : Machine) (s words : List ℕ) (fuel : ℕ) (v : Simulator) (c0 c1 c2 : List ℕ) (r : Checked) (checked : r ≡ tableCheck m s) where
   pub run-refused : (why : Refusal) → r ≡ Refused why → Refused why ≡ runCheck m s fuel (conf v c0 c1 c2)
   unfolding runCheck
   run-refused why e = rw (← checked, e)
 
-  module _ (passed : r ≡ Accepted) (b : Bool) (limit : b ≡ fuelFits (v .steps) fuel) where
-    pub run-over : b ≡ false → Refused Why.StepLimit ≡ runCheck m s fuel (conf v c0 c1 c2)
-    unfolding runCheck pick
-    run-over e = rw (← checked, passed, ← limit, e)
+  pub run-passed : (x : Checked) → r ≡ Accepted → x ≡ fuelCheck m fuel (conf v c0 c1 c2) → x ≡ runCheck m s fuel (conf v c0 c1 c2)
+  unfolding runCheck
+  run-passed x e p = rw (← checked, e) p
 
-    pub run-passed : b ≡ true → Accepted ≡ runCheck m s fuel (conf v c0 c1 c2)
-    unfolding runCheck pick
-    run-passed e = rw (← checked, passed, ← limit, e)
+  pub fast-refused : (why : Refusal) → r ≡ Refused why → Refused why ≡ fastCheck m s words fuel (conf v c0 c1 c2)
+  unfolding fastCheck
+  fast-refused why e = rw (← checked, e)
+
+  module _ (passed : r ≡ Accepted) (b : Bool) (right : b ≡ wordsRight m s words) where
+    pub fast-wrong : b ≡ false → Refused Why.PackedWords ≡ fastCheck m s words fuel (conf v c0 c1 c2)
+    unfolding fastCheck pick
+    fast-wrong e = rw (← checked, passed, ← right, e)
+
+    pub fast-passed : (x : Checked) → b ≡ true → x ≡ fuelCheck m fuel (conf v c0 c1 c2) → x ≡ fastCheck m s words fuel (conf v c0 c1 c2)
+    unfolding fastCheck pick
+    fast-passed x e p = rw (← checked, passed, ← right, e) p
 
 -- ---- what a passed check says
 
@@ -80,13 +92,15 @@ pub record Passed (m : Machine) (s : List ℕ) (σ : Conf) : Type 0 where
   pub sizes : sizesFit m (length (σ .c0)) (length (σ .c1)) (length (σ .c2)) ≡ true
   pub fits : simFits m (σ .sim) (σ .c0) (σ .c1) (σ .c2) ≡ true
 
+value-says : (m : Machine) (s : List ℕ) (σ : Conf) → tableCheck m s ≡ Accepted → valueCheck m σ ≡ Accepted → Passed m s σ
+unfolding valueCheck
+value-says m s σ t e =
+    let z = demand-says _ _ _ e in
+    record { table = t; sizes = z .0; fits = demand-says _ _ _ (z .1) .0 }
+
 pub engine-says : (m : Machine) (s : List ℕ) (σ : Conf) → engineCheck m s σ ≡ Accepted → Passed m s σ
 unfolding engineCheck
-engine-says m s σ e =
-    let t = on-says _ _ e in
-    let z = demand-says _ _ _ (t .1) in
-    let f = demand-says _ _ _ (z .1) in
-    record { table = t .0; sizes = z .0; fits = f .0 }
+engine-says m s σ e = let t = on-says _ _ e in value-says m s σ (t .0) (t .1)
 
 -- ---- and gives the run: the tapes are safe, and the step count stays below its limit
 
@@ -121,10 +135,11 @@ fuel-says steps fuel e =
     omega (arith, leb-true fuel stepsMost (p .0), leb-true steps (stepsMost - fuel) (p .1))
 
 pub run-says : (m : Machine) (s : List ℕ) (fuel : ℕ) (σ : Conf) → runCheck m s fuel σ ≡ Accepted → Passed m s σ × (σ .sim .steps + fuel ≤ 4611686018427387904)
-unfolding runCheck
+unfolding runCheck fuelCheck
 run-says m s fuel σ e =
     let t = on-says _ _ e in
-    (engine-says m s σ (t .0), fuel-says _ fuel (demand-says _ _ _ (t .1) .0))
+    let u = on-says _ _ (t .1) in
+    (value-says m s σ (t .0) (u .0), fuel-says _ fuel (demand-says _ _ _ (u .1) .0))
 
 pub run-ok : (m : Machine) (s : List ℕ) (fuel : ℕ) (v : Simulator) (c0 c1 c2 : List ℕ) (r : Checked) (b : Simulator) (stride : ℕ)
     → r ≡ runCheck m s fuel (conf v c0 c1 c2) → r ≡ Accepted → b ≡ bareSim (m .tapes) v → stride ≡ strideOf m → stride ≤ 16777216

@@ -2,9 +2,10 @@
 use mathlib.Core.Bool.{Bool, true}
 use mathlib.Core.List.{List, []}
 use Prim.Native.Nat.{ℕ, _+_, _-_, _^_}
-use lib.Dec.{ltb, leb}
-use lib.ListN.{length}
+use lib.Dec.{eqb, ltb, leb}
+use lib.ListN.{length, getD}
 use Rattle.laws.specs.Choice.{pick, both}
+use Rattle.laws.specs.Scan.{allIn}
 use Rattle.symbol.specs.Kinds.{stateOf}
 use Rattle.outcome.specs.declared.Refusal.{Refusal}
 use Rattle.outcome.specs.declared.Refusal.the-variants as Why
@@ -12,6 +13,8 @@ use Rattle.machine.specs.declared.Machine.{Machine}
 use Rattle.machine.specs.declared.Checked.{Checked}
 use Rattle.machine.specs.declared.Checked.the-variants.{Accepted, Refused}
 use Rattle.machine.specs.Check.{within, demand, checkedOn, tableCheck}
+use Rattle.machine.specs.Layout.{entryCount}
+use Rattle.machine.specs.Packing.{wordAt}
 use Rattle.machine.specs.Word.{wordCheck}
 use Rattle.tape.specs.Moves.{Held, held, noTape, freshOf}
 use Rattle.tape.specs.Fits.{tapeFits}
@@ -83,20 +86,40 @@ simFits m v c0 c1 c2 =
     (both (tapeFits (m .symbols) (v .t0) c0)
     (both (ifHas (has1 m) (tapeFits (m .symbols) (v .t1) c1)) (ifHas (has2 m) (tapeFits (m .symbols) (v .t2) c2)))))
 
--- the table check, then "11 for the upper sizes; 12 an engine value that doesn't fit"
+-- "11 for the upper sizes; 12 an engine value that doesn't fit"
+unfoldable pub valueCheck : Machine → Conf → Checked
+valueCheck m σ =
+    demand (sizesFit m (length (σ .c0)) (length (σ .c1)) (length (σ .c2))) Why.BufferSize
+    (demand (simFits m (σ .sim) (σ .c0) (σ .c1) (σ .c2)) Why.Misfit Accepted)
+
+-- after the table check
 unfoldable pub engineCheck : Machine → List ℕ → Conf → Checked
-engineCheck m s σ =
-    checkedOn (tableCheck m s)
-    (demand (sizesFit m (length (σ .c0)) (length (σ .c1)) (length (σ .c2))) Why.BufferSize
-    (demand (simFits m (σ .sim) (σ .c0) (σ .c1) (σ .c2)) Why.Misfit Accepted))
+engineCheck m s σ = checkedOn (tableCheck m s) (valueCheck m σ)
 
 -- ---- the run: 13 "steps + fuel over 2^62", without computing a sum that could wrap
 
 unfoldable pub fuelFits : (steps fuel : ℕ) → Bool
 fuelFits steps fuel = both (leb fuel stepsMost) (leb steps (stepsMost - fuel))
 
+abbrev pub wordRight : List ℕ → ℕ → List ℕ → ℕ → Bool
+wordRight s k words i = eqb (getD words i 0) (wordAt s k i)
+
+-- 11, 12, 13
+unfoldable pub fuelCheck : Machine → ℕ → Conf → Checked
+fuelCheck m fuel σ = checkedOn (valueCheck m σ) (demand (fuelFits (σ .sim .steps) fuel) Why.StepLimit Accepted)
+
 unfoldable pub runCheck : Machine → List ℕ → ℕ → Conf → Checked
-runCheck m s fuel σ = checkedOn (engineCheck m s σ) (demand (fuelFits (σ .sim .steps) fuel) Why.StepLimit Accepted)
+runCheck m s fuel σ = checkedOn (tableCheck m s) (fuelCheck m fuel σ)
+
+-- the fast run: after the table check "7 packed words not the table's (more than one tape also counts)", exactly as many as the table has
+unfoldable pub wordsRight : Machine → (s words : List ℕ) → Bool
+wordsRight m s words =
+    both (eqb (m .tapes) 1) (both (eqb (length words) (entryCount m)) (allIn (wordRight s (m .symbols) words) (entryCount m) 0))
+
+unfoldable pub fastCheck : Machine → (s words : List ℕ) → ℕ → Conf → Checked
+fastCheck m s words fuel σ =
+    checkedOn (tableCheck m s)
+    (demand (wordsRight m s words) Why.PackedWords (fuelCheck m fuel σ))
 
 -- an answer, with the engine and the buffers as they are left
 pub record Given : Type 0 where
@@ -116,6 +139,11 @@ runOn Accepted σ done = done
 unfoldable pub runAnswer : Machine → List ℕ → StopRule → ℕ → Conf → Given
 runAnswer m s rule fuel σ =
     runOn (runCheck m s fuel σ) σ (ranBack m σ (runOf (task m s true rule) fuel (bareOf m σ)))
+
+-- it "answers as `run` does"
+unfoldable pub fastAnswer : Machine → (s words : List ℕ) → StopRule → ℕ → Conf → Given
+fastAnswer m s words rule fuel σ =
+    runOn (fastCheck m s words fuel σ) σ (ranBack m σ (runOf (task m s true rule) fuel (bareOf m σ)))
 
 -- ---- one step, "a step counts as fuel 1": "running, halted or full"
 

@@ -13,7 +13,7 @@ ghost use Rattle.machine.specs.Check.{within};
 ghost use Rattle.tape.specs.Fits.{tapeFits};
 ghost use Rattle.tape.specs.Moves.{held};
 ghost use Rattle.sim.specs.Engine.{conf};
-ghost use Rattle.sim.specs.Operations.{ifHas, cellsMost, has1, has2, bareSim, handBack, sizesFit, simFits, engineCheck, fuelFits, runCheck, freshSizes, freshCheck, blankTape};
+ghost use Rattle.sim.specs.Operations.{ifHas, cellsMost, has1, has2, bareSim, handBack, sizesFit, simFits, valueCheck, engineCheck, fuelFits, fuelCheck, runCheck, freshSizes, freshCheck, blankTape};
 ghost use Rattle.laws.specs.Choice.{pick};
 
 fn size_fits(has: bool, n: usize) -> bool
@@ -171,6 +171,19 @@ impl Simulator {
         tape_fits(2 < t, k, t2, c2)
     }
 
+    // 11, 12.
+    fn value_check(self, m: Machine, c0: &[u8], c1: &[u8], c2: &[u8]) -> Checked
+        ensures { λ r. ⌜ r ≡ valueCheck m (conf self (now (c0 .entry)) (now (c1 .entry)) (now (c2 .entry))) ⌝ }
+    {
+        if !sizes_fit(m, c0.len(), c1.len(), c2.len()) {
+            return Checked::Refused(Refusal::BufferSize);
+        }
+        if !self.fits(m, c0, c1, c2) {
+            return Checked::Refused(Refusal::Misfit);
+        }
+        Checked::Accepted
+    }
+
     // The table check, 11, 12.
     pub(crate) fn engine_check(
         self,
@@ -188,18 +201,30 @@ impl Simulator {
                 return Checked::Refused(why);
             }
             Checked::Accepted => {
-                if !sizes_fit(m, c0.len(), c1.len(), c2.len()) {
-                    return Checked::Refused(Refusal::BufferSize);
-                }
-                if !self.fits(m, c0, c1, c2) {
-                    return Checked::Refused(Refusal::Misfit);
+                return self.value_check(m, c0, c1, c2);
+            }
+        }
+    }
+
+    // 11, 12, 13.
+    pub(crate) fn fuel_check(self, m: Machine, c0: &[u8], c1: &[u8], c2: &[u8], fuel: u64) -> Checked
+        ensures { λ r. ⌜ r ≡ fuelCheck m fuel (conf self (now (c0 .entry)) (now (c1 .entry)) (now (c2 .entry))) ⌝ }
+    {
+        let checked = self.value_check(m, c0, c1, c2);
+        match checked {
+            Checked::Refused(why) => {
+                return Checked::Refused(why);
+            }
+            Checked::Accepted => {
+                if !fuel_fits(self.steps, fuel) {
+                    return Checked::Refused(Refusal::StepLimit);
                 }
                 return Checked::Accepted;
             }
         }
     }
 
-    // The same, and 13.
+    // The table check, 11, 12, 13.
     pub(crate) fn run_check(
         self,
         m: Machine,
@@ -211,16 +236,13 @@ impl Simulator {
     ) -> Checked
         ensures { λ r. ⌜ r ≡ runCheck m (now (table .entry)) fuel (conf self (now (c0 .entry)) (now (c1 .entry)) (now (c2 .entry))) ⌝ }
     {
-        let checked = self.engine_check(m, table, c0, c1, c2);
+        let checked = m.check(table);
         match checked {
             Checked::Refused(why) => {
                 return Checked::Refused(why);
             }
             Checked::Accepted => {
-                if !fuel_fits(self.steps, fuel) {
-                    return Checked::Refused(Refusal::StepLimit);
-                }
-                return Checked::Accepted;
+                return self.fuel_check(m, c0, c1, c2, fuel);
             }
         }
     }

@@ -11,6 +11,7 @@ ghost use Rattle.sim.specs.Engine.{conf};
 ghost use Rattle.sim.specs.Operations.{given, runAnswer, stepGiven, stepAnswer, made, newAnswer};
 
 mod checks;
+mod fast;
 pub mod inner;
 pub mod questions;
 

@@ -1,46 +1,37 @@
-use borrow.Author.Tests.{not-true, not-false}
-use Rattle.sim.specs.OperationCases.{engine-table, engine-sizes, engine-misfit, engine-passed}
+use Rattle.sim.specs.OperationCases.{engine-table, engine-value}
 use borrow.Author.Needs.{needs}
 use Rattle.sim.proofs.Simulator.engine_check.Statement.{statement}
 use Rattle.sim.proofs.Simulator.engine_check.Tie as tie
+use Rattle.sim.proofs.Simulator.engine_check.Reads as reads
+use Rattle.sim.proofs.Simulator.engine_check.Lts as lts
+use Rattle.machine.proofs.Machine.check.Reads as check-reads
+use Rattle.sim.proofs.Simulator.value_check.Reads as value-check-reads
 
+-- src/checks.rt:198:13
 check-requires : tie.Need-check-requires
 check-requires c κs = search needs
 
+-- src/checks.rt:200:30
 enum-known-checked : tie.Need-enum-known-checked
 enum-known-checked c = search needs
 
+-- src/checks.rt:201:17
 returns : tie.Need-returns
 returns c = engine-table _ _ _ _ _ _ _ (c .before .before .before .check .ensures) _ (c .before .checked .given .1)
 
+-- src/checks.rt:204:17
 enum-told : tie.Need-enum-told
 enum-told c = search needs
 
-sizes-fit-requires : tie.Need-sizes-fit-requires
-sizes-fit-requires c κs = search needs
+-- src/checks.rt:204:17
+value-check-requires : tie.Need-value-check-requires
+value-check-requires c κs = search needs
 
+-- src/checks.rt:204:17
 returns-2 : tie.Need-returns-2
-returns-2 c = engine-sizes _ _ _ _ _ _ _ (c .before .before .before .before .check .ensures) (c .before .before .enum-told .given .1) _ (c .before .sizes-fit .ensures) (not-true _ (c .if1 .taken))
-
-fits-requires : tie.Need-fits-requires
-fits-requires c κs = search needs
-
-returns-3 : tie.Need-returns-3
-returns-3 c = engine-misfit _ _ _ _ _ _ _ (c .before .before .before .before .before .before .check .ensures) (c .before .before .before .before .enum-told .given .1) _ (c .before .before .before .sizes-fit .ensures) (not-false _ (c .before .before .if1 .left)) _ (c .before .fits2 .ensures) (not-true _ (c .if2 .taken))
-
-returns-4 : tie.Need-returns-4
-returns-4 c = engine-passed _ _ _ _ _ _ _ (c .before .before .before .before .before .before .check .ensures) (c .before .before .before .before .enum-told .given .1) _ (c .before .before .before .sizes-fit .ensures) (not-false _ (c .before .before .if1 .left)) _ (c .before .fits2 .ensures) (not-false _ (c .if2 .left))
+returns-2 c = engine-value _ _ _ _ _ _ _ (c .before .before .before .check .ensures) _ (c .before .enum-told .given .1) (c .value-check .ensures)
 
 pub engine-check-spec : {M : Type 1} → statement M
 engine-check-spec =
     tie.close
-    (tie.spec
-    check-requires
-    enum-known-checked
-    returns
-    enum-told
-    sizes-fit-requires
-    returns-2
-    fits-requires
-    returns-3
-    returns-4)
+    (tie.spec check-requires enum-known-checked returns enum-told value-check-requires returns-2)
