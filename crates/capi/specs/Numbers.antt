@@ -55,13 +55,13 @@ ruleOf n = pick (ltb n 65536) (Rule.From (stateOf n)) Rule.Never
 unfoldable pub told : List ℕ → (a b c d e : ℕ) → List ℕ
 told xs a b c d e = set (set (set (set (set xs 0 a) 1 b) 2 c) 3 d) 4 e
 
-abbrev pub placeNumber : Place → ℕ
-placeNumber (At i) = i
-placeNumber Unsaid = 0
+abbrev pub placeOut : Place → List ℕ → List ℕ
+placeOut (At i) xs = set xs 0 i
+placeOut Unsaid xs = xs
 
--- a refusal gives its place, where it has one
+-- a refusal gives its place, where it has one, and else writes nothing
 abbrev pub refusedOut : Refusal → List ℕ → List ℕ
-refusedOut why xs = set xs 0 (placeNumber (placeOf why))
+refusedOut why xs = placeOut (placeOf why) xs
 
 abbrev pub checkedCode : Checked → ℕ
 checkedCode Check.Accepted = 0

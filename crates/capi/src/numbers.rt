@@ -14,7 +14,7 @@ ghost use mathlib.Core.Path.{_≡_};
 ghost use Prim.Native.Nat.{_+_, _≤_, _<_};
 ghost use lib.ListN.{set, length};
 ghost use Rattle.outcome.specs.Numbers.{refusalNumber};
-ghost use Rattle.capi.specs.Numbers.{machineOf, tapeFrom, engineOf, withTape, withEngine, ruleOf, told, placeNumber, refusedOut, checkedCode, checkedOut, valuesOut, answerCode, answerOut, stepCode, stepOut};
+ghost use Rattle.capi.specs.Numbers.{machineOf, tapeFrom, engineOf, withTape, withEngine, ruleOf, told, placeOut, refusedOut, checkedCode, checkedOut, valuesOut, answerCode, answerOut, stepCode, stepOut};
 
 pub(crate) fn machine_of(tapes: u64, symbols: u64, states: u64, start: u64) -> Machine
     ensures { λ r. ⌜ r ≡ machineOf tapes symbols states start ⌝ }
@@ -97,19 +97,21 @@ fn tell(xs: &mut [u64; 8], v: Values)
     xs[4] = v.dir as u64;
 }
 
-fn place_number(place: Place) -> u64
-    ensures { λ r. ⌜ r ≡ placeNumber place ⌝ }
+fn put_place(xs: &mut [u64; 8], place: Place)
+    ensures { λ _. ⌜ now (xs .exit) ≡ placeOut place (now (xs .entry)) ⌝ }
 {
     match place {
-        Place::At(i) => i,
-        Place::Unsaid => 0,
+        Place::At(i) => {
+            xs[0] = i;
+        }
+        Place::Unsaid => {}
     }
 }
 
 pub(crate) fn refuse(xs: &mut [u64; 8], why: Refusal) -> u8
     ensures { λ r. ⌜ (r ≡ refusalNumber why) × (now (xs .exit) ≡ refusedOut why (now (xs .entry))) ⌝ }
 {
-    xs[0] = place_number(why.place());
+    put_place(xs, why.place());
     why.number()
 }
 

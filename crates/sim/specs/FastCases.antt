@@ -18,7 +18,7 @@ use Rattle.machine.specs.Packing.{packWord, wordAt}
 use Rattle.sim.specs.Operations.{wordRight, wordsRight}
 
 module _ (s : List ℕ) (k : ℕ) (words : List ℕ) (n i : ℕ) (x : Bool) (from : allIn (wordRight s k words) (n - i) i ≡ x) (e : Entry) (w : ℕ)
-  (here : i < n) (found : e ≡ entryAt s i) (word : w ≡ packWord e k) where
+    (here : i < n) (found : e ≡ entryAt s i) (word : w ≡ packWord e k) where
   is-word : w ≡ wordAt s k i
   unfolding wordAt
   is-word = word ∙ ap (λ (y : Entry). packWord y k) found
@@ -48,7 +48,7 @@ module _ (m : Machine) (s words : List ℕ) where
 
 -- where the words are right: one tape, and each word is that of its entry
 pub words-say : (m : Machine) (s words : List ℕ) → wordsRight m s words ≡ true
-  → (m .tapes ≡ 1) × (length words ≡ m .states * m .symbols) × ((i : ℕ) → i < m .states * m .symbols → getD words i 0 ≡ wordAt s (m .symbols) i)
+    → (m .tapes ≡ 1) × (length words ≡ m .states * m .symbols) × ((i : ℕ) → i < m .states * m .symbols → getD words i 0 ≡ wordAt s (m .symbols) i)
 unfolding wordsRight
 words-say m s words e =
     let a = both-split e in

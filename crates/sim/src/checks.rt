@@ -207,7 +207,14 @@ impl Simulator {
     }
 
     // 11, 12, 13.
-    pub(crate) fn fuel_check(self, m: Machine, c0: &[u8], c1: &[u8], c2: &[u8], fuel: u64) -> Checked
+    pub(crate) fn fuel_check(
+        self,
+        m: Machine,
+        c0: &[u8],
+        c1: &[u8],
+        c2: &[u8],
+        fuel: u64,
+    ) -> Checked
         ensures { λ r. ⌜ r ≡ fuelCheck m fuel (conf self (now (c0 .entry)) (now (c1 .entry)) (now (c2 .entry))) ⌝ }
     {
         let checked = self.value_check(m, c0, c1, c2);

@@ -4,7 +4,6 @@ use machine::Checked;
 use machine::Machine;
 use machine::packed::Packed;
 use outcome::Refusal;
-
 ghost use mathlib.Core.Path.{_≡_};
 ghost use Prim.Native.Nat.{_≤_};
 ghost use lib.ListN.{length};
