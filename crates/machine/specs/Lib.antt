@@ -6,3 +6,4 @@ pub mod CheckFacts
 pub mod CheckCases
 pub mod PackingCases
 pub mod WordFacts
+pub mod PackedFacts

@@ -12,10 +12,17 @@ use Rattle.laws.specs.ScanFacts.{all-hit, all-next, all-says}
 use Rattle.laws.specs.Tests.{both-split}
 use Rattle.machine.specs.declared.Machine.{Machine}
 use Rattle.machine.specs.declared.Entry.{Entry}
+use Rattle.machine.specs.declared.Checked.{Checked}
+use Rattle.machine.specs.declared.Checked.the-variants.{Accepted}
+use Rattle.machine.specs.Check.{tableCheck}
 use Rattle.machine.specs.Layout.{entryCount, entryAt}
+use Rattle.machine.specs.CheckFacts.{demand-says}
 use Rattle.machine.specs.CheckCases.{stride-one}
 use Rattle.machine.specs.Packing.{packWord, wordAt}
-use Rattle.sim.specs.Operations.{wordRight, wordsRight}
+use Rattle.sim.specs.Engine.{Conf}
+use Rattle.sim.specs.Operations.{wordRight, wordsRight, fuelCheck, runCheck, fastCheck}
+use Rattle.sim.specs.Words.{WordsOk}
+use Rattle.sim.specs.OperationCases.{on-says}
 
 module _ (s : List ℕ) (k : ℕ) (words : List ℕ) (n i : ℕ) (x : Bool) (from : allIn (wordRight s k words) (n - i) i ≡ x) (e : Entry) (w : ℕ)
     (here : i < n) (found : e ≡ entryAt s i) (word : w ≡ packWord e k) where
@@ -56,3 +63,22 @@ words-say m s words e =
     let one = eqb-true _ _ (a .0) in
     let n = count-is m s words one in
     (one, eqb-true _ _ (b .0) ∙ sym n, λ i h. eqb-true _ _ (all-says (wordRight s (m .symbols) words) (entryCount m) 0 (b .1) i (omega arith) (omega arith)))
+
+-- what a passed check of the fast run says: that of the run passes, and the words are the table's
+module _ (m : Machine) (s words : List ℕ) (fuel : ℕ) (σ : Conf) (r : Checked) (checked : r ≡ fastCheck m s words fuel σ) (passed : r ≡ Accepted) where
+  parts : (tableCheck m s ≡ Accepted) × (wordsRight m s words ≡ true) × (fuelCheck m fuel σ ≡ Accepted)
+  unfolding fastCheck
+  parts =
+      let t = on-says _ _ (sym checked ∙ passed) in
+      let w = demand-says _ _ _ (t .1) in
+      (t .0, w .0, w .1)
+
+  pub fast-runs : Accepted ≡ runCheck m s fuel σ
+  unfolding runCheck
+  fast-runs = rw (parts .0, parts .2)
+
+  pub fast-words : WordsOk m s words
+  unfolding wordAt
+  fast-words =
+      let w = words-say m s words (parts .1) in
+      record { checked = parts .0; one-tape = w .0; count = w .1; holds = w .2 }

@@ -7,3 +7,11 @@ pub mod TurnCases
 pub mod OperationCases
 pub mod QuestionCases
 pub mod FastCases
+pub mod Hot
+pub mod HotCases
+pub mod HotFacts
+pub mod HotSteps
+pub mod Words
+pub mod WordsFacts
+pub mod Runs
+pub mod RunsCases

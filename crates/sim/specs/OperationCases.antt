@@ -32,7 +32,7 @@ use Rattle.sim.specs.declared.StepAnswer.the-variants as StepAns
 use Rattle.sim.specs.declared.Fresh.the-variants as New
 use Rattle.sim.specs.Engine.{Conf, conf, task, end, runOf, once, onceOf}
 use Rattle.sim.specs.Turns.{LookOk, RunOk}
-use Rattle.sim.specs.Operations.{has1, has2, ifHas, bareSim, handBack, cellsMost, stepsMost, sizesFit, simFits, valueCheck, engineCheck, fuelFits, fuelCheck, runCheck, wordsRight, fastCheck, given, runAnswer, stepGiven, stepAnswer, freshSizes, freshCheck, blankTape, made, madeWith, newAnswer}
+use Rattle.sim.specs.Operations.{has1, has2, ifHas, bareSim, handBack, cellsMost, stepsMost, sizesFit, simFits, valueCheck, engineCheck, fuelFits, fuelCheck, runCheck, wordsRight, fastCheck, bareOf, given, ranBack, runOn, stepGiven, stepAnswer, freshSizes, freshCheck, blankTape, made, madeWith, newAnswer}
 
 -- ---- the checks' returns
 
@@ -151,15 +151,17 @@ run-ok m s fuel v c0 c1 c2 r b stride e a q k l =
 
 -- ---- the answers of run and step
 
-module _ (m : Machine) (s : List ℕ) (rule : StopRule) (fuel : ℕ) (v : Simulator) (c0 c1 c2 : List ℕ) (r : Checked) (checked : r ≡ runCheck m s fuel (conf v c0 c1 c2)) where
-  pub ran-refused : (why : Refusal) → r ≡ Refused why → given (conf v c0 c1 c2) (Ans.Refused why) ≡ runAnswer m s rule fuel (conf v c0 c1 c2)
-  unfolding runAnswer
+-- x is the operation's check: that of run, or of the fast run
+module _ (m : Machine) (s : List ℕ) (rule : StopRule) (fuel : ℕ) (v : Simulator) (c0 c1 c2 : List ℕ) (x r : Checked) (checked : r ≡ x) where
+  abbrev at : Conf
+  at = conf v c0 c1 c2
+
+  pub ran-refused : (why : Refusal) → r ≡ Refused why → given (conf v c0 c1 c2) (Ans.Refused why) ≡ runOn x at (ranBack m at (runOf (task m s true rule) fuel (bareOf m at)))
   ran-refused why e = rw (← checked, e)
 
   pub ran-done : (b u w : Simulator) (d0 d1 d2 : List ℕ) (o : Outcome) → r ≡ Accepted → b ≡ bareSim (m .tapes) v
       → end (conf u d0 d1 d2) o ≡ runOf (task m s true rule) fuel (conf b c0 c1 c2) → w ≡ handBack (m .tapes) v u
-      → given (conf w d0 d1 d2) (Ans.Done o) ≡ runAnswer m s rule fuel (conf v c0 c1 c2)
-  unfolding runAnswer
+      → given (conf w d0 d1 d2) (Ans.Done o) ≡ runOn x at (ranBack m at (runOf (task m s true rule) fuel (bareOf m at)))
   ran-done b u w d0 d1 d2 o a p e q = rw (← checked, a, q, ← p, ← e)
 
 module _ (m : Machine) (s : List ℕ) (v : Simulator) (c0 c1 c2 : List ℕ) (r : Checked) (checked : r ≡ runCheck m s 1 (conf v c0 c1 c2)) where

@@ -269,9 +269,9 @@ impl Simulator {
         }
     }
 
-    // The run as turns; the caller has checked the table, the value and the fuel. Without the never test it makes
+    // The run over a table; the caller has checked the table, the value and the fuel. Without the never test it makes
     // all the fuel, or ends halted or full, or by the stop rule.
-    pub fn run_turns(
+    pub fn run_all(
         self,
         m: Machine,
         stride: u64,
@@ -286,27 +286,20 @@ impl Simulator {
         requires { ⌜ RunOk m stride self (now c0) (now c1) (now c2) fuel ⌝ }
         ensures { λ r. ⌜ end (conf (r .sim) (now (c0 .exit)) (now (c1 .exit)) (now (c2 .exit))) (r .outcome) ≡ runOf (task m (now (table .entry)) proves rule) fuel (conf self (now (c0 .entry)) (now (c1 .entry)) (now (c2 .entry))) ⌝ }
     {
-        let mut sim = self;
-        let mut left = fuel;
-        loop {
-            let t = sim.turn(m, stride, proves, rule, table, c0, c1, c2, left);
-            match t {
-                Turn::Stop(outcome) => {
-                    return Ran { sim, outcome };
-                }
-                Turn::Last(last) => {
-                    let steps = last.steps;
-                    return Ran {
-                        sim: last,
-                        outcome: Outcome::Stopped { steps },
-                    };
-                }
-                Turn::Next(next) => {
-                    sim = next;
-                    left -= 1;
-                }
-            }
-        }
+        let none: [u64; 1] = [3];
+        self.run_bursts(
+            m,
+            stride,
+            proves,
+            rule,
+            table,
+            false,
+            &none,
+            c0,
+            c1,
+            c2,
+            fuel,
+        )
     }
 
     // One step without the never test; the caller has checked the table and the value.

@@ -8,12 +8,16 @@ use symbol::State;
 use tape::Tape;
 ghost use mathlib.Core.Path.{_≡_};
 ghost use Rattle.sim.specs.Engine.{conf};
-ghost use Rattle.sim.specs.Operations.{given, runAnswer, stepGiven, stepAnswer, made, newAnswer};
+ghost use Rattle.sim.specs.Operations.{given, runAnswer, fastAnswer, stepGiven, stepAnswer, made, newAnswer};
 
+mod burst;
 mod checks;
 mod fast;
+mod hot;
 pub mod inner;
+mod packed;
 pub mod questions;
+mod runs;
 
 // The engine's value. Its cells are lent, one buffer for each tape; fields and buffers of tapes that the machine
 // lacks are neither read nor changed.
@@ -117,7 +121,43 @@ impl Simulator {
             Checked::Accepted => {
                 let stride = machine::inner::stride(m.tapes, m.symbols);
                 let bare = self.bare(m.tapes);
-                let ran = bare.run_turns(m, stride, true, rule, table, c0, c1, c2, fuel);
+                let ran = bare.run_all(m, stride, true, rule, table, c0, c1, c2, fuel);
+                let after = ran.sim;
+                let outcome = ran.outcome;
+                return Answered {
+                    sim: after.hand_back(m.tapes, self),
+                    answer: Answer::Done(outcome),
+                };
+            }
+        }
+    }
+
+    // The same over packed words, which must be the table's; for machines of one tape.
+    pub fn run_packed(
+        self,
+        m: Machine,
+        table: &[u8],
+        words: &[u64],
+        c0: &mut [u8],
+        c1: &mut [u8],
+        c2: &mut [u8],
+        rule: StopRule,
+        fuel: u64,
+    ) -> Answered
+        ensures { λ r. ⌜ given (conf (r .sim) (now (c0 .exit)) (now (c1 .exit)) (now (c2 .exit))) (r .answer) ≡ fastAnswer m (now (table .entry)) (now (words .entry)) rule fuel (conf self (now (c0 .entry)) (now (c1 .entry)) (now (c2 .entry))) ⌝ }
+    {
+        let checked = self.fast_check(m, table, words, c0, c1, c2, fuel);
+        match checked {
+            Checked::Refused(why) => {
+                return Answered {
+                    sim: self,
+                    answer: Answer::Refused(why),
+                };
+            }
+            Checked::Accepted => {
+                let stride = machine::inner::stride(m.tapes, m.symbols);
+                let bare = self.bare(m.tapes);
+                let ran = bare.run_words(m, stride, true, rule, table, words, c0, c1, c2, fuel);
                 let after = ran.sim;
                 let outcome = ran.outcome;
                 return Answered {

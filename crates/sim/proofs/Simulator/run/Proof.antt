@@ -1,3 +1,4 @@
+use Rattle.sim.specs.Operations.{runAnswer}
 use Rattle.sim.specs.OperationCases.{ran-refused, ran-done, stride-ok, run-ok}
 use borrow.Author.Needs.{needs}
 use Rattle.sim.proofs.Simulator.run.Statement.{statement}
@@ -19,7 +20,8 @@ same-length-3 : tie.Need-same-length-3
 same-length-3 c = search needs
 
 returns : tie.Need-returns
-returns c = ran-refused _ _ _ _ _ _ _ _ _ (c .before .before .before .run-check .ensures) _ (c .before .checked .given .1)
+unfolding runAnswer
+returns c = ran-refused _ _ _ _ _ _ _ _ _ _ (c .before .before .before .run-check .ensures) _ (c .before .checked .given .1)
 
 enum-told : tie.Need-enum-told
 enum-told c = search needs
@@ -30,8 +32,8 @@ stride-requires c κs = stride-ok _ _ _ _ _ (c .before .before .run-check .ensur
 bare-requires : tie.Need-bare-requires
 bare-requires c κs = search needs
 
-run-turns-requires : tie.Need-run-turns-requires
-run-turns-requires c κs = run-ok _ _ _ _ _ _ _ _ _ _ (c .before .before .before .before .before .before .before .run-check .ensures) (c .before .before .before .before .before .enum-told .given .1) (c .before .before .before .bare .ensures) (c .before .before .before .before .stride .ensures .0) (c .before .before .before .before .stride .ensures .1)
+run-all-requires : tie.Need-run-all-requires
+run-all-requires c κs = run-ok _ _ _ _ _ _ _ _ _ _ (c .before .before .before .before .before .before .before .run-check .ensures) (c .before .before .before .before .before .enum-told .given .1) (c .before .before .before .bare .ensures) (c .before .before .before .before .stride .ensures .0) (c .before .before .before .before .stride .ensures .1)
 
 hand-back-requires : tie.Need-hand-back-requires
 hand-back-requires c κs = search needs
@@ -46,7 +48,8 @@ same-length-6 : tie.Need-same-length-6
 same-length-6 c = search needs
 
 returns-2 : tie.Need-returns-2
-returns-2 c = ran-done _ _ _ _ _ _ _ _ _ (c .before .before .before .before .before .before .before .before .before .before .before .before .before .before .before .before .run-check .ensures) _ _ _ _ _ _ _ (c .before .before .before .before .before .before .before .before .before .before .before .before .before .before .enum-told .given .1) (c .before .before .before .before .before .before .before .before .before .before .before .before .bare .ensures) (c .before .before .before .before .before .before .before .before .run-turns .ensures) (c .hand-back .ensures)
+unfolding runAnswer
+returns-2 c = ran-done _ _ _ _ _ _ _ _ _ _ (c .before .before .before .before .before .before .before .before .before .before .before .before .before .before .before .before .run-check .ensures) _ _ _ _ _ _ _ (c .before .before .before .before .before .before .before .before .before .before .before .before .before .before .enum-told .given .1) (c .before .before .before .before .before .before .before .before .before .before .before .before .bare .ensures) (c .before .before .before .before .before .before .before .before .run-all .ensures) (c .hand-back .ensures)
 
 pub run-spec : {M : Type 1} → statement M
 run-spec =
@@ -61,7 +64,7 @@ run-spec =
     enum-told
     stride-requires
     bare-requires
-    run-turns-requires
+    run-all-requires
     hand-back-requires
     same-length-4
     same-length-5

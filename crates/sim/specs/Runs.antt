@@ -1,0 +1,56 @@
+-- Bursts inside a run: when one may run on an engine's value, and what the value after it keeps. Definitions only.
+use mathlib.Core.Path.{_≡_}
+use mathlib.Core.Bool.{Bool, true}
+use mathlib.Core.List.{List}
+use Prim.Native.Nat.{ℕ, _+_, _≤_, _<_}
+use lib.ListN.{length}
+use Rattle.machine.specs.declared.Machine.{Machine}
+use Rattle.tape.specs.Fits.{TapeSafe}
+use Rattle.sim.specs.declared.Simulator.{Simulator}
+use Rattle.sim.specs.declared.StopRule.{StopRule}
+use Rattle.sim.specs.declared.hot.Hot.{Hot}
+use Rattle.sim.specs.Engine.{task, conf, runOf}
+use Rattle.sim.specs.Turns.{RunOk}
+use Rattle.sim.specs.Hot.{Misses}
+use Rattle.sim.specs.Words.{WordsOk}
+
+-- where a burst on the engine's value starts
+abbrev pub hotOf : Simulator → (left : ℕ) → Hot
+hotOf v left =
+    record {
+      head = v .t0 .head;
+      low = v .t0 .lowest;
+      high = v .t0 .highest;
+      state = v .state .0;
+      left = left;
+    }
+
+-- a burst may run: one tape, its numbers inside it, and no cell under another head
+pub record May (tapes : ℕ) (v : Simulator) : Type 0 where
+  pub one-tape : tapes ≡ 1
+  pub low-in : v .t0 .lowest ≤ v .t0 .head
+  pub high-in : v .t0 .head ≤ v .t0 .highest
+  pub high-len : v .t0 .highest < v .t0 .len
+  pub none1 : v .t1 .len ≤ v .t1 .head
+  pub none2 : v .t2 .len ≤ v .t2 .head
+
+pub record MayIf (b : Bool) (tapes : ℕ) (v : Simulator) : Type 0 where
+  pub may : b ≡ true → May tapes v
+
+pub record WordsIf (b : Bool) (m : Machine) (s words : List ℕ) : Type 0 where
+  pub words-ok : b ≡ true → WordsOk m s words
+
+-- of what a run may assume, what concerns the tape of a burst
+pub record SprintOk (m : Machine) (v : Simulator) (c : List ℕ) (left : ℕ) : Type 0 where
+  pub symbols-in : m .symbols ≤ 256
+  pub safe0 : TapeSafe (v .t0) c
+  pub steps-in : v .steps + left ≤ 4611686018427387904
+
+-- the run from v′ with cells c′ has the answer of the run from v with cells c, under every rule that has no state but stop and
+-- whatever the other buffers hold
+pub record Sped (m : Machine) (s : List ℕ) (proves : Bool) (stop : ℕ) (v : Simulator) (c : List ℕ) (left : ℕ) (v′ : Simulator) (c′ : List ℕ) (left′ : ℕ) : Type 0 where
+  pub same : (rule : StopRule) → Misses rule stop → (c1 c2 : List ℕ)
+      → runOf (task m s proves rule) left′ (conf v′ c′ c1 c2) ≡ runOf (task m s proves rule) left (conf v c c1 c2)
+  pub okay : (stride : ℕ) (c1 c2 : List ℕ) → RunOk m stride v c c1 c2 left → RunOk m stride v′ c′ c1 c2 left′
+  pub less : left′ ≤ left
+  pub lens : length c′ ≡ length c

@@ -1,0 +1,136 @@
+-- Bursts inside a run, one fact for each way through the code. Assumes nothing.
+use mathlib.Core.Path.{_≡_, refl, sym, ap, _∙_}
+use mathlib.Core.Bool.{Bool, true, false}
+use mathlib.Core.List.{List}
+use Prim.Native.Nat.{ℕ, _+_, _-_, _≤_, _<_}
+use native.Mathlib.Omega.{arith}
+use borrow.Author.Tests.{ne-eqb}
+use Rattle.laws.specs.Tests.{clash}
+use Rattle.symbol.specs.declared.State.{State}
+use Rattle.machine.specs.declared.Machine.{Machine}
+use Rattle.tape.specs.Fits.{TapeOk, TapeSafe}
+use Rattle.sim.specs.declared.Simulator.{Simulator}
+use Rattle.sim.specs.declared.StopRule.{StopRule}
+use Rattle.sim.specs.declared.StopRule.the-variants as Rule
+use Rattle.sim.specs.declared.hot.Hot.{Hot}
+use Rattle.sim.specs.Engine.{task, Conf, matches}
+use Rattle.sim.specs.TurnCases.{RunInv}
+use Rattle.sim.specs.Hot.{HotOk, Misses, into, Reached}
+use Rattle.sim.specs.Words.{Packs}
+use Rattle.sim.specs.WordsFacts.{packs-of}
+use Rattle.sim.specs.Runs.{hotOf, May, MayIf, WordsIf, SprintOk, Sped}
+
+-- ---- the stop rule's state
+
+module _ (rule : StopRule) where
+  pub misses-never : (stop : ℕ) → rule ≡ Rule.Never → Misses rule stop
+  unfolding matches
+  misses-never stop e = record { misses = λ q h. rw e }
+
+  pub misses-from : (p : State) → rule ≡ Rule.From p → Misses rule (p .0)
+  unfolding matches
+  misses-from p e = record { misses = λ q h. rw e (ne-eqb (p .0) q (λ z. h (sym z))) }
+
+-- ---- whether a burst may run
+
+module _ (tapes : ℕ) (v : Simulator) where
+  pub may-not : MayIf false tapes v
+  may-not = record { may = λ z. absurd (clash z refl) }
+
+  pub may-run : tapes ≡ 1 → v .t0 .lowest ≤ v .t0 .head → v .t0 .head ≤ v .t0 .highest → v .t0 .highest < v .t0 .len
+      → v .t1 .len ≤ v .t1 .head → v .t2 .len ≤ v .t2 .head → MayIf true tapes v
+  may-run a b c d e f = record { may = λ _. record { one-tape = a; low-in = b; high-in = c; high-len = d; none1 = e; none2 = f } }
+
+pub hot-starts : (m : Machine) (v : Simulator) (c : List ℕ) (left : ℕ) (b : Bool) (x : Hot) → SprintOk m v c left → MayIf b (m .tapes) v → b ≡ true
+    → (x ≡ hotOf v left) × (x .state < 65536) → HotOk c (m .symbols) (v .t0 .len) x
+hot-starts m v c left b x ok mays z e =
+    let may : May (m .tapes) v = mays .may z in
+    let t : TapeOk (v .t0) c = ok .safe0 .ok in
+    let i : v .t0 .head < v .t0 .len = omega arith in
+    let n : v .state .0 < 65536 = omega (arith, ap (λ (h : Hot). h .state) (e .0), e .1) in
+    rw (e .0)
+    (record {
+      k-in = ok .symbols-in;
+      len-in = t .len-in;
+      cap = ok .safe0 .sized i;
+      head-in = i;
+      low-in = may .low-in;
+      high-in = may .high-in;
+      high-len = may .high-len;
+      state-in = n;
+    })
+
+-- ---- the engine after a burst
+
+pub after-asks : (Known : List ℕ → Type 0) (m : Machine) (v : Simulator) (c : List ℕ) (left : ℕ) (p : Bool) (stop k len : ℕ) (x y : Hot) (d : List ℕ)
+    → SprintOk m v c left → (x ≡ hotOf v left) × (x .state < 65536) → Reached Known p stop k len x c y d
+    → (v .steps + left ≤ 4611686018427387904) × (y .left ≤ left) × (y .state < 65536)
+after-asks Known m v c left p stop k len x y d ok e r =
+    let l : x .left ≡ left = ap (λ (h : Hot). h .left) (e .0) in
+    (ok .steps-in, omega (arith, r .less), r .ok .state-in)
+
+pub sped-none : (m : Machine) (s : List ℕ) (p : Bool) (stop : ℕ) (v : Simulator) (c : List ℕ) (left : ℕ) → Sped m s p stop v c left v c left
+sped-none m s p stop v c left = record { same = λ rule miss c1 c2. refl; okay = λ stride c1 c2 ok. ok; less = omega arith; lens = refl }
+
+module _ (m : Machine) (s : List ℕ) (p : Bool) (stop : ℕ) (v : Simulator) (c : List ℕ) (left : ℕ) (b : Bool) (mays : MayIf b (m .tapes) v) (z : b ≡ true)
+    (start at : Hot) (c′ : List ℕ) (from : (start ≡ hotOf v left) × (start .state < 65536)) (v′ : Simulator) (left′ : ℕ)
+    (after : (v′ ≡ into v (v .t0 .len) (v .steps + (left - at .left)) at) × (left′ ≡ at .left)) where
+  sped : (Known : List ℕ → Type 0) → Known s → Reached Known p stop (m .symbols) (v .t0 .len) (hotOf v left) c at c′
+      → Sped m s p stop v c left (into v (v .t0 .len) (v .steps + (left - at .left)) at) c′ (at .left)
+  sped Known known r =
+      let may : May (m .tapes) v = mays .may z in
+      record {
+        same = λ rule miss c1 c2. r .follows .same s known m rule v c1 c2 (v .steps) (v .steps + (left - at .left))
+            (record { tapes-is = may .one-tape; symbols-is = refl; none1 = may .none1; none2 = may .none2 }) miss (omega (arith, r .less));
+        okay = λ stride c1 c2 ok. record {
+          ok = record {
+            symbols-in = ok .ok .symbols-in;
+            stride-is = ok .ok .stride-is;
+            stride-in = ok .ok .stride-in;
+            safe0 = safe (ok .ok .safe0) (r .ok);
+            safe1 = ok .ok .safe1;
+            safe2 = ok .ok .safe2;
+          };
+          steps-in = omega (arith, ok .steps-in, r .less);
+        };
+        less = r .less;
+        lens = r .lens;
+      }
+    where
+      safe : TapeSafe (v .t0) c → HotOk c′ (m .symbols) (v .t0 .len) at → TapeSafe (into v (v .t0 .len) (v .steps + (left - at .left)) at .t0) c′
+      safe t o =
+          let k : TapeOk (v .t0) c = t .ok in
+          record {
+            ok = record { len-in = o .len-in; len-small = k .len-small; head-in = omega arith; origin-in = k .origin-in; low-in = omega arith; high-in = omega arith };
+            sized = λ h. o .cap;
+          }
+
+  pub sped-burst : (Known : List ℕ → Type 0) → Known s → Reached Known p stop (m .symbols) (v .t0 .len) start c at c′ → Sped m s p stop v c left v′ c′ left′
+  sped-burst Known known r = rw (after .0, after .1) (sped Known known (rw (from .0) at r))
+
+  pub sped-words : (words : List ℕ) (packed : Bool) → WordsIf packed m s words → packed ≡ true
+      → Reached (Packs words (m .symbols)) p stop (m .symbols) (v .t0 .len) start c at c′ → Sped m s p stop v c left v′ c′ left′
+  sped-words words packed w t r = sped-burst (Packs words (m .symbols)) (packs-of m s words (w .words-ok t)) r
+
+-- ---- a burst in the loop of turns
+
+module _ (m : Machine) (s : List ℕ) (p : Bool) (rule : StopRule) (stride fuel : ℕ) (σ : Conf) (v : Simulator) (c0 c1 c2 : List ℕ) (left : ℕ)
+    (i : RunInv (task m s p rule) stride fuel σ v c0 c1 c2 left) where
+  pub sprint-asks : SprintOk m v c0 left
+  sprint-asks = record { symbols-in = i .now-ok .ok .symbols-in; safe0 = i .now-ok .ok .safe0; steps-in = i .now-ok .steps-in }
+
+  pub sped-inv : (stop : ℕ) (v′ : Simulator) (d0 : List ℕ) (left′ : ℕ) → Misses rule stop → Sped m s p stop v c0 left v′ d0 left′
+      → RunInv (task m s p rule) stride fuel σ v′ d0 c1 c2 left′
+  sped-inv stop v′ d0 left′ miss r =
+      record {
+        same = r .same rule miss c1 c2 ∙ i .same;
+        now-ok = r .okay stride c1 c2 (i .now-ok);
+        len0 = r .lens ∙ i .len0;
+        len1 = i .len1;
+        len2 = i .len2;
+      }
+
+-- ---- where no words are given
+
+pub words-none : (m : Machine) (s words : List ℕ) → WordsIf false m s words
+words-none m s words = record { words-ok = λ z. absurd (clash z refl) }

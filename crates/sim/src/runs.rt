@@ -1,0 +1,221 @@
+// The run: bursts of ordinary steps where the machine has one tape, and a turn at each doubt, which decides.
+use super::Simulator;
+use super::StopRule;
+use super::burst;
+use super::hot::Hot;
+use super::inner::Ran;
+use super::inner::Turn;
+use super::packed;
+use machine::Machine;
+use outcome::Outcome;
+use symbol::State;
+use tape::Tape;
+ghost use mathlib.Core.Path.{_≡_};
+ghost use mathlib.Core.Bool.{false};
+ghost use Prim.Native.Nat.{_+_, _-_, _≤_, _<_};
+ghost use Rattle.sim.specs.Engine.{task, conf, end, runOf};
+ghost use Rattle.sim.specs.Turns.{RunOk};
+ghost use Rattle.sim.specs.Hot.{Misses, into};
+ghost use Rattle.sim.specs.Words.{WordsOk};
+ghost use Rattle.sim.specs.Runs.{hotOf, MayIf, SprintOk, WordsIf, Sped};
+
+// An engine after a burst, and the fuel left.
+pub struct Ahead {
+    pub sim: Simulator,
+    pub left: u64,
+}
+
+// The state that the stop rule has; no state is 65,536.
+fn stop_of(rule: StopRule) -> usize
+    ensures { λ r. ⌜ Misses rule r ⌝ }
+{
+    match rule {
+        StopRule::Never => {
+            return 65536;
+        }
+        StopRule::From(p) => {
+            return p.0 as usize;
+        }
+    }
+}
+
+impl Simulator {
+    // Whether a burst may run on this value.
+    fn may(self, tapes: u64) -> bool
+        ensures { λ r. ⌜ MayIf r tapes self ⌝ }
+    {
+        if tapes != 1 {
+            return false;
+        }
+        let t0 = self.t0;
+        let t1 = self.t1;
+        let t2 = self.t2;
+        if t0.head < t0.lowest {
+            return false;
+        }
+        if t0.highest < t0.head {
+            return false;
+        }
+        if t0.len <= t0.highest {
+            return false;
+        }
+        if t1.head < t1.len {
+            return false;
+        }
+        if t2.head < t2.len {
+            return false;
+        }
+        true
+    }
+
+    // Where a burst on this value starts.
+    fn hot(self, left: u64) -> Hot
+        ensures { λ r. ⌜ (r ≡ hotOf self left) × (r .state < 65536) ⌝ }
+    {
+        let t0 = self.t0;
+        let state = self.state.0 as usize;
+        Hot {
+            head: t0.head,
+            low: t0.lowest,
+            high: t0.highest,
+            state,
+            left,
+        }
+    }
+
+    // The value after a burst, which had `left` fuel.
+    fn after(self, at: Hot, left: u64) -> Ahead
+        requires { ⌜ (self .steps + left ≤ 4611686018427387904) × (at .left ≤ left) × (at .state < 65536) ⌝ }
+        ensures { λ r. ⌜ (r .sim ≡ into self (self .t0 .len) (self .steps + (left - at .left)) at) × (r .left ≡ at .left) ⌝ }
+    {
+        let t0 = self.t0;
+        let t1 = self.t1;
+        let t2 = self.t2;
+        let state = at.state;
+        Ahead {
+            sim: Simulator {
+                state: State(state as u16),
+                steps: self.steps + (left - at.left),
+                t0: Tape {
+                    len: t0.len,
+                    origin: t0.origin,
+                    head: at.head,
+                    lowest: at.low,
+                    highest: at.high,
+                },
+                t1,
+                t2,
+            },
+            left: at.left,
+        }
+    }
+
+    // The ordinary steps from here, over the words where they are packed; none where no burst may run.
+    fn sprint(
+        self,
+        m: Machine,
+        proves: bool,
+        stop: usize,
+        table: &[u8],
+        packed: bool,
+        words: &[u64],
+        c0: &mut [u8],
+        left: u64,
+    ) -> Ahead
+        requires { ⌜ SprintOk m self (now c0) left ⌝ }
+        requires { ⌜ WordsIf packed m (now table) (now words) ⌝ }
+        ensures { λ r. ⌜ Sped m (now (table .entry)) proves stop self (now (c0 .entry)) left (r .sim) (now (c0 .exit)) (r .left) ⌝ }
+    {
+        if !self.may(m.tapes) {
+            return Ahead { sim: self, left };
+        }
+        let k = m.symbols as usize;
+        let t0 = self.t0;
+        let start = self.hot(left);
+        if packed {
+            let at = packed::burst_words(words, c0, proves, stop, k, t0.len, start);
+            return self.after(at, left);
+        }
+        let at = burst::burst(table, c0, proves, stop, k, t0.len, start);
+        self.after(at, left)
+    }
+
+    // The run over a table, or over its words where they are packed.
+    pub(crate) fn run_bursts(
+        self,
+        m: Machine,
+        stride: u64,
+        proves: bool,
+        rule: StopRule,
+        table: &[u8],
+        packed: bool,
+        words: &[u64],
+        c0: &mut [u8],
+        c1: &mut [u8],
+        c2: &mut [u8],
+        fuel: u64,
+    ) -> Ran
+        requires { ⌜ RunOk m stride self (now c0) (now c1) (now c2) fuel ⌝ }
+        requires { ⌜ WordsIf packed m (now table) (now words) ⌝ }
+        ensures { λ r. ⌜ end (conf (r .sim) (now (c0 .exit)) (now (c1 .exit)) (now (c2 .exit))) (r .outcome) ≡ runOf (task m (now (table .entry)) proves rule) fuel (conf self (now (c0 .entry)) (now (c1 .entry)) (now (c2 .entry))) ⌝ }
+    {
+        let stop = stop_of(rule);
+        let mut sim = self;
+        let mut left = fuel;
+        loop {
+            let ahead = sim.sprint(m, proves, stop, table, packed, words, c0, left);
+            let at = ahead.sim;
+            let fuel_left = ahead.left;
+            let t = at.turn(m, stride, proves, rule, table, c0, c1, c2, fuel_left);
+            match t {
+                Turn::Stop(outcome) => {
+                    return Ran { sim: at, outcome };
+                }
+                Turn::Last(last) => {
+                    let steps = last.steps;
+                    return Ran {
+                        sim: last,
+                        outcome: Outcome::Stopped { steps },
+                    };
+                }
+                Turn::Next(next) => {
+                    sim = next;
+                    left = fuel_left - 1;
+                }
+            }
+        }
+    }
+
+    // The run over the packed words of a table of one tape, which the caller has held to the table.
+    pub(crate) fn run_words(
+        self,
+        m: Machine,
+        stride: u64,
+        proves: bool,
+        rule: StopRule,
+        table: &[u8],
+        words: &[u64],
+        c0: &mut [u8],
+        c1: &mut [u8],
+        c2: &mut [u8],
+        fuel: u64,
+    ) -> Ran
+        requires { ⌜ RunOk m stride self (now c0) (now c1) (now c2) fuel ⌝ }
+        requires { ⌜ WordsOk m (now table) (now words) ⌝ }
+        ensures { λ r. ⌜ end (conf (r .sim) (now (c0 .exit)) (now (c1 .exit)) (now (c2 .exit))) (r .outcome) ≡ runOf (task m (now (table .entry)) proves rule) fuel (conf self (now (c0 .entry)) (now (c1 .entry)) (now (c2 .entry))) ⌝ }
+    {
+        self.run_bursts(
+            m,
+            stride,
+            proves,
+            rule,
+            table,
+            true,
+            words,
+            c0,
+            c1,
+            c2,
+            fuel,
+        )
+    }
+}
