@@ -1,10 +1,10 @@
-// The plain engine: fresh, one step, a run.
+// The plain engine: fresh, one step, a run over the table or over its packed words.
 use super::numbers;
 use sim::Fresh;
 use sim::Simulator;
 ghost use mathlib.Core.Path.{_≡_};
 ghost use Rattle.sim.specs.Engine.{conf};
-ghost use Rattle.sim.specs.Operations.{newAnswer, stepAnswer, runAnswer};
+ghost use Rattle.sim.specs.Operations.{newAnswer, stepAnswer, runAnswer, fastAnswer};
 ghost use Rattle.capi.specs.Numbers.{machineOf, engineOf, ruleOf};
 ghost use Rattle.capi.specs.Calls.{call, newCall, stepCall, ranCall};
 
@@ -87,6 +87,36 @@ pub extern "C" fn tm_sim_run(
     let sim = numbers::engine_of(*state, engine);
     let stop = numbers::rule_of(rule);
     let ran = sim.run(m, table, c0, c1, c2, stop, fuel);
+    let after = ran.sim;
+    let answer = ran.answer;
+    *state = after.state.0;
+    numbers::put_engine(engine, after);
+    numbers::tell_answer(out, answer)
+}
+
+#[no_mangle]
+pub extern "C" fn tm_sim_run_packed(
+    tapes: u64,
+    symbols: u64,
+    states: u64,
+    start: u64,
+    table: &[u8],
+    words: &[u64],
+    c0: &mut [u8],
+    c1: &mut [u8],
+    c2: &mut [u8],
+    state: &mut u16,
+    engine: &mut [u64; 16],
+    rule: u64,
+    fuel: u64,
+    out: &mut [u64; 8],
+) -> u8
+    ensures { λ r. ⌜ call r (now (state .exit)) (now (engine .exit)) (now (out .exit)) (now (c0 .exit)) (now (c1 .exit)) (now (c2 .exit)) ≡ ranCall (fastAnswer (machineOf tapes symbols states start) (now (table .entry)) (now (words .entry)) (ruleOf rule) fuel (conf (engineOf (now (state .entry)) (now (engine .entry))) (now (c0 .entry)) (now (c1 .entry)) (now (c2 .entry)))) (now (engine .entry)) (now (out .entry)) ⌝ }
+{
+    let m = numbers::machine_of(tapes, symbols, states, start);
+    let sim = numbers::engine_of(*state, engine);
+    let stop = numbers::rule_of(rule);
+    let ran = sim.run_packed(m, table, words, c0, c1, c2, stop, fuel);
     let after = ran.sim;
     let answer = ran.answer;
     *state = after.state.0;

@@ -69,9 +69,6 @@ after-asks Known m v c left p stop k len x y d ok e r =
     let l : x .left ≡ left = ap (λ (h : Hot). h .left) (e .0) in
     (ok .steps-in, omega (arith, r .less), r .ok .state-in)
 
-pub sped-none : (m : Machine) (s : List ℕ) (p : Bool) (stop : ℕ) (v : Simulator) (c : List ℕ) (left : ℕ) → Sped m s p stop v c left v c left
-sped-none m s p stop v c left = record { same = λ rule miss c1 c2. refl; okay = λ stride c1 c2 ok. ok; less = omega arith; lens = refl }
-
 module _ (m : Machine) (s : List ℕ) (p : Bool) (stop : ℕ) (v : Simulator) (c : List ℕ) (left : ℕ) (b : Bool) (mays : MayIf b (m .tapes) v) (z : b ≡ true)
     (start at : Hot) (c′ : List ℕ) (from : (start ≡ hotOf v left) × (start .state < 65536)) (v′ : Simulator) (left′ : ℕ)
     (after : (v′ ≡ into v (v .t0 .len) (v .steps + (left - at .left)) at) × (left′ ≡ at .left)) where
