@@ -26,11 +26,11 @@ use Rattle.sim.specs.declared.Answer.the-variants as Ans
 use Rattle.sim.specs.declared.StepAnswer.the-variants as StepAns
 use Rattle.sim.specs.declared.Fresh.the-variants as New
 use Rattle.sim.specs.Engine.{Conf, conf}
-use Rattle.sim.specs.Operations.{simFits, given, runAnswer, stepGiven, stepAnswer, made, newAnswer}
+use Rattle.sim.specs.Operations.{simFits, wordsRight, given, runAnswer, fastAnswer, stepGiven, stepAnswer, made, newAnswer}
 use Rattle.sim_refines.specs.Meaning.{tapeOf, configOf}
 use Rattle.sim_refines.specs.Counts.{Counts}
 use Rattle.sim_refines.specs.Operations.{HandedBack, RunHolds, StepHolds}
-use Rattle.sim_refines.specs.OperationFacts.{run-holds, run-never-halts, step-holds, step-handed-back, new-holds, new-fits}
+use Rattle.sim_refines.specs.OperationFacts.{run-holds, run-never-halts, fast-agrees, fast-done, step-holds, step-handed-back, new-holds, new-fits}
 use Rattle.sim_refines.specs.QuestionFacts.{find-is, non-blank-is, count-is}
 
 -- ---- the plain engine
@@ -48,6 +48,11 @@ pub record PlainEngine : Type 0 where
   -- where the answer is never, the table machine halts at no step
   pub never : (m : Machine) (s : List ℕ) → Bytes s → (rule : StopRule) (fuel : ℕ) (σ τ : Conf) (n : ℕ) (p : NonHaltProof)
       → runAnswer m s rule fuel σ ≡ given τ (Ans.Done (NeverHalts n p)) → (j : ℕ) → ¬ (Halted (tableOf m s) (run (tableOf m s) j (configOf m σ)))
+  -- the fast run over the table's packed words answers as `run` does, refusals too, and over other words it makes no run
+  pub fast : (m : Machine) (s words : List ℕ) (rule : StopRule) (fuel : ℕ) (σ : Conf) → wordsRight m s words ≡ true
+      → fastAnswer m s words rule fuel σ ≡ runAnswer m s rule fuel σ
+  pub fast-runs : (m : Machine) (s words : List ℕ) (rule : StopRule) (fuel : ℕ) (σ τ : Conf) (o : Outcome)
+      → fastAnswer m s words rule fuel σ ≡ given τ (Ans.Done o) → runAnswer m s rule fuel σ ≡ given τ (Ans.Done o)
   -- the questions answer what the table machine's tape holds (a cell by its position is `tapeOf`'s own; the window by `window-is`)
   pub finds : (h : Held) (z : ℤ) (d : Dir) → Finds (tapeOf h .cell) z d (findOf h z d)
   pub spans : (h : Held) → Spans (tapeOf h .cell) (nonBlankOf h)
@@ -59,6 +64,8 @@ plain-engine = record {
   runs = λ m s b rule fuel σ τ o e. run-holds m s b rule fuel σ τ o e;
   steps = λ m s b σ τ x e. (step-holds m s b σ τ x e, step-handed-back m s b σ τ x e);
   never = λ m s b rule fuel σ τ n p e. run-never-halts m s b rule fuel σ τ (NeverHalts n p) e n p refl;
+  fast = fast-agrees;
+  fast-runs = λ m s words rule fuel σ τ o e. fast-done m s words rule fuel σ τ o e;
   finds = find-is;
   spans = non-blank-is;
   counts = count-is;

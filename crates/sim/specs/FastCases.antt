@@ -73,6 +73,9 @@ module _ (m : Machine) (s words : List ℕ) (fuel : ℕ) (σ : Conf) (r : Checke
       let w = demand-says _ _ _ (t .1) in
       (t .0, w .0, w .1)
 
+  pub fast-right : wordsRight m s words ≡ true
+  fast-right = parts .1
+
   pub fast-runs : Accepted ≡ runCheck m s fuel σ
   unfolding runCheck
   fast-runs = rw (parts .0, parts .2)
@@ -80,5 +83,5 @@ module _ (m : Machine) (s words : List ℕ) (fuel : ℕ) (σ : Conf) (r : Checke
   pub fast-words : WordsOk m s words
   unfolding wordAt
   fast-words =
-      let w = words-say m s words (parts .1) in
+      let w = words-say m s words fast-right in
       record { checked = parts .0; one-tape = w .0; count = w .1; holds = w .2 }

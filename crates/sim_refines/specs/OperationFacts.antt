@@ -40,7 +40,8 @@ use Rattle.sim.specs.declared.Fresh.the-variants as New
 use Rattle.sim.specs.declared.inner.Look.{Look}
 use Rattle.sim.specs.declared.inner.Look.the-variants.{Never}
 use Rattle.sim.specs.Engine.{task, Conf, conf, tape0, tape1, tape2, End, end, onLook, lookWith, roomyOf, stepOf, runOf, Once, once, onceOf}
-use Rattle.sim.specs.Operations.{has1, has2, ifHas, bareSim, bareOf, handBack, backOf, simFits, runCheck, Given, given, ranBack, runOn, runAnswer, StepGiven, stepGiven, stepBack, stepOn, stepAnswer, freshCheck, blankTape, made, madeWith, freshOn, Made, newAnswer}
+use Rattle.sim.specs.Operations.{has1, has2, ifHas, bareSim, bareOf, handBack, backOf, simFits, runCheck, wordsRight, fastCheck, Given, given, ranBack, runOn, runAnswer, fastAnswer, StepGiven, stepGiven, stepBack, stepOn, stepAnswer, freshCheck, blankTape, made, madeWith, freshOn, Made, newAnswer}
+use Rattle.sim.specs.FastCases.{fast-right}
 use Rattle.sim.specs.OperationCases.{Passed, run-says, FreshPassed, fresh-says}
 use Rattle.sim_refines.specs.Meaning.{tapeOf, has, tapeIf, configOf, FitsIf, EngineFits}
 use Rattle.sim_refines.specs.Statement.{Refines, Kept, Sees, no-entry, loops, goes-on}
@@ -134,6 +135,16 @@ accepted-run (Refused why) σ d τ o e =
     let k = ap (λ (g : Given). g .answer) e in
     let z : _≡_ {A = ℕ} 0 1 = cc in absurd (omega arith)
 accepted-run Accepted σ d τ o e = (refl, e)
+
+-- the fast run: over the table's words it answers as `run` does, refusals too; over others it is refused
+module _ (m : Machine) (s words : List ℕ) (rule : StopRule) (fuel : ℕ) (σ : Conf) where
+  pub fast-agrees : wordsRight m s words ≡ true → fastAnswer m s words rule fuel σ ≡ runAnswer m s rule fuel σ
+  unfolding fastAnswer runAnswer fastCheck runCheck pick
+  fast-agrees w = rw w refl
+
+  pub fast-done : (τ : Conf) (o : Outcome) → fastAnswer m s words rule fuel σ ≡ given τ (Ans.Done o) → runAnswer m s rule fuel σ ≡ given τ (Ans.Done o)
+  unfolding fastAnswer
+  fast-done τ o e = sym (fast-agrees (fast-right m s words fuel σ _ refl (accepted-run _ _ _ _ _ e .0))) ∙ e
 
 module _ (m : Machine) (s : List ℕ) (bytes : Bytes s) (rule : StopRule) (fuel : ℕ) (σ τ : Conf) (o : Outcome)
     (done : runAnswer m s rule fuel σ ≡ given τ (Ans.Done o)) where

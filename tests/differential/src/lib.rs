@@ -1,0 +1,20 @@
+//! The port's plain engine against the Rust's: see README.md.
+
+extern crate alloc;
+
+// The oracle: eight files of the customer's, unchanged, as modules of this crate. They say
+// `crate::symbol` and so on, so they must stand at the root; their `pub(crate)` fields are then
+// in reach of `oracle.rs`.
+include!(concat!(env!("OUT_DIR"), "/oracle_modules.rs"));
+mod builder;
+
+pub mod case;
+pub mod compare;
+#[path = "gen.rs"] // `gen` is a word of the language
+pub mod generate;
+pub mod law;
+#[cfg(feature = "mock")]
+pub mod mock;
+pub mod oracle;
+pub mod port;
+pub mod runs;

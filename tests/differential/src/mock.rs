@@ -1,0 +1,877 @@
+//! A stand-in for the port's library, written from document 01 alone, so that the harness can run
+//! without it (feature `mock`). It is simple, not fast.
+//!
+//! The environment variable `MOCK_FAULT` puts one of the faults of [`FAULTS`] into it: the harness
+//! must then find a difference (`mutants.sh` tries them all).
+
+use std::cell::Cell;
+use std::sync::LazyLock;
+
+/// What goes wrong under each number of `MOCK_FAULT`, counted from 1.
+pub const FAULTS: &[&str] = &[
+    "fuel is tested before halting",
+    "fuel is tested before the never test",
+    "space is tested before fuel",
+    "the chain pattern counts with several tapes",
+    "the chain pattern asks for a blank write",
+    "the chain pattern leaves out the furthest cell",
+    "growth to the right leaves the new cells as they were",
+    "growth to the left forgets the highest head",
+    "full when the doubled length is just the buffer's",
+    "the stop rule looks at the next state",
+    "refusal 13 comes after a step was made",
+    "cells past the length must be symbols",
+    "sizes are cut to 32 bits",
+    "find_non_blank to the left answers none from beyond the right end",
+    "window cells past i64 are left as they were",
+    "an undefined entry is packed as 0",
+    "packed words may be more than the table's",
+    "a full step has already written on the tapes before",
+    "refusal 6 gives the highest entry",
+    "steps + fuel wraps round",
+    "the highest head is not raised when the tape grows",
+    "step answers halted for a proved loop",
+    "the stay pattern looks at the first tape only",
+    "count counts one cell twice if the last one is not blank",
+    "refusal 10 gives the last place",
+    "a fresh buffer may be one cell short",
+    "the number of states is cut to 16 bits",
+    "2^62 steps are one too many",
+    "fields of tapes that the machine lacks must be 0",
+    "refusal 7 comes after 12",
+    "refusal 10 comes after 11",
+    "byte 7 of an entry is not looked at",
+    "moves of tapes that the machine lacks may be anything",
+    "a fresh engine clears its whole buffer",
+    "a chain to the left is reported as one to the right",
+    "packing writes past the table's entries",
+    "the row of a packed word is cut to 16 bits",
+    "a run on one tape stops at the rule only when its fuel is used up",
+    "non_blank starts at the lowest head",
+    "the lowest head is an index that growth to the left does not move",
+    "an undefined entry with a next state is taken",
+    "a buffer over 2^30 is taken",
+    "a refused question still writes out[1]",
+    "a run that ends full forgets its last step",
+    "the never test scans only to the highest head",
+    "the growth is by 32 cells",
+    "the head may stand at the length",
+    "a tape number is cut to 8 bits",
+    "a stop rule of 65,536 matches state 0",
+    "the origin may stand at the length",
+    "the never test trusts a non-blank cell that it saw before",
+    "the fast run leaves lowest and highest as they were when it ends out of fuel",
+    "a fast run from state q looks up row 0 first",
+    "find_non_blank to the right starts one cell too far",
+    "a table of no defined entry is refused",
+];
+
+static FAULT: LazyLock<usize> =
+    LazyLock::new(|| std::env::var("MOCK_FAULT").map_or(0, |n| n.parse().expect("MOCK_FAULT is a number")));
+
+fn fault(number: usize) -> bool {
+    *FAULT == number
+}
+
+/// A refusal: its number, and its place where it has one.
+struct No(u8, Option<u64>);
+
+type Answer<T> = Result<T, No>;
+
+fn refuse<T>(number: u8) -> Answer<T> {
+    Err(No(number, None))
+}
+
+const L: u8 = 0;
+const R: u8 = 1;
+const N: u8 = 2;
+
+/// A table that passed its check.
+struct Machine<'a> {
+    tapes: usize,
+    symbols: usize,
+    states: usize,
+    start: u16,
+    table: &'a [u8],
+}
+
+/// A defined entry.
+#[derive(Clone, Copy)]
+struct Entry {
+    next: u16,
+    write: [u8; 3],
+    moves: [u8; 3],
+}
+
+fn accept(sizes: [u64; 4], table: &[u8]) -> Answer<Machine<'_>> {
+    let [mut tapes, mut symbols, mut states, mut start] = sizes;
+    if fault(13) {
+        (tapes, symbols) = (tapes & 0xffff_ffff, symbols & 0xffff_ffff);
+        (states, start) = (states & 0xffff_ffff, start & 0xffff_ffff);
+    }
+    if tapes == 0 || tapes > 3 {
+        return refuse(1);
+    }
+    if symbols == 0 || symbols > 256 {
+        return refuse(2);
+    }
+    if states == 0 || states > 65_536 {
+        return refuse(3);
+    }
+    if start >= states || fault(55) && table.iter().all(|&b| b == 0) {
+        return refuse(4);
+    }
+    let mut bytes = 8 * states;
+    for _ in 0..tapes {
+        bytes *= symbols;
+    }
+    if table.len() as u64 != bytes {
+        return refuse(5);
+    }
+    let m = Machine {
+        tapes: tapes as usize,
+        symbols: symbols as usize,
+        states: states as usize,
+        start: start as u16,
+        table,
+    };
+    let mut first = None;
+    for i in 0..table.len() / 8 {
+        if !m.good(&table[8 * i..8 * i + 8]) {
+            first = Some(i as u64);
+            if !fault(19) {
+                break;
+            }
+        }
+    }
+    match first {
+        Some(i) => Err(No(6, Some(i))),
+        None => Ok(m),
+    }
+}
+
+impl Machine<'_> {
+    /// Whether an entry keeps to the layout and its numbers to their ranges.
+    fn good(&self, e: &[u8]) -> bool {
+        match e[0] {
+            0 => {
+                if fault(41) {
+                    return e[3..].iter().all(|&b| b == 0);
+                }
+                return e == [0; 8];
+            }
+            1 => {}
+            _ => return false,
+        }
+        if usize::from(e[1]) + 256 * usize::from(e[2]) >= self.states {
+            return false;
+        }
+        for i in 0..3 {
+            let most = if i < self.tapes { self.symbols - 1 } else { 0 };
+            if usize::from(e[3 + i]) > most {
+                return false;
+            }
+        }
+        // The moves of lacking tapes are all N: what stands above the present ones is 2 or 2 + 3 * 2.
+        let lacking = match self.tapes {
+            1 => e[6] / 3 == 8,
+            2 => e[6] / 9 == 2,
+            _ => e[6] < 27,
+        };
+        (lacking || fault(33) && e[6] < 27) && (e[7] == 0 || fault(32))
+    }
+
+    /// The entry for a state and the symbols read.
+    fn entry(&self, state: u16, read: [u8; 3]) -> Option<Entry> {
+        let mut place = 0;
+        for i in (0..self.tapes).rev() {
+            place = place * self.symbols + usize::from(read[i]);
+        }
+        let stride = self.symbols.pow(self.tapes as u32);
+        let at = 8 * (usize::from(state) * stride + place);
+        let e = self.table.get(at..at + 8)?;
+        (e[0] == 1).then(|| Entry {
+            next: u16::from(e[1]) + 256 * u16::from(e[2]),
+            write: [e[3], e[4], e[5]],
+            moves: [e[6] % 3, e[6] / 3 % 3, e[6] / 9],
+        })
+    }
+
+    /// The packed word of entry `i`, of one tape.
+    fn word(&self, i: usize) -> u64 {
+        let e = &self.table[8 * i..8 * i + 8];
+        if e[0] == 0 {
+            return if fault(16) { 0 } else { 3 };
+        }
+        let next = u64::from(e[1]) + 256 * u64::from(e[2]);
+        let mut row = next * self.symbols as u64;
+        if fault(37) {
+            row %= 65_536;
+        }
+        u64::from(e[6] % 3) + (u64::from(e[3]) << 8) + (next << 16) + (row << 32)
+    }
+}
+
+/// The entry that a packed word stands for.
+fn unpack(word: u64) -> Option<Entry> {
+    if word == 3 {
+        return None;
+    }
+    let move0 = match word & 0xff {
+        0 => L,
+        1 => R,
+        _ => N,
+    };
+    Some(Entry { next: (word >> 16) as u16, write: [(word >> 8) as u8, 0, 0], moves: [move0, N, N] })
+}
+
+/// One tape's numbers; the cells stand apart.
+#[derive(Clone, Copy, Default)]
+struct Tape {
+    len: usize,
+    origin: usize,
+    head: usize,
+    low: usize,
+    high: usize,
+}
+
+impl Tape {
+    /// Whether a move would leave the cells in use.
+    fn leaves(&self, d: u8) -> bool {
+        d == L && self.head == 0 || d == R && self.head + 1 == self.len
+    }
+
+    /// The new length after growth.
+    fn grown(&self) -> usize {
+        if fault(46) { self.len + 32 } else { 2 * self.len }
+    }
+
+    fn full(&self, d: u8, room: usize) -> bool {
+        self.leaves(d) && (self.grown() > room || fault(9) && self.grown() == room)
+    }
+
+    /// Moves, with room for it.
+    fn shift(&mut self, d: u8, cells: &mut [u8]) {
+        let grows = self.leaves(d);
+        let len = self.len;
+        if grows {
+            self.len = self.grown();
+            let extra = self.len - len;
+            if d == L {
+                cells.copy_within(0..len, extra);
+                cells[..extra].fill(0);
+                self.origin += extra;
+                self.head += extra;
+                if !fault(40) {
+                    self.low += extra;
+                }
+                if !fault(8) {
+                    self.high += extra;
+                }
+            } else if !fault(7) {
+                cells[len..len + extra].fill(0);
+            }
+        }
+        match d {
+            L => self.head -= 1,
+            R => self.head += 1,
+            _ => {}
+        }
+        self.low = self.low.min(self.head);
+        if !(grows && fault(21)) {
+            self.high = self.high.max(self.head);
+        }
+    }
+
+    /// The index of a position, where there is one.
+    fn index(&self, at: i64) -> Option<usize> {
+        let index = i128::from(at) + self.origin as i128;
+        (0 <= index && index < self.len as i128).then_some(index as usize)
+    }
+
+    /// The position of an index, raised by 2^63.
+    fn raised(&self, index: usize) -> u64 {
+        (1 << 63) + index as u64 - self.origin as u64
+    }
+}
+
+/// An engine that fits.
+struct Engine {
+    state: u16,
+    steps: u64,
+    tapes: [Tape; 3],
+    /// Positions of non-blank cells seen left and right (only for a fault).
+    seen: [Cell<Option<i64>>; 2],
+}
+
+/// How a run ended.
+enum Outcome {
+    Halted,
+    Fuel,
+    Stay,
+    Chain(u8),
+    Stopped,
+    Full,
+}
+
+impl Engine {
+    /// Takes an engine value that fits, or refuses it.
+    fn load(m: &Machine, state: u16, value: &[u64; 16], cells: [&[u8]; 3]) -> Answer<Engine> {
+        for c in &cells[..m.tapes] {
+            if c.len() > 1 << 30 && !fault(42) {
+                return refuse(11);
+            }
+        }
+        let states = if fault(27) { m.states & 0xffff } else { m.states };
+        if usize::from(state) >= states {
+            return refuse(12);
+        }
+        if value[0] > 1 << 62 || fault(28) && value[0] == 1 << 62 {
+            return refuse(12);
+        }
+        let mut tapes = [Tape::default(); 3];
+        for i in 0..m.tapes {
+            let v = &value[1 + 5 * i..6 + 5 * i];
+            let (len, origin, head, low, high) = (v[0], v[1], v[2], v[3], v[4]);
+            if len < 32 || len > cells[i].len() as u64 {
+                return refuse(12);
+            }
+            if head >= len && !(fault(47) && head == len && high == len) {
+                return refuse(12);
+            }
+            if origin >= len && !(fault(50) && origin == len) {
+                return refuse(12);
+            }
+            if low > head || head > high || high >= len && !fault(47) {
+                return refuse(12);
+            }
+            let tested = if fault(12) { cells[i].len() } else { len as usize };
+            for &c in &cells[i][..tested] {
+                if usize::from(c) >= m.symbols {
+                    return refuse(12);
+                }
+            }
+            tapes[i] = Tape {
+                len: len as usize,
+                origin: origin as usize,
+                head: (head as usize).min(len as usize - 1),
+                low: low as usize,
+                high: high as usize,
+            };
+        }
+        if fault(29) && value[1 + 5 * m.tapes..].iter().any(|&v| v != 0) {
+            return refuse(12);
+        }
+        Ok(Engine { state, steps: value[0], tapes, seen: Default::default() })
+    }
+
+    /// Hands the value back, fields of lacking tapes left alone.
+    fn store(&self, m: &Machine, state: &mut u16, value: &mut [u64; 16]) {
+        *state = self.state;
+        value[0] = self.steps;
+        for i in 0..m.tapes {
+            let t = self.tapes[i];
+            for (j, v) in [t.len, t.origin, t.head, t.low, t.high].into_iter().enumerate() {
+                value[1 + 5 * i + j] = v as u64;
+            }
+        }
+    }
+
+    fn read(&self, m: &Machine, cells: &[&mut [u8]; 3]) -> [u8; 3] {
+        let mut read = [0; 3];
+        for i in 0..m.tapes {
+            read[i] = cells[i][self.tapes[i].head];
+        }
+        read
+    }
+
+    /// Whether the next step needs more room than there is.
+    fn full(&self, m: &Machine, e: &Entry, cells: &[&mut [u8]; 3]) -> bool {
+        (0..m.tapes).any(|i| self.tapes[i].full(e.moves[i], cells[i].len()))
+    }
+
+    /// The never test: the pattern, if there is one.
+    fn never(&self, m: &Machine, e: &Entry, read: [u8; 3], cells: &[&mut [u8]; 3]) -> Option<Outcome> {
+        if e.next != self.state {
+            return None;
+        }
+        let looked = if fault(23) { 1 } else { m.tapes };
+        if (0..looked).all(|i| e.moves[i] == N && e.write[i] == read[i]) {
+            return Some(Outcome::Stay);
+        }
+        if m.tapes > 1 && !fault(4) || read[0] != 0 || fault(5) && e.write[0] != 0 {
+            return None;
+        }
+        let t = self.tapes[0];
+        if fault(51) && e.moves[0] != N {
+            let here = t.head as i64 - t.origin as i64;
+            let seen = &self.seen[usize::from(e.moves[0])];
+            let beyond = |p: i64| if e.moves[0] == L { p < here } else { p > here };
+            if seen.get().is_some_and(beyond) {
+                return None;
+            }
+            let from = if e.moves[0] == L { here - 1 } else { here + 1 };
+            seen.set(find(t, &cells[0][..t.len], from, e.moves[0]).map(|i| i as i64 - t.origin as i64));
+        }
+        let short = usize::from(fault(6));
+        let end = if fault(45) { t.high + 1 } else { t.len };
+        let blank = |part: &[u8]| part.iter().all(|&c| c == 0);
+        let beyond = match e.moves[0] {
+            L => cells[0][short.min(t.head)..t.head].iter().rev().all(|&c| c == 0),
+            R => blank(&cells[0][t.head + 1..end.max(t.head + 1 + short) - short]),
+            _ => false,
+        };
+        beyond.then_some(Outcome::Chain(if fault(35) { R } else { e.moves[0] }))
+    }
+
+    /// Makes the step of an entry, with room for it.
+    fn make(&mut self, m: &Machine, e: &Entry, cells: &mut [&mut [u8]; 3]) {
+        for i in 0..m.tapes {
+            cells[i][self.tapes[i].head] = e.write[i];
+            self.tapes[i].shift(e.moves[i], cells[i]);
+        }
+        self.state = e.next;
+        self.steps += 1;
+    }
+
+    /// Runs with the entries that `entry` finds.
+    fn run(
+        &mut self,
+        m: &Machine,
+        entry: impl Fn(u16, [u8; 3]) -> Option<Entry>,
+        cells: &mut [&mut [u8]; 3],
+        rule: u64,
+        fuel: u64,
+    ) -> Outcome {
+        let rule = if fault(49) { rule % 65_536 } else { rule };
+        let mut left = fuel;
+        loop {
+            let read = self.read(m, cells);
+            if fault(1) && left == 0 {
+                return Outcome::Fuel;
+            }
+            let Some(e) = entry(self.state, read) else {
+                return Outcome::Halted;
+            };
+            if fault(2) && left == 0 {
+                return Outcome::Fuel;
+            }
+            if let Some(never) = self.never(m, &e, read, cells) {
+                return never;
+            }
+            if fault(3) && self.full(m, &e, cells) {
+                return Outcome::Full;
+            }
+            if left == 0 {
+                return Outcome::Fuel;
+            }
+            if self.full(m, &e, cells) {
+                if fault(18) {
+                    for i in 0..m.tapes {
+                        if self.tapes[i].full(e.moves[i], cells[i].len()) {
+                            break;
+                        }
+                        cells[i][self.tapes[i].head] = e.write[i];
+                    }
+                }
+                if fault(44) && self.steps > 0 {
+                    self.steps -= 1;
+                }
+                return Outcome::Full;
+            }
+            let from = if fault(10) { e.next } else { self.state };
+            self.make(m, &e, cells);
+            left -= 1;
+            if u64::from(from) == rule && !(fault(38) && left > 0 && m.tapes == 1) {
+                return Outcome::Stopped;
+            }
+        }
+    }
+}
+
+fn check(sizes: [u64; 4], table: &[u8]) -> Answer<()> {
+    accept(sizes, table).map(|_| ())
+}
+
+fn pack(sizes: [u64; 4], table: &[u8], words: &mut [u64]) -> Answer<()> {
+    let m = accept(sizes, table)?;
+    if m.tapes > 1 {
+        return refuse(7);
+    }
+    let count = table.len() / 8;
+    if words.len() < count {
+        return refuse(18);
+    }
+    for (i, word) in words[..count].iter_mut().enumerate() {
+        *word = m.word(i);
+    }
+    if fault(36) {
+        words[count..].fill(3);
+    }
+    Ok(())
+}
+
+fn sim_new(
+    sizes: [u64; 4],
+    table: &[u8],
+    word: &[u8],
+    cells: [&mut [u8]; 3],
+    state: &mut u16,
+    value: &mut [u64; 16],
+) -> Answer<()> {
+    let m = accept(sizes, table)?;
+    if word.len() > 1_048_576 {
+        return refuse(9);
+    }
+    let outside = |&a: &u8| usize::from(a) >= m.symbols;
+    let place = if fault(25) { word.iter().rposition(outside) } else { word.iter().position(outside) };
+    let place = || match place {
+        Some(i) => Err(No(10, Some(i as u64))),
+        None => Ok(()),
+    };
+    if !fault(31) {
+        place()?;
+    }
+    for (i, c) in cells.iter().enumerate().take(m.tapes) {
+        let needed = if i == 0 { 32 + word.len() } else { 32 };
+        let short = if fault(26) { needed - 1 } else { needed };
+        if c.len() < short || c.len() > 1 << 30 && !fault(42) {
+            return refuse(11);
+        }
+    }
+    place()?;
+    let mut tapes = [Tape::default(); 3];
+    for (i, c) in cells.into_iter().enumerate().take(m.tapes) {
+        let word = if i == 0 { word } else { &[] };
+        let len = (32 + word.len()).min(c.len());
+        if fault(34) {
+            c.fill(0);
+        }
+        c[..len].fill(0);
+        c[16..16 + word.len()].copy_from_slice(word);
+        tapes[i] = Tape { len, origin: 16, head: 16, low: 16, high: 16 };
+    }
+    Engine { state: m.start, steps: 0, tapes, seen: Default::default() }.store(&m, state, value);
+    Ok(())
+}
+
+fn shared<'a>(cells: &'a [&mut [u8]; 3]) -> [&'a [u8]; 3] {
+    [cells[0], cells[1], cells[2]]
+}
+
+/// Refusal 13.
+fn enough(steps: u64, fuel: u64) -> Answer<()> {
+    let sum = if fault(20) { u128::from(steps.wrapping_add(fuel)) } else { u128::from(steps) + u128::from(fuel) };
+    if sum > 1 << 62 { refuse(13) } else { Ok(()) }
+}
+
+fn sim_step(
+    sizes: [u64; 4],
+    table: &[u8],
+    mut cells: [&mut [u8]; 3],
+    state: &mut u16,
+    value: &mut [u64; 16],
+    out: &mut [u64; 8],
+) -> Answer<()> {
+    let m = accept(sizes, table)?;
+    let mut engine = Engine::load(&m, *state, value, shared(&cells))?;
+    enough(engine.steps, 1)?;
+    let read = engine.read(&m, &cells);
+    out[0] = match m.entry(engine.state, read) {
+        None => 1,
+        Some(e) if fault(22) && engine.never(&m, &e, read, &cells).is_some() => 1,
+        Some(e) if engine.full(&m, &e, &cells) => 2,
+        Some(e) => {
+            engine.make(&m, &e, &mut cells);
+            0
+        }
+    };
+    engine.store(&m, state, value);
+    Ok(())
+}
+
+#[expect(clippy::too_many_arguments)]
+fn sim_run(
+    sizes: [u64; 4],
+    table: &[u8],
+    words: Option<&[u64]>,
+    mut cells: [&mut [u8]; 3],
+    state: &mut u16,
+    value: &mut [u64; 16],
+    (rule, fuel): (u64, u64),
+    out: &mut [u64; 8],
+) -> Answer<()> {
+    let m = accept(sizes, table)?;
+    let count = table.len() / 8;
+    if let Some(words) = words {
+        let longer = fault(17) && words.len() > count;
+        let same = m.tapes == 1 && (words.len() == count || longer) && (0..count).all(|i| words[i] == m.word(i));
+        if !same {
+            if fault(30) {
+                Engine::load(&m, *state, value, shared(&cells))?;
+            }
+            return refuse(7);
+        }
+    }
+    let mut engine = Engine::load(&m, *state, value, shared(&cells))?;
+    if fault(11) && enough(engine.steps, fuel).is_err() {
+        engine.run(&m, |q, a| m.entry(q, a), &mut cells, rule, 1);
+    }
+    enough(engine.steps, fuel)?;
+    let outcome = match words {
+        None => engine.run(&m, |q, a| m.entry(q, a), &mut cells, rule, fuel),
+        Some(words) => {
+            let first = engine.state;
+            let begun = Cell::new(false);
+            let entry = |q: u16, a: [u8; 3]| {
+                let row = if fault(53) && q == first && !begun.replace(true) { 0 } else { usize::from(q) };
+                unpack(words[row * m.symbols + usize::from(a[0])])
+            };
+            let was = engine.tapes[0];
+            let outcome = engine.run(&m, entry, &mut cells, rule, fuel);
+            if fault(52) && matches!(outcome, Outcome::Fuel) {
+                engine.tapes[0].low = was.low.min(engine.tapes[0].head);
+                engine.tapes[0].high = was.high.max(engine.tapes[0].head);
+            }
+            outcome
+        }
+    };
+    let state_number = u64::from(engine.state);
+    let (number, parts) = match outcome {
+        Outcome::Halted => (0, [state_number, 0, 0]),
+        Outcome::Fuel => (1, [0; 3]),
+        Outcome::Stay => (2, [state_number, 0, 0]),
+        Outcome::Chain(d) => (2, [state_number, 1, u64::from(d)]),
+        Outcome::Stopped => (3, [0; 3]),
+        Outcome::Full => (4, [0; 3]),
+    };
+    out[0] = number;
+    out[1] = engine.steps;
+    out[2..5].copy_from_slice(&parts);
+    engine.store(&m, state, value);
+    Ok(())
+}
+
+/// What a question is asked of: the tape, its cells and the machine's number of symbols.
+fn question<'a>(
+    sizes: [u64; 4],
+    table: &[u8],
+    cells: [&'a [u8]; 3],
+    state: u16,
+    value: &[u64; 16],
+    tape: u64,
+    out: &mut [u64; 8],
+) -> Answer<(Tape, &'a [u8])> {
+    let m = accept(sizes, table)?;
+    let loaded = Engine::load(&m, state, value, cells);
+    if fault(43) && loaded.is_err() {
+        out[1] = 0;
+    }
+    let engine = loaded?;
+    let tape = if fault(48) { tape & 0xff } else { tape };
+    if tape >= m.tapes as u64 {
+        return refuse(12);
+    }
+    let t = engine.tapes[tape as usize];
+    Ok((t, &cells[tape as usize][..t.len]))
+}
+
+fn get(t: Tape, cells: &[u8], at: i64) -> u8 {
+    t.index(at).map_or(0, |i| cells[i])
+}
+
+fn find(t: Tape, cells: &[u8], from: i64, dir: u8) -> Option<usize> {
+    let start = i128::from(from) + t.origin as i128;
+    match dir {
+        L => {
+            let last = start.min(cells.len() as i128 - 1);
+            if fault(14) && start >= cells.len() as i128 {
+                return None;
+            }
+            (0..=last).rev().map(|i| i as usize).find(|&i| cells[i] != 0)
+        }
+        R => ((start + i128::from(fault(54))).max(0)..cells.len() as i128).map(|i| i as usize).find(|&i| cells[i] != 0),
+        _ => t.index(from).filter(|&i| cells[i] != 0),
+    }
+}
+
+/// The functions with the signatures of the port's library.
+#[rustfmt::skip]
+#[expect(clippy::missing_safety_doc, reason = "as the port's")]
+pub mod exports {
+    use std::slice::{from_raw_parts, from_raw_parts_mut};
+
+    use super::*;
+
+    /// A slice lent for reading.
+    type Lent = (*const u8, usize);
+    /// A slice lent for writing.
+    type LentMut = (*mut u8, usize);
+
+    unsafe fn read<'a>((at, len): Lent) -> &'a [u8] {
+        unsafe { from_raw_parts(at, len) }
+    }
+
+    unsafe fn write<'a>((at, len): LentMut) -> &'a mut [u8] {
+        unsafe { from_raw_parts_mut(at, len) }
+    }
+
+    /// The number of an answer, its place in `out[0]`.
+    fn number(answer: Answer<()>, out: &mut [u64; 8]) -> u8 {
+        match answer {
+            Ok(()) => 0,
+            Err(No(number, place)) => {
+                if let Some(place) = place {
+                    out[0] = place;
+                }
+                number
+            }
+        }
+    }
+
+    pub unsafe extern "C" fn tm_check(
+        tapes: u64, symbols: u64, states: u64, start: u64, table: *const u8, table_len: usize, out: *mut [u64; 8],
+    ) -> u8 {
+        let (table, out) = unsafe { (read((table, table_len)), &mut *out) };
+        number(check([tapes, symbols, states, start], table), out)
+    }
+
+    pub unsafe extern "C" fn tm_pack(
+        tapes: u64, symbols: u64, states: u64, start: u64, table: *const u8, table_len: usize,
+        words: *mut u64, words_len: usize, out: *mut [u64; 8],
+    ) -> u8 {
+        let (table, out) = unsafe { (read((table, table_len)), &mut *out) };
+        let words = unsafe { from_raw_parts_mut(words, words_len) };
+        number(pack([tapes, symbols, states, start], table, words), out)
+    }
+
+    pub unsafe extern "C" fn tm_sim_new(
+        tapes: u64, symbols: u64, states: u64, start: u64, table: *const u8, table_len: usize,
+        word: *const u8, word_len: usize,
+        c0: *mut u8, c0_len: usize, c1: *mut u8, c1_len: usize, c2: *mut u8, c2_len: usize,
+        state: *mut u16, engine: *mut [u64; 16], out: *mut [u64; 8],
+    ) -> u8 {
+        let (table, word, out) = unsafe { (read((table, table_len)), read((word, word_len)), &mut *out) };
+        let cells = unsafe { [write((c0, c0_len)), write((c1, c1_len)), write((c2, c2_len))] };
+        let (state, engine) = unsafe { (&mut *state, &mut *engine) };
+        number(sim_new([tapes, symbols, states, start], table, word, cells, state, engine), out)
+    }
+
+    pub unsafe extern "C" fn tm_sim_step(
+        tapes: u64, symbols: u64, states: u64, start: u64, table: *const u8, table_len: usize,
+        c0: *mut u8, c0_len: usize, c1: *mut u8, c1_len: usize, c2: *mut u8, c2_len: usize,
+        state: *mut u16, engine: *mut [u64; 16], out: *mut [u64; 8],
+    ) -> u8 {
+        let (table, out) = unsafe { (read((table, table_len)), &mut *out) };
+        let cells = unsafe { [write((c0, c0_len)), write((c1, c1_len)), write((c2, c2_len))] };
+        let (state, engine) = unsafe { (&mut *state, &mut *engine) };
+        number(sim_step([tapes, symbols, states, start], table, cells, state, engine, out), out)
+    }
+
+    pub unsafe extern "C" fn tm_sim_run(
+        tapes: u64, symbols: u64, states: u64, start: u64, table: *const u8, table_len: usize,
+        c0: *mut u8, c0_len: usize, c1: *mut u8, c1_len: usize, c2: *mut u8, c2_len: usize,
+        state: *mut u16, engine: *mut [u64; 16], rule: u64, fuel: u64, out: *mut [u64; 8],
+    ) -> u8 {
+        let (table, out) = unsafe { (read((table, table_len)), &mut *out) };
+        let cells = unsafe { [write((c0, c0_len)), write((c1, c1_len)), write((c2, c2_len))] };
+        let (state, engine) = unsafe { (&mut *state, &mut *engine) };
+        number(sim_run([tapes, symbols, states, start], table, None, cells, state, engine, (rule, fuel), out), out)
+    }
+
+    pub unsafe extern "C" fn tm_sim_run_packed(
+        tapes: u64, symbols: u64, states: u64, start: u64, table: *const u8, table_len: usize,
+        words: *const u64, words_len: usize,
+        c0: *mut u8, c0_len: usize, c1: *mut u8, c1_len: usize, c2: *mut u8, c2_len: usize,
+        state: *mut u16, engine: *mut [u64; 16], rule: u64, fuel: u64, out: *mut [u64; 8],
+    ) -> u8 {
+        let (table, out) = unsafe { (read((table, table_len)), &mut *out) };
+        let words = unsafe { from_raw_parts(words, words_len) };
+        let cells = unsafe { [write((c0, c0_len)), write((c1, c1_len)), write((c2, c2_len))] };
+        let (state, engine) = unsafe { (&mut *state, &mut *engine) };
+        number(sim_run([tapes, symbols, states, start], table, Some(words), cells, state, engine, (rule, fuel), out), out)
+    }
+
+    pub unsafe extern "C" fn tm_sim_get(
+        tapes: u64, symbols: u64, states: u64, start: u64, table: *const u8, table_len: usize,
+        c0: *const u8, c0_len: usize, c1: *const u8, c1_len: usize, c2: *const u8, c2_len: usize,
+        state: u16, engine: *const [u64; 16], tape: u64, at: i64, out: *mut [u64; 8],
+    ) -> u8 {
+        let (table, engine, out) = unsafe { (read((table, table_len)), &*engine, &mut *out) };
+        let cells = unsafe { [read((c0, c0_len)), read((c1, c1_len)), read((c2, c2_len))] };
+        let asked = question([tapes, symbols, states, start], table, cells, state, engine, tape, out);
+        number(asked.map(|(t, cells)| out[0] = u64::from(get(t, cells, at))), out)
+    }
+
+    pub unsafe extern "C" fn tm_sim_non_blank(
+        tapes: u64, symbols: u64, states: u64, start: u64, table: *const u8, table_len: usize,
+        c0: *const u8, c0_len: usize, c1: *const u8, c1_len: usize, c2: *const u8, c2_len: usize,
+        state: u16, engine: *const [u64; 16], tape: u64, out: *mut [u64; 8],
+    ) -> u8 {
+        let (table, engine, out) = unsafe { (read((table, table_len)), &*engine, &mut *out) };
+        let cells = unsafe { [read((c0, c0_len)), read((c1, c1_len)), read((c2, c2_len))] };
+        let asked = question([tapes, symbols, states, start], table, cells, state, engine, tape, out);
+        let answered = asked.map(|(t, cells)| {
+            let skipped = if fault(39) { t.low } else { 0 };
+            let first = cells.iter().skip(skipped).position(|&c| c != 0).map(|i| i + skipped);
+            match (first, cells.iter().rposition(|&c| c != 0)) {
+                (Some(first), Some(last)) => out[..3].copy_from_slice(&[1, t.raised(first), t.raised(last)]),
+                _ => out[0] = 0,
+            }
+        });
+        number(answered, out)
+    }
+
+    pub unsafe extern "C" fn tm_sim_count(
+        tapes: u64, symbols: u64, states: u64, start: u64, table: *const u8, table_len: usize,
+        c0: *const u8, c0_len: usize, c1: *const u8, c1_len: usize, c2: *const u8, c2_len: usize,
+        state: u16, engine: *const [u64; 16], tape: u64, out: *mut [u64; 8],
+    ) -> u8 {
+        let (table, engine, out) = unsafe { (read((table, table_len)), &*engine, &mut *out) };
+        let cells = unsafe { [read((c0, c0_len)), read((c1, c1_len)), read((c2, c2_len))] };
+        let asked = question([tapes, symbols, states, start], table, cells, state, engine, tape, out);
+        let answered = asked.map(|(_, cells)| {
+            out[0] = cells.iter().filter(|&&c| c != 0).count() as u64;
+            if fault(24) && cells[cells.len() - 1] != 0 {
+                out[0] += 1;
+            }
+        });
+        number(answered, out)
+    }
+
+    pub unsafe extern "C" fn tm_sim_window(
+        tapes: u64, symbols: u64, states: u64, start: u64, table: *const u8, table_len: usize,
+        c0: *const u8, c0_len: usize, c1: *const u8, c1_len: usize, c2: *const u8, c2_len: usize,
+        state: u16, engine: *const [u64; 16], tape: u64, from: i64,
+        window: *mut u8, window_len: usize, out: *mut [u64; 8],
+    ) -> u8 {
+        let (table, engine, out) = unsafe { (read((table, table_len)), &*engine, &mut *out) };
+        let cells = unsafe { [read((c0, c0_len)), read((c1, c1_len)), read((c2, c2_len))] };
+        let window = unsafe { write((window, window_len)) };
+        let asked = question([tapes, symbols, states, start], table, cells, state, engine, tape, out);
+        let answered = asked.map(|(t, cells)| {
+            for (i, cell) in window.iter_mut().enumerate() {
+                match from.checked_add(i as i64) {
+                    None if fault(15) => {}
+                    at => *cell = at.map_or(0, |at| get(t, cells, at)),
+                }
+            }
+        });
+        number(answered, out)
+    }
+
+    pub unsafe extern "C" fn tm_sim_find(
+        tapes: u64, symbols: u64, states: u64, start: u64, table: *const u8, table_len: usize,
+        c0: *const u8, c0_len: usize, c1: *const u8, c1_len: usize, c2: *const u8, c2_len: usize,
+        state: u16, engine: *const [u64; 16], tape: u64, from: i64, dir: u8, out: *mut [u64; 8],
+    ) -> u8 {
+        let (table, engine, out) = unsafe { (read((table, table_len)), &*engine, &mut *out) };
+        let cells = unsafe { [read((c0, c0_len)), read((c1, c1_len)), read((c2, c2_len))] };
+        let asked = question([tapes, symbols, states, start], table, cells, state, engine, tape, out);
+        let answered = asked.map(|(t, cells)| match find(t, cells, from, dir) {
+            Some(i) => out[..2].copy_from_slice(&[1, t.raised(i)]),
+            None => out[0] = 0,
+        });
+        number(answered, out)
+    }
+}

@@ -1,0 +1,192 @@
+//! The port's functions, as its library exports them, and safe wrappers around them.
+//!
+//! Nothing checks these declarations against the library: this is the only file that has any. A
+//! slice is a pointer and a number of elements, an array reference is one pointer. Every function
+//! gives 0 for done, or the refusal's number; the place of refusals 6, 10 and 17 is in `out[0]`.
+
+use crate::law::{Engine, Sizes};
+
+/// The numbers that a function gives back.
+pub type Out = [u64; 8];
+
+/// Cells buffers lent for writing.
+pub type CellsMut<'a> = [&'a mut [u8]; 3];
+
+/// Cells buffers lent for reading.
+pub type Cells<'a> = [&'a [u8]; 3];
+
+#[cfg(feature = "mock")]
+use crate::mock::exports as sys;
+
+#[cfg(not(feature = "mock"))]
+#[rustfmt::skip]
+mod sys {
+    use super::{Engine, Out};
+    unsafe extern "C" {
+        pub fn tm_check(tapes: u64, symbols: u64, states: u64, start: u64, table: *const u8, table_len: usize, out: *mut Out) -> u8;
+        pub fn tm_pack(tapes: u64, symbols: u64, states: u64, start: u64, table: *const u8, table_len: usize, words: *mut u64, words_len: usize, out: *mut Out) -> u8;
+        pub fn tm_sim_new(tapes: u64, symbols: u64, states: u64, start: u64, table: *const u8, table_len: usize, word: *const u8, word_len: usize,
+            c0: *mut u8, c0_len: usize, c1: *mut u8, c1_len: usize, c2: *mut u8, c2_len: usize, state: *mut u16, engine: *mut Engine, out: *mut Out) -> u8;
+        pub fn tm_sim_step(tapes: u64, symbols: u64, states: u64, start: u64, table: *const u8, table_len: usize,
+            c0: *mut u8, c0_len: usize, c1: *mut u8, c1_len: usize, c2: *mut u8, c2_len: usize, state: *mut u16, engine: *mut Engine, out: *mut Out) -> u8;
+        pub fn tm_sim_run(tapes: u64, symbols: u64, states: u64, start: u64, table: *const u8, table_len: usize,
+            c0: *mut u8, c0_len: usize, c1: *mut u8, c1_len: usize, c2: *mut u8, c2_len: usize, state: *mut u16, engine: *mut Engine,
+            rule: u64, fuel: u64, out: *mut Out) -> u8;
+        pub fn tm_sim_run_packed(tapes: u64, symbols: u64, states: u64, start: u64, table: *const u8, table_len: usize, words: *const u64, words_len: usize,
+            c0: *mut u8, c0_len: usize, c1: *mut u8, c1_len: usize, c2: *mut u8, c2_len: usize, state: *mut u16, engine: *mut Engine,
+            rule: u64, fuel: u64, out: *mut Out) -> u8;
+        pub fn tm_sim_get(tapes: u64, symbols: u64, states: u64, start: u64, table: *const u8, table_len: usize,
+            c0: *const u8, c0_len: usize, c1: *const u8, c1_len: usize, c2: *const u8, c2_len: usize, state: u16, engine: *const Engine,
+            tape: u64, at: i64, out: *mut Out) -> u8;
+        pub fn tm_sim_non_blank(tapes: u64, symbols: u64, states: u64, start: u64, table: *const u8, table_len: usize,
+            c0: *const u8, c0_len: usize, c1: *const u8, c1_len: usize, c2: *const u8, c2_len: usize, state: u16, engine: *const Engine,
+            tape: u64, out: *mut Out) -> u8;
+        pub fn tm_sim_count(tapes: u64, symbols: u64, states: u64, start: u64, table: *const u8, table_len: usize,
+            c0: *const u8, c0_len: usize, c1: *const u8, c1_len: usize, c2: *const u8, c2_len: usize, state: u16, engine: *const Engine,
+            tape: u64, out: *mut Out) -> u8;
+        pub fn tm_sim_window(tapes: u64, symbols: u64, states: u64, start: u64, table: *const u8, table_len: usize,
+            c0: *const u8, c0_len: usize, c1: *const u8, c1_len: usize, c2: *const u8, c2_len: usize, state: u16, engine: *const Engine,
+            tape: u64, from: i64, cells: *mut u8, cells_len: usize, out: *mut Out) -> u8;
+        pub fn tm_sim_find(tapes: u64, symbols: u64, states: u64, start: u64, table: *const u8, table_len: usize,
+            c0: *const u8, c0_len: usize, c1: *const u8, c1_len: usize, c2: *const u8, c2_len: usize, state: u16, engine: *const Engine,
+            tape: u64, from: i64, dir: u8, out: *mut Out) -> u8;
+    }
+}
+
+pub use calls::{View, check, new, pack, run, run_packed, step};
+
+// SAFETY of every call below: the port reads and writes inside what is lent, and keeps nothing.
+#[rustfmt::skip]
+mod calls {
+    use super::{Cells, CellsMut, Engine, Out, Sizes, sys};
+
+    /// Checks a table.
+    pub fn check(s: Sizes, table: &[u8], out: &mut Out) -> u8 {
+        unsafe { sys::tm_check(s.tapes, s.symbols, s.states, s.start, table.as_ptr(), table.len(), out) }
+    }
+
+    /// Packs a table's entries into `words`.
+    pub fn pack(s: Sizes, table: &[u8], words: &mut [u64], out: &mut Out) -> u8 {
+        unsafe {
+            sys::tm_pack(
+                s.tapes, s.symbols, s.states, s.start, table.as_ptr(), table.len(),
+                words.as_mut_ptr(), words.len(), out,
+            )
+        }
+    }
+
+    /// Makes a fresh engine.
+    pub fn new(
+        s: Sizes, table: &[u8], word: &[u8],
+        [c0, c1, c2]: CellsMut, state: &mut u16, engine: &mut Engine, out: &mut Out,
+    ) -> u8 {
+        unsafe {
+            sys::tm_sim_new(
+                s.tapes, s.symbols, s.states, s.start, table.as_ptr(), table.len(), word.as_ptr(), word.len(),
+                c0.as_mut_ptr(), c0.len(), c1.as_mut_ptr(), c1.len(), c2.as_mut_ptr(), c2.len(), state, engine,
+                out,
+            )
+        }
+    }
+
+    /// Makes one step: `out[0]` is 0 running, 1 halted, 2 full.
+    pub fn step(
+        s: Sizes, table: &[u8],
+        [c0, c1, c2]: CellsMut, state: &mut u16, engine: &mut Engine, out: &mut Out,
+    ) -> u8 {
+        unsafe {
+            sys::tm_sim_step(
+                s.tapes, s.symbols, s.states, s.start, table.as_ptr(), table.len(),
+                c0.as_mut_ptr(), c0.len(), c1.as_mut_ptr(), c1.len(), c2.as_mut_ptr(), c2.len(), state, engine,
+                out,
+            )
+        }
+    }
+
+    /// Runs: `out` is the outcome (0 halted, 1 fuel, 2 never, 3 stopped, 4 full), steps, state,
+    /// pattern (0 stay, 1 chain), move. `rule` is the `from` state to stop after, 65,536 and above
+    /// for none.
+    pub fn run(
+        s: Sizes, table: &[u8],
+        [c0, c1, c2]: CellsMut, state: &mut u16, engine: &mut Engine, (rule, fuel): (u64, u64), out: &mut Out,
+    ) -> u8 {
+        unsafe {
+            sys::tm_sim_run(
+                s.tapes, s.symbols, s.states, s.start, table.as_ptr(), table.len(),
+                c0.as_mut_ptr(), c0.len(), c1.as_mut_ptr(), c1.len(), c2.as_mut_ptr(), c2.len(), state, engine,
+                rule, fuel, out,
+            )
+        }
+    }
+
+    /// Runs on packed words; answers as [`run`].
+    #[expect(clippy::too_many_arguments)]
+    pub fn run_packed(
+        s: Sizes, table: &[u8], words: &[u64],
+        [c0, c1, c2]: CellsMut, state: &mut u16, engine: &mut Engine, (rule, fuel): (u64, u64), out: &mut Out,
+    ) -> u8 {
+        unsafe {
+            sys::tm_sim_run_packed(
+                s.tapes, s.symbols, s.states, s.start, table.as_ptr(), table.len(), words.as_ptr(), words.len(),
+                c0.as_mut_ptr(), c0.len(), c1.as_mut_ptr(), c1.len(), c2.as_mut_ptr(), c2.len(), state, engine,
+                rule, fuel, out,
+            )
+        }
+    }
+
+    /// An engine lent for questions, with its table.
+    #[derive(Clone, Copy)]
+    pub struct View<'a> {
+        pub sizes: Sizes,
+        pub table: &'a [u8],
+        pub cells: Cells<'a>,
+        pub state: u16,
+        pub engine: &'a Engine,
+    }
+
+    /// Asks the question `$name` of a view, with the further arguments.
+    macro_rules! ask {
+        ($view:expr, $name:ident, $($more:expr),*) => {{
+            let View { sizes: s, table, cells: [c0, c1, c2], state, engine } = *$view;
+            unsafe {
+                sys::$name(
+                    s.tapes, s.symbols, s.states, s.start, table.as_ptr(), table.len(),
+                    c0.as_ptr(), c0.len(), c1.as_ptr(), c1.len(), c2.as_ptr(), c2.len(), state, engine,
+                    $($more),*
+                )
+            }
+        }};
+    }
+
+    impl View<'_> {
+        /// `out[0]` is the symbol at `at`.
+        pub fn get(&self, tape: u64, at: i64, out: &mut Out) -> u8 {
+            ask!(self, tm_sim_get, tape, at, out)
+        }
+
+        /// `out[0]` is 0 for an empty tape, else 1, and `out[1]`, `out[2]` the raised ends.
+        pub fn non_blank(&self, tape: u64, out: &mut Out) -> u8 {
+            ask!(self, tm_sim_non_blank, tape, out)
+        }
+
+        /// `out[0]` is the number of non-blank cells.
+        pub fn count(&self, tape: u64, out: &mut Out) -> u8 {
+            ask!(self, tm_sim_count, tape, out)
+        }
+
+        /// Fills `cells` with the symbols from `from` on.
+        pub fn window(&self, tape: u64, from: i64, cells: &mut [u8], out: &mut Out) -> u8 {
+            ask!(self, tm_sim_window, tape, from, cells.as_mut_ptr(), cells.len(), out)
+        }
+
+        /// `out[0]` is 0 for nowhere, else 1, and `out[1]` the raised position. `dir`: 0 L, 1 R, 2 N.
+        pub fn find(&self, tape: u64, from: i64, dir: u8, out: &mut Out) -> u8 {
+            ask!(self, tm_sim_find, tape, from, dir, out)
+        }
+    }
+}
+
+/// The position that a raised number (position + 2^63) stands for.
+pub fn lowered(raised: u64) -> i64 {
+    (raised ^ (1 << 63)) as i64
+}
