@@ -183,3 +183,11 @@ unfoldable pub onceOf : Machine → List ℕ → Conf → Once
 onceOf m s σ =
     onLook (lookWith m s false σ) (once σ Step.Halted) (λ p. once σ Step.Halted)
     (λ a. pick (roomyOf σ a) (once (stepOf σ a) Step.Running) (once σ Step.Full))
+
+-- the same by a run that stops after the step: what its end says of the step
+abbrev pub statusOf : Outcome → Status
+statusOf (Halted n q) = Step.Halted
+statusOf (OutOfFuel n) = Step.Running
+statusOf (NeverHalts n p) = Step.Halted
+statusOf (Stopped n) = Step.Running
+statusOf (Full n) = Step.Full

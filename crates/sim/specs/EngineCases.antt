@@ -5,6 +5,7 @@ use mathlib.Core.List.{List}
 use Prim.Native.Nat.{ℕ, zero, suc, _+_, _-_}
 use native.Mathlib.Omega.{arith}
 use borrow.Author.Tests.{eq-eqb, ne-eqb}
+use lib.Dec.{eqb}
 use Rattle.laws.specs.Choice.{pick, both}
 use Rattle.laws.specs.Tests.{both-split}
 use Rattle.symbol.specs.declared.State.{State}
@@ -20,9 +21,10 @@ use Rattle.tape.specs.declared.Tape.{Tape}
 use Rattle.tape.specs.Moves.{Held, held, readOf, roomFor, actOf}
 use Rattle.tape.specs.Questions.{blankBeyond}
 use Rattle.sim.specs.declared.Simulator.{Simulator}
+use Rattle.sim.specs.declared.StopRule.the-variants as Rule
 use Rattle.sim.specs.declared.inner.Look.{Look}
 use Rattle.sim.specs.declared.inner.Look.the-variants.{Halt, Never, Go}
-use Rattle.sim.specs.Engine.{Task, Conf, conf, staysAll, loopOf, judgeOf, lookOn, entryOf, lookWith, lookOf, roomsFor, roomyOf, stepOf, matches, End, end, haltedEnd, neverEnd, fuelEnd, fullEnd, stoppedEnd, runOf, once, onceOf}
+use Rattle.sim.specs.Engine.{Task, Conf, conf, staysAll, loopOf, judgeOf, lookOn, entryOf, lookWith, lookOf, roomsFor, roomyOf, stepOf, matches, End, end, haltedEnd, neverEnd, fuelEnd, fullEnd, stoppedEnd, task, runOf, Once, once, onceOf, statusOf}
 
 pub entry-is : (m : Machine) (s : List ℕ) (q : State) (r0 r1 r2 number stride : ℕ) (e : Entry) → e ≡ entryAt s number
     → number ≡ entryNumber (m .symbols) stride (q .0) r0 r1 r2 → stride ≡ strideOf m → e ≡ entryOf m s q r0 r1 r2
@@ -139,20 +141,23 @@ module _ (k : Task) (σ : Conf) (x : End) where
 
 -- ---- one step
 
-module _ (m : Machine) (s : List ℕ) (v : Simulator) (c0 c1 c2 : List ℕ) (l : Look) (e : l ≡ lookWith m s false (conf v c0 c1 c2)) where
-  pub once-halt : l ≡ Halt → once (conf v c0 c1 c2) Step.Halted ≡ onceOf m s (conf v c0 c1 c2)
-  unfolding onceOf
-  once-halt z = simp (← e, z)
+abbrev onceEnd : End → Once
+onceEnd x = once (x .at) (statusOf (x .outcome))
 
-  pub once-never : (p : NonHaltProof) → l ≡ Never p → once (conf v c0 c1 c2) Step.Halted ≡ onceOf m s (conf v c0 c1 c2)
-  unfolding onceOf
-  once-never p z = simp (← e, z)
+-- a run that stops after a step from this state is one step
+pub once-run : (m : Machine) (s : List ℕ) (σ : Conf) (x : End) → x ≡ runOf (task m s false (Rule.From (σ .sim .state))) 1 σ
+    → once (x .at) (statusOf (x .outcome)) ≡ onceOf m s σ
+unfolding onceOf runOf pick matches
+once-run m s σ x e = ap onceEnd e ∙ look (lookWith m s false σ) refl
+  where
+    stops : eqb (σ .sim .state .0) (σ .sim .state .0) ≡ true
+    stops = eq-eqb (σ .sim .state .0) (σ .sim .state .0) refl
 
-  module _ (a : Action) (z : l ≡ Go a) (r : Bool) (rp : r ≡ roomyOf (conf v c0 c1 c2) a) where
-    pub once-full : r ≡ false → once (conf v c0 c1 c2) Step.Full ≡ onceOf m s (conf v c0 c1 c2)
-    unfolding onceOf pick
-    once-full q = simp (← e, z, ← rp, q)
+    rooms : (a : Action) → lookWith m s false σ ≡ Go a → (r : Bool) → roomyOf σ a ≡ r → onceEnd (runOf (task m s false (Rule.From (σ .sim .state))) 1 σ) ≡ onceOf m s σ
+    rooms a l true r = simp (l, r, stops)
+    rooms a l false r = simp (l, r)
 
-    pub once-made : (u : Simulator) (d0 d1 d2 : List ℕ) → r ≡ true → conf u d0 d1 d2 ≡ stepOf (conf v c0 c1 c2) a → once (conf u d0 d1 d2) Step.Running ≡ onceOf m s (conf v c0 c1 c2)
-    unfolding onceOf pick
-    once-made u d0 d1 d2 q st = ap (λ (τ : Conf). once τ Step.Running) st ∙ simp (← e, z, ← rp, q)
+    look : (l : Look) → lookWith m s false σ ≡ l → onceEnd (runOf (task m s false (Rule.From (σ .sim .state))) 1 σ) ≡ onceOf m s σ
+    look Halt l = simp l
+    look (Never p) l = simp l
+    look (Go a) l = rooms a l (roomyOf σ a) refl

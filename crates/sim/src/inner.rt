@@ -17,7 +17,7 @@ ghost use lib.ListN.{length};
 ghost use Rattle.machine.specs.Layout.{strideOf};
 ghost use Rattle.tape.specs.Moves.{held};
 ghost use Rattle.tape.specs.Fits.{TapeSafe};
-ghost use Rattle.sim.specs.Engine.{task, conf, stays, rewrites, staysAll, loopOf, judgeOf, entryOf, lookWith, roomsFor, stepOf, matches, end, runOf, once, onceOf};
+ghost use Rattle.sim.specs.Engine.{task, conf, statusOf, stays, rewrites, staysAll, loopOf, judgeOf, entryOf, lookWith, roomsFor, stepOf, matches, end, runOf, once, onceOf};
 ghost use Rattle.sim.specs.Turns.{turned, turnOf, LookOk, StepOk, RunOk};
 
 // What is seen before a step: no entry, a proved loop, or the entry to follow.
@@ -150,6 +150,19 @@ pub fn matches(rule: StopRule, q: State) -> bool
         StopRule::From(p) => {
             return p.0 == q.0;
         }
+    }
+}
+
+// What the end of a run of one step says of the step.
+fn status_of(outcome: Outcome) -> Status
+    ensures { λ r. ⌜ r ≡ statusOf outcome ⌝ }
+{
+    match outcome {
+        Outcome::Halted { steps: _, state: _ } => Status::Halted,
+        Outcome::OutOfFuel { steps: _ } => Status::Running,
+        Outcome::NeverHalts { steps: _, proof: _ } => Status::Halted,
+        Outcome::Stopped { steps: _ } => Status::Running,
+        Outcome::Full { steps: _ } => Status::Full,
     }
 }
 
@@ -302,7 +315,7 @@ impl Simulator {
         )
     }
 
-    // One step without the never test; the caller has checked the table and the value.
+    // One step without the never test, as a run that stops after it; the caller has checked the table and the value.
     pub fn step_once(
         self,
         m: Machine,
@@ -315,32 +328,14 @@ impl Simulator {
         requires { ⌜ RunOk m stride self (now c0) (now c1) (now c2) 1 ⌝ }
         ensures { λ r. ⌜ once (conf (r .sim) (now (c0 .exit)) (now (c1 .exit)) (now (c2 .exit))) (r .status) ≡ onceOf m (now (table .entry)) (conf self (now (c0 .entry)) (now (c1 .entry)) (now (c2 .entry))) ⌝ }
     {
-        let seen = self.look(m, stride, false, table, c0, c1, c2);
-        match seen {
-            Look::Halt => {
-                return Once {
-                    sim: self,
-                    status: Status::Halted,
-                };
-            }
-            Look::Never(_) => {
-                return Once {
-                    sim: self,
-                    status: Status::Halted,
-                };
-            }
-            Look::Go(a) => {
-                if !self.rooms(c0.len(), c1.len(), c2.len(), a) {
-                    return Once {
-                        sim: self,
-                        status: Status::Full,
-                    };
-                }
-                return Once {
-                    sim: self.advance(c0, c1, c2, a),
-                    status: Status::Running,
-                };
-            }
+        let state = self.state;
+        let rule = StopRule::From(state);
+        let ran = self.run_all(m, stride, false, rule, table, c0, c1, c2, 1);
+        let sim = ran.sim;
+        let outcome = ran.outcome;
+        Once {
+            sim,
+            status: status_of(outcome),
         }
     }
 }
