@@ -5,7 +5,7 @@ use mathlib.Core.Option.{Option}
 use mathlib.Core.List.{List}
 use Prim.Native.Nat.{ℕ, _+_, _*_, _/_, _%_, _^_, _≤_, _<_}
 use native.Mathlib.Omega.{arith}
-use borrow.Author.Tests.{ltb-true, eqb-true, le-ltb, ne-eqb}
+use borrow.Author.Tests.{ltb-true, lt-ltb, eqb-true, le-ltb, ne-eqb}
 use lib.Dec.{eqb, ltb}
 use lib.ListN.{length}
 use Rattle.laws.specs.Choice.{pick, both}
@@ -39,18 +39,20 @@ pub record Parts (w d write next row : ℕ) : Type 0 where
   pub row-is : wordRow w ≡ row
 
 module _ (a : Action) (stride : ℕ) (write : a .write0 .0 < 256) (next : a .next .0 < 65536) where
-  whole-parts : actionWord a stride ≡ wordOf (dirNumber (a .dir0)) (a .write0 .0) (a .next .0) stride → a .next .0 * stride < 2 ^ 32
-      → Parts (actionWord a stride) (dirNumber (a .dir0)) (a .write0 .0) (a .next .0) (a .next .0 * stride)
-  whole-parts w f =
+  -- where the row fits 32 bits, the word holds the action's numbers
+  pub fit-parts : a .next .0 * stride < 2 ^ 32 → Parts (actionWord a stride) (dirNumber (a .dir0)) (a .write0 .0) (a .next .0) (a .next .0 * stride)
+  unfolding actionWord
+  fit-parts f =
+      let w : actionWord a stride ≡ wordOf (dirNumber (a .dir0)) (a .write0 .0) (a .next .0) stride = pick-true _ _ _ (lt-ltb _ _ f) in
       let d = number-small (a .dir0) in
       record { dir-is = omega arith; write-is = omega arith; next-is = omega arith; row-is = omega arith }
 
-  -- a word that is not undefined holds the action's numbers
+  -- so does every word that is not undefined
   pub word-parts : (actionWord a stride ≡ undefinedWord → ⊥)
       → Parts (actionWord a stride) (dirNumber (a .dir0)) (a .write0 .0) (a .next .0) (a .next .0 * stride)
   unfolding actionWord
   word-parts z = by-test (ltb (a .next .0 * stride) (2 ^ 32))
-      (λ t. whole-parts (pick-true _ _ _ t) (ltb-true _ _ t))
+      (λ t. fit-parts (ltb-true _ _ t))
       (λ t. absurd (z (pick-false _ _ _ t)))
 
 -- ---- a table of one tape that has passed the check

@@ -18,6 +18,7 @@ use Rattle.machine.specs.declared.Machine.{Machine}
 use Rattle.machine.specs.declared.Action.{Action}
 use Rattle.machine.specs.declared.Entry.{Entry}
 use Rattle.machine.specs.declared.Entry.the-variants.{Undefined, Defined}
+use Rattle.machine.specs.PackedFacts.{number-small}
 use Rattle.machine.specs.Layout.{flagAt, byteAt, dirOf, actionAt}
 use Rattle.machine.specs.Check.{zeroAt, tapeOk, definedOk, entryOk}
 use Rattle.symbol.specs.Kinds.{dirNumber}
@@ -37,11 +38,6 @@ unfolding pick
 number-move L = refl
 number-move R = refl
 number-move N = refl
-
-pub number-small : (d : Dir) → dirNumber d ≤ 2
-number-small L = omega arith
-number-small R = omega arith
-number-small N = omega arith
 
 -- the three moves out of their number
 pub moves-apart : (d : ℕ) (x y z : Dir) → d ≡ dirNumber x + 3 * dirNumber y + 9 * dirNumber z

@@ -18,9 +18,10 @@ use Rattle.machine.specs.declared.Entry.{Entry}
 use Rattle.machine.specs.declared.Entry.the-variants.{Undefined, Defined}
 use Rattle.machine.specs.declared.Checked.the-variants.{Accepted}
 use Rattle.machine.specs.Layout.{entryCount, dirOf, entryAt, singleOf}
-use Rattle.machine.specs.Packing.{wordOf, undefinedWord, actionWord, packWord, wordAt, wordWrite, wordNext, wordRow, wordAction, wordEntry, packCheck, packInto}
+use Rattle.machine.specs.PackedFacts.{number-small, fit-parts}
+use Rattle.machine.specs.Packing.{undefinedWord, actionWord, packWord, wordAt, wordRow, wordAction, wordEntry, packCheck, packInto}
 use Rattle.tables.specs.WellFormed.{ActionOf, EntryOf, WellFormed}
-use Rattle.tables.specs.EntryFacts.{number-move, number-small}
+use Rattle.tables.specs.EntryFacts.{number-move}
 use Rattle.tables.specs.CheckExact.{table-check-accepts}
 
 -- document 01's example: 1, R, next 1, stride 2
@@ -31,26 +32,16 @@ packed-example = refl
 -- ---- one entry, for any stride whose rows fit 32 bits
 
 module _ (a : Action) (stride : ℕ) (write : a .write0 .0 < 256) (next : a .next .0 < 65536) (fits : a .next .0 * stride < 2 ^ 32) where
-  word-is : actionWord a stride ≡ wordOf (dirNumber (a .dir0)) (a .write0 .0) (a .next .0) stride
-  unfolding actionWord
-  word-is = pick-true _ _ _ (lt-ltb _ _ fits)
-
-  pub word-parts : (actionWord a stride % 256 ≡ dirNumber (a .dir0)) × (wordWrite (actionWord a stride) ≡ a .write0 .0)
-      × (wordNext (actionWord a stride) ≡ a .next .0) × (wordRow (actionWord a stride) ≡ a .next .0 * stride)
-  word-parts =
-      let w = word-is in
-      let d = number-small (a .dir0) in
-      (omega arith, omega arith, omega arith, omega arith)
-
   -- the entry of a machine with one tape
   pub word-unpacks : a ≡ singleOf (a .write0) (a .dir0) (a .next) → wordEntry (actionWord a stride) ≡ Defined a
   unfolding wordEntry wordAction
   word-unpacks one =
-      let p = word-parts in
+      let p = fit-parts a stride write next fits in
       let d = number-small (a .dir0) in
+      let low = p .dir-is in
       let defined : actionWord a stride ≡ undefinedWord → ⊥ = λ e. omega arith in
       pick-false _ _ _ (ne-eqb _ _ defined)
-      ∙ ap Defined ((λ i. singleOf (symbolOf (p .1 i)) ((ap dirOf (p .0) ∙ number-move (a .dir0)) i) (stateOf (p .2 i))) ∙ sym one)
+      ∙ ap Defined ((λ i. singleOf (symbolOf (p .write-is i)) ((ap dirOf (p .dir-is) ∙ number-move (a .dir0)) i) (stateOf (p .next-is i))) ∙ sym one)
 
 -- ---- every entry of a well-formed table with one tape
 
@@ -89,7 +80,7 @@ module _ (m : Machine) (s : List ℕ) (w : WellFormed m s) (one : m .tapes ≡ 1
   packed-row a o =
       let n = w 3 in
       let k = w 2 in
-      word-parts a (m .symbols) (omega (arith, o .write0-in)) (omega (arith, o .next-in)) (rows-fit a o) .3
+      fit-parts a (m .symbols) (omega (arith, o .write0-in)) (omega (arith, o .next-in)) (rows-fit a o) .row-is
 
   -- ---- the whole table
 

@@ -1,4 +1,4 @@
-//! A case: everything that one session of calls is made from, as plain data that can be printed
+//! A case: everything that one list of calls is made from, as plain data that can be printed
 //! and made smaller.
 
 use std::fmt;
@@ -27,7 +27,7 @@ impl Subject {
     }
 }
 
-/// Where the engine of a session comes from.
+/// Where the engine of a list of calls comes from.
 #[derive(Clone)]
 pub enum Begin {
     /// A fresh engine on a word, with cells buffers of these lengths, full of dirt.
@@ -88,14 +88,14 @@ pub enum Asking {
     All,
 }
 
-/// One session.
+/// One list of calls.
 #[derive(Clone)]
 pub struct Case {
     pub subject: Rc<Subject>,
     pub begin: Begin,
     pub acts: Vec<Act>,
     pub asking: Asking,
-    /// Whether the session ends early once two runs in a row have made no step.
+    /// Whether the list ends early once two runs in a row have made no step.
     pub cut: bool,
     /// The seed of everything that must not matter: dirt in buffers, fields of lacking tapes, the
     /// Rust's hint; and of the choice of questions.

@@ -1,4 +1,4 @@
-//! One session on both sides: every call on the port, the same on the oracle, and everything
+//! One list of calls on both sides: every call on the port, the same on the oracle, and everything
 //! compared after it.
 
 use std::borrow::Cow;
@@ -111,8 +111,8 @@ impl Buffer {
     }
 }
 
-/// A session under way.
-struct Session<'a> {
+/// A list of calls under way.
+struct Pairing<'a> {
     subject: &'a Subject,
     buffers: [Buffer; 3],
     state: u16,
@@ -129,12 +129,12 @@ struct Session<'a> {
 /// Runs a case on both sides.
 pub fn run(case: &Case, tally: &mut Tally) -> Result<(), Difference> {
     tally.cases += 1;
-    let mut session = Session::begin(case, tally)?;
-    session.ask_around(case.asking, tally).map_err(|e| format!("at the beginning: {e}"))?;
+    let mut pairing = Pairing::begin(case, tally)?;
+    pairing.ask_around(case.asking, tally).map_err(|e| format!("at the beginning: {e}"))?;
     let mut idle = 0;
     for (i, act) in case.acts.iter().enumerate() {
-        let moved = session.act(act, tally).map_err(|e| format!("call {i}, {act:?}: {e}"))?;
-        session.ask_around(case.asking, tally).map_err(|e| format!("after call {i}, {act:?}: {e}"))?;
+        let moved = pairing.act(act, tally).map_err(|e| format!("call {i}, {act:?}: {e}"))?;
+        pairing.ask_around(case.asking, tally).map_err(|e| format!("after call {i}, {act:?}: {e}"))?;
         idle = if moved { 0 } else { idle + 1 };
         if case.cut && idle == 2 {
             break;
@@ -143,7 +143,7 @@ pub fn run(case: &Case, tally: &mut Tally) -> Result<(), Difference> {
     Ok(())
 }
 
-impl<'a> Session<'a> {
+impl<'a> Pairing<'a> {
     /// Makes the buffers and the first engine.
     fn begin(case: &'a Case, tally: &mut Tally) -> Result<Self, Difference> {
         let subject = &*case.subject;
@@ -158,12 +158,12 @@ impl<'a> Session<'a> {
             }
         };
         let before = (state, engine);
-        let mut session = Session { subject, buffers, state, engine, before, sim: None, refusal: None, rng };
+        let mut pairing = Pairing { subject, buffers, state, engine, before, sim: None, refusal: None, rng };
         if let Begin::Fresh { word, .. } = &case.begin {
-            session.fresh(word, tally).map_err(|e| format!("fresh engine: {e}"))?;
+            pairing.fresh(word, tally).map_err(|e| format!("fresh engine: {e}"))?;
         }
-        session.look();
-        Ok(session)
+        pairing.look();
+        Ok(pairing)
     }
 
     fn room(&self) -> [usize; 3] {

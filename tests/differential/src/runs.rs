@@ -90,7 +90,7 @@ fn attempt(case: &Case, tally: &mut Tally) -> Option<String> {
 }
 
 /// A case of the usual form.
-fn session(subject: &Rc<Subject>, begin: Begin, acts: Vec<Act>, asking: Asking, dirt: u64) -> Case {
+fn case_of(subject: &Rc<Subject>, begin: Begin, acts: Vec<Act>, asking: Asking, dirt: u64) -> Case {
     Case { subject: Rc::clone(subject), begin, acts, asking, cut: false, dirt }
 }
 
@@ -205,7 +205,7 @@ fn cases(r: &mut Runner) {
             let holds = lone.result == refused && got == want;
             r.fact(holds, &format!("{fact}: result {}, out {:?}", lone.result, lone.out));
             let begin = Begin::Fresh { word: word.to_vec(), room: [room; 3] };
-            r.case(&session(subject, begin, vec![Act::Check, Act::Pack { more: 0 }, act], Asking::All, 1));
+            r.case(&case_of(subject, begin, vec![Act::Check, Act::Pack { more: 0 }, act], Asking::All, 1));
         };
         let mut lone = Lone::new(subject, word, room);
         lone.run(rule, fuel);
@@ -304,7 +304,7 @@ fn random(r: &mut Runner) {
             0 if sizes.entries() < 1000 => Asking::All,
             _ => Asking::Some(4),
         };
-        r.case(&session(&subject, Begin::Fresh { word, room }, acts, asking, rng.next()));
+        r.case(&case_of(&subject, Begin::Fresh { word, room }, acts, asking, rng.next()));
     }
 }
 
@@ -329,7 +329,7 @@ fn sweeps(r: &mut Runner) {
             }
         };
         let acts = (0..rng.between(1, 12)).map(|_| piece(&mut rng)).collect();
-        r.case(&session(&subject, begin, acts, Asking::Some(2), rng.next()));
+        r.case(&case_of(&subject, begin, acts, Asking::Some(2), rng.next()));
     }
 }
 
@@ -375,7 +375,7 @@ fn known(r: &mut Runner) {
             };
             let begin = Begin::Fresh { word: word.clone(), room };
             let asking = if *steps > 10_000 { Asking::Some(2) } else { Asking::All };
-            r.case(&session(subject, begin, acts, asking, rng.next()));
+            r.case(&case_of(subject, begin, acts, asking, rng.next()));
         }
         if let Some(halts) = halts {
             let mut lone = Lone::new(subject, word, 1 << 16);
@@ -396,7 +396,7 @@ fn outside(r: &mut Runner) {
         let count = rng.between(1, 10);
         let acts = generate::acts(&mut rng, &sizes, count, engine[0]);
         let asking = if i % 10 == 0 { Asking::All } else { Asking::Some(4) };
-        r.case(&session(&subject, begin, acts, asking, rng.next()));
+        r.case(&case_of(&subject, begin, acts, asking, rng.next()));
     }
 }
 
@@ -410,7 +410,7 @@ fn unfit(r: &mut Runner) {
         let Begin::Outside { engine, .. } = &begin else { unreachable!("made so") };
         let mut acts = vec![Act::Step, run(generate::fuel(&mut rng, engine[0])), fast(3)];
         acts.extend(generate::acts(&mut rng, &sizes, 3, engine[0]));
-        r.case(&session(&subject, begin, acts, Asking::Some(3), rng.next()));
+        r.case(&case_of(&subject, begin, acts, Asking::Some(3), rng.next()));
     }
 }
 
@@ -444,7 +444,7 @@ fn damage(r: &mut Runner) {
                 let subject = Subject::new(sizes, table);
                 let begin = Begin::Fresh { word: vec![], room: [40, 32, 32] };
                 let acts = if value % 16 == 0 { every_operation(&mut rng) } else { vec![Act::Check] };
-                r.case(&session(&subject, begin, acts, Asking::None, rng.next()));
+                r.case(&case_of(&subject, begin, acts, Asking::None, rng.next()));
             }
         }
     }
@@ -471,7 +471,7 @@ fn damage(r: &mut Runner) {
             _ => Begin::Fresh { word: vec![], room: [64, 64, 64] },
         };
         let acts = every_operation(&mut rng);
-        r.case(&session(&subject, begin, acts, Asking::None, rng.next()));
+        r.case(&case_of(&subject, begin, acts, Asking::None, rng.next()));
     }
     // Wrong sizes, one or several at a time, with all the faults that come later.
     for _ in 0..6000 * r.scale {
@@ -509,7 +509,7 @@ fn damage(r: &mut Runner) {
         };
         let subject = Subject::new(sizes, table);
         let acts = every_operation(&mut rng);
-        r.case(&session(&subject, begin, acts, Asking::None, rng.next()));
+        r.case(&case_of(&subject, begin, acts, Asking::None, rng.next()));
     }
     // Changed packed words: every bit of every word, and other lengths.
     let mut rng = r.rng();
@@ -519,7 +519,7 @@ fn damage(r: &mut Runner) {
         let acts =
             |fuel: u64| (0..64).map(move |bit| Act::Fast { rule: NO_RULE, fuel, words: Words::Changed(at, 1 << bit) });
         let begin = Begin::Fresh { word: vec![1, 2, 1], room: [64, 0, 0] };
-        r.case(&session(&subject, begin, acts(5).chain(acts(u64::MAX)).collect(), Asking::None, rng.next()));
+        r.case(&case_of(&subject, begin, acts(5).chain(acts(u64::MAX)).collect(), Asking::None, rng.next()));
     }
     for _ in 0..1000 * r.scale {
         let mut rng = r.rng();
@@ -535,7 +535,7 @@ fn damage(r: &mut Runner) {
             words: generate::wrong_words(&mut rng),
         });
         let acts = acts.collect();
-        r.case(&session(&subject, begin, acts, Asking::None, rng.next()));
+        r.case(&case_of(&subject, begin, acts, Asking::None, rng.next()));
     }
 }
 
@@ -565,7 +565,7 @@ fn buffers_at_limits(r: &mut Runner) {
                     let subject = walkers(&[R, L, R][..tapes], 2);
                     let begin = Begin::Fresh { word: vec![1; word], room };
                     let acts = every_operation(&mut rng);
-                    r.case(&session(&subject, begin, acts, Asking::Some(4), rng.next()));
+                    r.case(&case_of(&subject, begin, acts, Asking::Some(4), rng.next()));
                 }
             }
         }
@@ -588,7 +588,7 @@ fn buffers_at_limits(r: &mut Runner) {
                         if less == 2 {
                             acts = vec![Act::Step; 40];
                         }
-                        r.case(&session(&walkers(steps, 2), begin, acts, Asking::Some(4), rng.next()));
+                        r.case(&case_of(&walkers(steps, 2), begin, acts, Asking::Some(4), rng.next()));
                     }
                 }
             }
@@ -607,8 +607,8 @@ fn fuel_at_limits(r: &mut Runner) {
         for fuel in fuels {
             let begin = || Begin::Fresh { word: vec![], room: [40, 40, 40] };
             let dirt = r.rng().next();
-            r.case(&session(subject, begin(), vec![run(fuel), run(fuel), Act::Step, run(fuel)], Asking::Some(2), dirt));
-            r.case(&session(subject, begin(), vec![fast(fuel), fast(fuel)], Asking::Some(2), dirt));
+            r.case(&case_of(subject, begin(), vec![run(fuel), run(fuel), Act::Step, run(fuel)], Asking::Some(2), dirt));
+            r.case(&case_of(subject, begin(), vec![fast(fuel), fast(fuel)], Asking::Some(2), dirt));
         }
         for below in [0, 1, 2, 5, 20] {
             for steps in [MAX_STEPS - below, MAX_STEPS + below, u64::MAX - below, (1 << 63) + below] {
@@ -620,10 +620,10 @@ fn fuel_at_limits(r: &mut Runner) {
                 let begin = || Begin::Outside { state: 0, engine, cells: [vec![0; 40], vec![0; 40], vec![0; 40]] };
                 for fuel in [0, 1, below, below + 1, u64::MAX - steps, (u64::MAX - steps).wrapping_add(1), u64::MAX] {
                     let dirt = r.rng().next();
-                    r.case(&session(subject, begin(), vec![run(fuel), fast(fuel), Act::Step], Asking::Some(2), dirt));
+                    r.case(&case_of(subject, begin(), vec![run(fuel), fast(fuel), Act::Step], Asking::Some(2), dirt));
                 }
                 let dirt = r.rng().next();
-                r.case(&session(subject, begin(), vec![Act::Step; 24], Asking::Some(2), dirt));
+                r.case(&case_of(subject, begin(), vec![Act::Step; 24], Asking::Some(2), dirt));
             }
         }
     }
@@ -661,13 +661,13 @@ fn sizes_at_limits(r: &mut Runner) {
                 fuel: 1,
                 words: Words::Changed(subject.words.len().max(1) - 1, 1 << 40),
             });
-            r.case(&session(&subject, begin, acts, Asking::Some(2), rng.next()));
+            r.case(&case_of(&subject, begin, acts, Asking::Some(2), rng.next()));
             // The last state, from outside.
             let mut begin = generate::fitting(&mut rng, &sizes);
             if let Begin::Outside { state, .. } = &mut begin {
                 *state = (states - 1) as u16;
             }
-            r.case(&session(&subject, begin, vec![Act::Step, run(20), fast(20)], Asking::Some(2), rng.next()));
+            r.case(&case_of(&subject, begin, vec![Act::Step, run(20), fast(20)], Asking::Some(2), rng.next()));
         }
     }
 }
@@ -680,7 +680,7 @@ fn words_at_limits(r: &mut Runner) {
             let mut rng = r.rng();
             let word: Vec<u8> = (0..len).map(|_| rng.below(2) as u8).collect();
             let begin = Begin::Fresh { word, room: [len + more, 0, 0] };
-            r.case(&session(&subject, begin, vec![run(1000), fast(1000), Act::Step], Asking::Some(4), rng.next()));
+            r.case(&case_of(&subject, begin, vec![run(1000), fast(1000), Act::Step], Asking::Some(4), rng.next()));
         }
     }
     for symbols in [1, 2, 3, 200, 255] {
@@ -691,15 +691,15 @@ fn words_at_limits(r: &mut Runner) {
                 let mut word = vec![0; 10];
                 places.iter().for_each(|&i| word[i] = symbol as u8);
                 let dirt = r.rng().next();
-                r.case(&session(&subject, Begin::Fresh { word, room: [room, 0, 0] }, vec![run(3)], Asking::None, dirt));
+                r.case(&case_of(&subject, Begin::Fresh { word, room: [room, 0, 0] }, vec![run(3)], Asking::None, dirt));
             }
         }
     }
     // Too long, with a wrong symbol and too small a buffer besides: the first refusal is given.
     let word = vec![9; MAX_WORD + 1];
-    r.case(&session(&subject, Begin::Fresh { word, room: [0, 0, 0] }, vec![], Asking::None, 5));
+    r.case(&case_of(&subject, Begin::Fresh { word, room: [0, 0, 0] }, vec![], Asking::None, 5));
     let word = vec![9; MAX_WORD];
-    r.case(&session(&subject, Begin::Fresh { word, room: [0, 0, 0] }, vec![], Asking::None, 5));
+    r.case(&case_of(&subject, Begin::Fresh { word, room: [0, 0, 0] }, vec![], Asking::None, 5));
 }
 
 /// Cells buffers of 2^30 bytes and one more. The memory is only ever mapped, not filled: neither
@@ -777,13 +777,13 @@ fn largest_tables(r: &mut Runner) {
         let subject = Subject::new(sizes, table);
         let begin = Begin::Fresh { word: vec![1, 255, 0, 7], room: [300, 300, 300] };
         let acts = vec![Act::Pack { more: 0 }, run(300), fast(300), Act::Step];
-        r.case(&session(&subject, begin, acts, Asking::None, rng.next()));
+        r.case(&case_of(&subject, begin, acts, Asking::None, rng.next()));
         let mut table = subject.table.clone();
         drop(subject);
         let last = table.len() - 8;
         table[last..].copy_from_slice(&[1, 0, 0, 0, 0, 0, 27, 0]);
         let subject = Subject::new(sizes, table);
         let begin = Begin::Fresh { word: vec![], room: [300, 300, 300] };
-        r.case(&session(&subject, begin, vec![Act::Check], Asking::None, rng.next()));
+        r.case(&case_of(&subject, begin, vec![Act::Check], Asking::None, rng.next()));
     }
 }
