@@ -1,0 +1,162 @@
+-- The run-length engine over its lent places, as the code goes: what a configuration is, what comes next, a macro step, the run. Definitions only.
+use mathlib.Core.Bool.{Bool, true, false}
+use mathlib.Core.List.{List}
+use Prim.Native.Nat.{ℕ, zero, suc, _+_, _-_, min, max}
+use lib.Dec.{eqb}
+use Rattle.laws.specs.Choice.{pick, both}
+use Rattle.symbol.specs.declared.State.{State}
+use Rattle.symbol.specs.declared.Dir.{Dir}
+use Rattle.symbol.specs.declared.Dir.the-variants.{L, R, N}
+use Rattle.outcome.specs.declared.NonHaltProof.{NonHaltProof}
+use Rattle.outcome.specs.declared.NonHaltProof.the-variants.{StayLoop, ChainToInfinity}
+use Rattle.outcome.specs.declared.Outcome.{Outcome}
+use Rattle.outcome.specs.declared.Outcome.the-variants.{Halted, OutOfFuel, NeverHalts, Stopped, Full}
+use Rattle.machine.specs.declared.Machine.{Machine}
+use Rattle.machine.specs.declared.Action.{Action}
+use Rattle.machine.specs.declared.Entry.{Entry}
+use Rattle.machine.specs.declared.Entry.the-variants.{Undefined, Defined}
+use Rattle.sim.specs.declared.StopRule.{StopRule}
+use Rattle.sim.specs.Engine.{Task, entryOf, matches}
+use Rattle.stacks.specs.Sides.{Side, side, placesOf, topOf, aheadOf, pushOf, lacks, takeOf}
+use Rattle.rle.specs.declared.ChainSim.{ChainSim}
+use Rattle.rle.specs.declared.inner.Sure.{Sure}
+use Rattle.rle.specs.declared.inner.Sure.the-variants.{Open, Loops}
+use Rattle.rle.specs.declared.inner.Leap.{Leap}
+use Rattle.rle.specs.declared.inner.Plan.{Plan}
+use Rattle.rle.specs.declared.inner.Plan.the-variants.{Stop, Go}
+
+-- ---- the engine's value with its four slices: symbols and lengths of the left side, then of the right
+
+pub record Conf : Type 0 where
+  pub sim : ChainSim
+  pub ls : List ℕ
+  pub ll : List ℕ
+  pub rs : List ℕ
+  pub rl : List ℕ
+
+abbrev pub conf : ChainSim → (ls ll rs rl : List ℕ) → Conf
+conf v ls ll rs rl = record { sim = v; ls = ls; ll = ll; rs = rs; rl = rl }
+
+abbrev pub leftOf : Conf → Side
+leftOf σ = side (σ .ls) (σ .ll) (σ .sim .tape .left)
+
+abbrev pub rightOf : Conf → Side
+rightOf σ = side (σ .rs) (σ .rl) (σ .sim .tape .right)
+
+-- ---- what comes next: "halted, never, fuel", "the stop rule .. after fuel and before space", space, a macro step
+
+-- a loop that is proved: the entry keeps the state, and stays and rewrites what it read, or walks from a blank into blanks
+unfoldable pub patternOf : State → Dir → (write cur lefts rights : ℕ) → Sure
+patternOf q L w cur l r = pick (both (eqb cur 0) (eqb l 0)) (Loops (ChainToInfinity q L)) Open
+patternOf q R w cur l r = pick (both (eqb cur 0) (eqb r 0)) (Loops (ChainToInfinity q R)) Open
+patternOf q N w cur l r = pick (eqb w cur) (Loops (StayLoop q)) Open
+
+unfoldable pub sureOf : State → Action → (cur lefts rights : ℕ) → Sure
+sureOf q a cur l r = pick (eqb (a .next .0) (q .0)) (patternOf q (a .dir0) (a .write0 .0) cur l r) Open
+
+-- "it is the run ahead (a top run of the symbol read) plus one, or the fuel if less"
+unfoldable pub chainFor : Dir → (cur fuel : ℕ) → (left right : Side) → ℕ
+chainFor L cur fuel l r = min (aheadOf cur l + 1) fuel
+chainFor R cur fuel l r = min (aheadOf cur r + 1) fuel
+chainFor N cur fuel l r = 1
+
+-- "A macro step is one step; where the entry keeps the state and moves, ..; a proved loop covers all the fuel."
+unfoldable pub repeatsOf : Sure → State → Action → (cur fuel : ℕ) → (left right : Side) → ℕ
+repeatsOf Open q a cur fuel l r = pick (eqb (a .next .0) (q .0)) (chainFor (a .dir0) cur fuel l r) 1
+repeatsOf (Loops p) q a cur fuel l r = fuel
+
+-- "Full exactly when the step's push needs a new run on a side whose live runs fill its lent places."
+unfoldable pub fullFor : Dir → (write leftPlaces rightPlaces : ℕ) → (left right : Side) → Bool
+fullFor L w lp rp l r = lacks rp w r
+fullFor R w lp rp l r = lacks lp w l
+fullFor N w lp rp l r = false
+
+abbrev pub leap : Action → ℕ → Leap
+leap a n = record { write = a .write0 .0; dir = a .dir0; next = a .next; repeats = n }
+
+-- with fuel and an entry that is not refused by the rule: space, then the macro step
+unfoldable pub spaceOf : Sure → Action → ℕ → Conf → Plan
+spaceOf p a fuel σ =
+    pick (fullFor (a .dir0) (a .write0 .0) (placesOf (σ .ls) (σ .ll)) (placesOf (σ .rs) (σ .rl)) (leftOf σ) (rightOf σ))
+    (Stop (Full (σ .sim .steps)))
+    (Go (leap a (repeatsOf p (σ .sim .state) a (σ .sim .tape .cur) fuel (leftOf σ) (rightOf σ))))
+
+unfoldable pub fuelOf : Sure → StopRule → Action → ℕ → Conf → Plan
+fuelOf p rule a fuel σ =
+    pick (eqb fuel 0) (Stop (OutOfFuel (σ .sim .steps)))
+    (pick (matches rule (σ .sim .state)) (Stop (Stopped (σ .sim .steps))) (spaceOf p a fuel σ))
+
+unfoldable pub neverOf : (proves : Bool) → Sure → StopRule → Action → ℕ → Conf → Plan
+neverOf proves Open rule a fuel σ = fuelOf Open rule a fuel σ
+neverOf proves (Loops p) rule a fuel σ =
+    pick proves (Stop (NeverHalts (σ .sim .steps) p)) (fuelOf (Loops p) rule a fuel σ)
+
+unfoldable pub planOn : Entry → (proves : Bool) → StopRule → ℕ → Conf → Plan
+planOn Undefined proves rule fuel σ = Stop (Halted (σ .sim .steps) (σ .sim .state))
+planOn (Defined a) proves rule fuel σ =
+    neverOf proves (sureOf (σ .sim .state) a (σ .sim .tape .cur) (σ .sim .tape .left) (σ .sim .tape .right)) rule a fuel σ
+
+unfoldable pub planOf : Task → ℕ → Conf → Plan
+planOf k fuel σ =
+    planOn (entryOf (k .machine) (k .table) (σ .sim .state) (σ .sim .tape .cur) 0 0) (k .proves) (k .rule) fuel σ
+
+-- ---- a macro step
+
+-- n cells are written behind the head, and n taken from the side ahead, the last of them under the head
+pub record Carried : Type 0 where
+  pub behind : Side
+  pub cur : ℕ
+  pub ahead : Side
+
+unfoldable pub carryOf : (write n : ℕ) → (behind ahead : Side) → Carried
+carryOf w n b a =
+    record { behind = pushOf w n b; cur = topOf (takeOf (n - 1) a); ahead = takeOf 1 (takeOf (n - 1) a) }
+
+-- "`macro_steps` adds one a macro step"
+abbrev pub landed : Leap → Conf → (head cur : ℕ) → (left right : Side) → Conf
+landed j σ head cur l r =
+    conf
+    (record {
+      state = j .next;
+      steps = σ .sim .steps + j .repeats;
+      macros = σ .sim .macros + 1;
+      tape = record { left = l .count; cur = cur; right = r .count; head = head };
+      lowest = min (σ .sim .lowest) head;
+      highest = max (σ .sim .highest) head;
+    })
+    (l .symbols) (l .lengths) (r .symbols) (r .lengths)
+
+abbrev pub leftward : Leap → Conf → Carried → Conf
+leftward j σ c = landed j σ (σ .sim .tape .head - j .repeats) (c .cur) (c .ahead) (c .behind)
+
+abbrev pub rightward : Leap → Conf → Carried → Conf
+rightward j σ c = landed j σ (σ .sim .tape .head + j .repeats) (c .cur) (c .behind) (c .ahead)
+
+unfoldable pub leapTo : Dir → Leap → Conf → Conf
+leapTo L j σ = leftward j σ (carryOf (j .write) (j .repeats) (rightOf σ) (leftOf σ))
+leapTo R j σ = rightward j σ (carryOf (j .write) (j .repeats) (leftOf σ) (rightOf σ))
+leapTo N j σ = landed j σ (σ .sim .tape .head) (j .write) (leftOf σ) (rightOf σ)
+
+abbrev pub leapOf : Leap → Conf → Conf
+leapOf j σ = leapTo (j .dir) j σ
+
+-- ---- a run
+
+pub record End : Type 0 where
+  pub at : Conf
+  pub outcome : Outcome
+
+abbrev pub end : Conf → Outcome → End
+end σ o = record { at = σ; outcome = o }
+
+abbrev pub onPlan : {A : Type 0} → Plan → (Outcome → A) → (Leap → A) → A
+onPlan (Stop o) s g = s o
+onPlan (Go j) s g = g j
+
+-- at most `most` macro steps; any number above the fuel gives the same
+unfoldable pub runWithin : Task → (most fuel : ℕ) → Conf → End
+runWithin k zero fuel σ = end σ (OutOfFuel (σ .sim .steps))
+runWithin k (suc n) fuel σ = onPlan (planOf k fuel σ) (end σ) (λ j. runWithin k n (fuel - j .repeats) (leapOf j σ))
+
+unfoldable pub runOf : Task → ℕ → Conf → End
+runOf k fuel σ = runWithin k (suc fuel) fuel σ

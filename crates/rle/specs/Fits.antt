@@ -1,0 +1,71 @@
+-- When a run-length engine's value fits (refusal 12), and the sizes of its places (11). Definitions only.
+use mathlib.Core.Bool.{Bool}
+use mathlib.Core.List.{List}
+use Prim.Native.Nat.{ℕ, _+_, _-_}
+use lib.Dec.{eqb, ltb, leb}
+use Rattle.laws.specs.Choice.{both}
+use Rattle.outcome.specs.declared.Refusal.the-variants as Why
+use Rattle.machine.specs.declared.Machine.{Machine}
+use Rattle.machine.specs.declared.Checked.{Checked}
+use Rattle.machine.specs.declared.Checked.the-variants.{Accepted}
+use Rattle.machine.specs.Check.{demand, checkedOn, tableCheck}
+use Rattle.sim.specs.Operations.{stepsMost, fuelFits}
+use Rattle.stacks.specs.Sides.{Side, placesOf, runsFit, cellsOf}
+use Rattle.rle.specs.declared.ChainSim.{ChainSim}
+use Rattle.rle.specs.Engine.{Conf, leftOf, rightOf}
+
+-- position 0, raised
+abbrev pub zeroAt : ℕ
+zeroAt = 9223372036854775808
+
+-- a word's most symbols, and a side's most places
+abbrev pub slack : ℕ
+slack = 1048576
+
+-- "the stack rule, each side's sum .. at most steps + 2^20", and its live runs in its places
+unfoldable pub sideFits : (k places most : ℕ) → Side → Bool
+sideFits k places most x = both (leb (x .count) places) (both (runsFit k x) (leb (cellsOf x) most))
+
+-- "lowest ≤ head ≤ highest, all within steps of 0"
+unfoldable pub headFits : ChainSim → Bool
+headFits v =
+    both (leb (v .lowest) (v .tape .head))
+    (both (leb (v .tape .head) (v .highest))
+    (both (leb (zeroAt - v .steps) (v .lowest)) (leb (v .highest) (zeroAt + v .steps))))
+
+-- a side's "furthest cell's distance from 0, at most steps + 2^20"; the head is within steps of 0
+unfoldable pub reachFits : ChainSim → (lefts rights : ℕ) → Bool
+reachFits v l r =
+    both (leb (zeroAt + l) (v .tape .head + v .steps + slack)) (leb (v .tape .head + r) (zeroAt + v .steps + slack))
+
+-- "Fits: state below n, steps to 2^62, symbols below k .. macro steps at most steps."
+unfoldable pub countsFit : Machine → ChainSim → Bool
+countsFit m v =
+    both (ltb (v .state .0) (m .states))
+    (both (leb (v .steps) stepsMost) (both (leb (v .macros) (v .steps)) (ltb (v .tape .cur) (m .symbols))))
+
+unfoldable pub chainFits : Machine → Conf → Bool
+chainFits m σ =
+    both (countsFit m (σ .sim))
+    (both (headFits (σ .sim))
+    (both (sideFits (m .symbols) (placesOf (σ .ls) (σ .ll)) (σ .sim .steps + slack) (leftOf σ))
+    (both (sideFits (m .symbols) (placesOf (σ .rs) (σ .rl)) (σ .sim .steps + slack) (rightOf σ))
+    (reachFits (σ .sim) (cellsOf (leftOf σ)) (cellsOf (rightOf σ))))))
+
+-- "a run side over 1,048,576"
+unfoldable pub placesFit : Conf → Bool
+placesFit σ = both (leb (placesOf (σ .ls) (σ .ll)) slack) (leb (placesOf (σ .rs) (σ .rl)) slack)
+
+-- 8, 11, 12
+unfoldable pub valueCheck : Machine → Conf → Checked
+valueCheck m σ =
+    demand (eqb (m .tapes) 1) Why.SeveralTapes
+    (demand (placesFit σ) Why.BufferSize (demand (chainFits m σ) Why.Misfit Accepted))
+
+-- after the table check
+unfoldable pub engineCheck : Machine → List ℕ → Conf → Checked
+engineCheck m s σ = checkedOn (tableCheck m s) (valueCheck m σ)
+
+-- and 13
+unfoldable pub runCheck : Machine → List ℕ → ℕ → Conf → Checked
+runCheck m s fuel σ = checkedOn (engineCheck m s σ) (demand (fuelFits (σ .sim .steps) fuel) Why.StepLimit Accepted)
