@@ -46,9 +46,12 @@ rightOf σ = side (σ .rs) (σ .rl) (σ .sim .tape .right)
 -- ---- what comes next: "halted, never, fuel", "the stop rule .. after fuel and before space", space, a macro step
 
 -- a loop that is proved: the entry keeps the state, and stays and rewrites what it read, or walks from a blank into blanks
+abbrev pub walkOf : State → Dir → (cur runs : ℕ) → Sure
+walkOf q d cur n = pick (both (eqb cur 0) (eqb n 0)) (Loops (ChainToInfinity q d)) Open
+
 unfoldable pub patternOf : State → Dir → (write cur lefts rights : ℕ) → Sure
-patternOf q L w cur l r = pick (both (eqb cur 0) (eqb l 0)) (Loops (ChainToInfinity q L)) Open
-patternOf q R w cur l r = pick (both (eqb cur 0) (eqb r 0)) (Loops (ChainToInfinity q R)) Open
+patternOf q L w cur l r = walkOf q L cur l
+patternOf q R w cur l r = walkOf q R cur r
 patternOf q N w cur l r = pick (eqb w cur) (Loops (StayLoop q)) Open
 
 unfoldable pub sureOf : State → Action → (cur lefts rights : ℕ) → Sure
@@ -108,9 +111,12 @@ pub record Carried : Type 0 where
   pub cur : ℕ
   pub ahead : Side
 
+abbrev pub carried : Side → ℕ → Side → Carried
+carried b c a = record { behind = b; cur = c; ahead = a }
+
 unfoldable pub carryOf : (write n : ℕ) → (behind ahead : Side) → Carried
 carryOf w n b a =
-    record { behind = pushOf w n b; cur = topOf (takeOf (n - 1) a); ahead = takeOf 1 (takeOf (n - 1) a) }
+    carried (pushOf w n b) (topOf (takeOf (n - 1) a)) (takeOf 1 (takeOf (n - 1) a))
 
 -- "`macro_steps` adds one a macro step"
 abbrev pub landed : Leap → Conf → (head cur : ℕ) → (left right : Side) → Conf

@@ -1,3 +1,6 @@
 pub mod Engine
+pub mod Turns
 pub mod Fits
+pub mod EngineCases
+pub mod RunCases
 pub mod Operations

@@ -166,3 +166,13 @@ pub sum-all : (i n most sum : ℕ) (ls : List ℕ) → sum ≡ sumOf ls i → su
 sum-all i n most sum ls e b l h =
     let d : i ≡ n = omega arith in
     omega (arith, ap (sumOf ls) d)
+
+-- no run is added
+fewer : (n : ℕ) (x : Side) → takeOf n x .count ≤ x .count
+unfolding takeOf
+fewer n x =
+    pick-cases (eqb (x .count) 0) _ _ (λ (z : Side). z .count ≤ x .count) (λ e. omega arith)
+    (λ e. pick-cases (eqb (getD (x .lengths) (x .count - 1) 0 - n) 0) (x .count - 1) (x .count) (λ (c : ℕ). c ≤ x .count) (λ z. omega arith) (λ z. omega arith))
+
+pub take-fewer : (n : ℕ) (x y : Side) → y ≡ takeOf n x → y .count ≤ x .count
+take-fewer n x y e = omega (arith, ap (λ (z : Side). z .count) e, fewer n x)

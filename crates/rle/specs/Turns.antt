@@ -1,0 +1,65 @@
+-- What the functions of a run may assume. Definitions only.
+use mathlib.Core.Path.{_≡_}
+use mathlib.Core.Bool.{Bool, false}
+use Prim.Native.Nat.{ℕ, _+_, _≤_, _<_}
+use lib.ListN.{length}
+use Rattle.laws.specs.Choice.{pick}
+use Rattle.machine.specs.declared.Machine.{Machine}
+use Rattle.machine.specs.Layout.{strideOf}
+use Rattle.stacks.specs.Sides.{placesOf}
+use Rattle.stacks.specs.SideFacts.{SideOk}
+use Rattle.rle.specs.declared.ChainSim.{ChainSim}
+use Rattle.rle.specs.declared.inner.Leap.{Leap}
+use Rattle.rle.specs.declared.inner.Sure.{Sure}
+use Rattle.rle.specs.declared.inner.Sure.the-variants.{Open}
+use Rattle.sim.specs.Engine.{Task}
+use Rattle.rle.specs.Engine.{Conf, leftOf, rightOf, fullFor, runOf}
+
+-- the machine's numbers, as an entry's number is made of them
+pub record TableOk (m : Machine) (stride : ℕ) : Type 0 where
+  pub symbols-in : m .symbols ≤ 256
+  pub stride-is : stride ≡ strideOf m
+  pub stride-in : stride ≤ 16777216
+
+-- both sides' live runs have places, and their cells are few enough to be counted
+pub record SidesOk (σ : Conf) : Type 0 where
+  pub left : SideOk (placesOf (σ .ls) (σ .ll)) (σ .sim .steps + 1048576) (leftOf σ)
+  pub right : SideOk (placesOf (σ .rs) (σ .rl)) (σ .sim .steps + 1048576) (rightOf σ)
+
+-- with so much fuel no count and no position passes its bound
+pub record CountsOk (v : ChainSim) (fuel : ℕ) : Type 0 where
+  pub steps-in : v .steps + fuel ≤ 4611686018427387904
+  pub fewer : v .macros ≤ v .steps
+  pub above : 9223372036854775808 ≤ v .tape .head + v .steps
+  pub below : v .tape .head ≤ 9223372036854775808 + v .steps
+
+-- a macro step
+pub record LeapOk (j : Leap) (σ : Conf) : Type 0 where
+  pub sides : SidesOk σ
+  pub counts : CountsOk (σ .sim) (j .repeats)
+  pub some-steps : 1 ≤ j .repeats
+  pub place : fullFor (j .dir) (j .write) (placesOf (σ .ls) (σ .ll)) (placesOf (σ .rs) (σ .rl)) (leftOf σ) (rightOf σ) ≡ false
+
+pub record RunOk (m : Machine) (stride : ℕ) (σ : Conf) (fuel : ℕ) : Type 0 where
+  pub table : TableOk m stride
+  pub sides : SidesOk σ
+  pub counts : CountsOk (σ .sim) fuel
+
+-- what the never test says, where it is made
+abbrev pub askedOf : Bool → Sure → Sure
+askedOf proves p = pick proves p Open
+
+-- the lent slices are as long as they were
+pub record SameSizes (σ τ : Conf) : Type 0 where
+  pub ls : length (τ .ls) ≡ length (σ .ls)
+  pub ll : length (τ .ll) ≡ length (σ .ll)
+  pub rs : length (τ .rs) ≡ length (σ .rs)
+  pub rl : length (τ .rl) ≡ length (σ .rl)
+
+-- a run from σ₀ with `fuel` has come to σ with `left`: what is still to be run has the same answer
+pub record Going (k : Task) (stride lp rp : ℕ) (σ₀ : Conf) (fuel : ℕ) (σ : Conf) (left : ℕ) : Type 0 where
+  pub ok : RunOk (k .machine) stride σ left
+  pub lefts : lp ≡ placesOf (σ .ls) (σ .ll)
+  pub rights : rp ≡ placesOf (σ .rs) (σ .rl)
+  pub sizes : SameSizes σ₀ σ
+  pub same : runOf k left σ ≡ runOf k fuel σ₀

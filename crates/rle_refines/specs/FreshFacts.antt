@@ -1,0 +1,173 @@
+-- A fresh engine fits and holds the table machine's start: "the start state, heads at 0, tape 0 holding the word from 0 rightward, all else blank".
+-- Assumes nothing.
+use mathlib.Core.Path.{_≡_, refl, sym, ap, _∙_, subst, fun-ext}
+use mathlib.Core.Bool.{Bool, true, false}
+use mathlib.Core.List.{List, []}
+use Prim.Native.Nat.{ℕ, zero, suc, _+_, _-_, _≤_, _<_, _^_}
+use native.Mathlib.Decide.{decLt}
+use native.Mathlib.Nat.{zero-add}
+use native.Mathlib.Omega.{arith}
+use borrow.Author.Tests.{eqb-true, eqb-false, eq-eqb, ne-eqb}
+use lib.Dec.{eqb}
+use lib.IntN.{ℤ, pos, negsuc}
+use lib.ListN.{length, getD, List·getD-eq-default}
+use Rattle.laws.specs.Choice.{pick}
+use Rattle.laws.specs.Position.{_⊖_}
+use Rattle.laws.specs.PositionFacts.{ints, diff-⊖}
+use Rattle.laws.specs.Tests.{by-test, pick-cases, pick-true, pick-false}
+use Rattle.machine.specs.declared.Machine.{Machine}
+use Rattle.turing.specs.TableMachine.{wordCell, startTape, start}
+use Rattle.turing.specs.NeverFacts.{tape-≡}
+use Rattle.stacks.specs.Sides.{Side, side, placesOf, topOf, grownOf, pushOf, cellsOf, sumOf, symbolUnder}
+use Rattle.rle.specs.Engine.{Conf, conf}
+use Rattle.rle.specs.Fits.{zeroAt}
+use Rattle.rle.specs.Operations.{laidOf, runsOf, freshSim}
+use Rattle.rle_refines.specs.Meaning.{stackOf, top, Stream, blanks, cons, stream, streamOf, distance, look, tapeAround, configOf, RunsFit, SideFits, ChainFits}
+use Rattle.rle_refines.specs.StackFacts.{total, push, push-means, push-fits, push-total, top-push}
+use Rattle.rle_refines.specs.SideFacts.{top-is, total-is, Place, push-is, Kept, kept-both, kept-same, push-kept}
+use Rattle.rle_refines.specs.TapeFacts.{diff-distance}
+
+-- ---- the runs that a word makes
+
+-- no fewer than there are
+runs-more : (w : List ℕ) (n top count : ℕ) → count ≤ runsOf w n top count
+unfolding runsOf
+runs-more w zero t c = omega arith
+runs-more w (suc n) t c = pick-cases (eqb (getD w (suc n) 0) t) _ _ (λ r. c ≤ r) (λ _. runs-more w n t c) (λ _. omega (arith, runs-more w n (getD w (suc n) 0) (c + 1)))
+
+push-count : (s n : ℕ) (x : Side) → pushOf s n x .count ≡ pick (eqb s (topOf x)) (x .count) (x .count + 1)
+unfolding pushOf grownOf
+push-count s n x = by-test (eqb s (topOf x))
+    (λ t. ap (λ (y : Side). y .count) (pick-true _ _ _ t) ∙ pick-cases (eqb (x .count) 0) _ _ (λ (y : Side). y .count ≡ x .count) (λ _. refl) (λ _. refl) ∙ sym (pick-true _ _ _ t))
+    (λ t. ap (λ (y : Side). y .count) (pick-false _ _ _ t) ∙ sym (pick-false _ _ _ t))
+
+-- ---- symbols n to 1 are still to be pushed
+
+pub record Laying (k : ℕ) (w : List ℕ) (n : ℕ) (x y : Side) : Type 0 where
+  pub kept : Kept x y
+  pub runs : RunsFit k (stackOf y)
+  -- the word's symbols after number n, and blanks after these
+  pub cells : streamOf y ≡ (λ d. getD w (suc (n + d)) 0)
+  pub sum : cellsOf y + n ≤ length w
+  pub room : runsOf w n (topOf y) (y .count) ≤ placesOf (y .symbols) (y .lengths)
+
+module _ (k : ℕ) (w : List ℕ) (word : (i : ℕ) → getD w i 0 < k) (x : Side) where
+  module _ (n : ℕ) (y : Side) (l : Laying k w (suc n) x y) where
+    abbrev s : ℕ
+    s = getD w (suc n) 0
+
+    abbrev next : Side
+    next = pushOf s 1 y
+
+    free : Place s y
+    unfolding runsOf
+    free d = omega (arith, runs-more w n s (y .count + 1), l .room, pick-false (eqb s (topOf y)) (runsOf w n (topOf y) (y .count)) (runsOf w n s (y .count + 1)) (ne-eqb _ _ d))
+
+    is : stackOf next ≡ push s 1 (stackOf y)
+    is = push-is s 1 y (l .kept .live) free
+
+    next-kept : Kept y next
+    next-kept = push-kept y (l .kept .live) s 1 free
+
+    next-top : topOf next ≡ s
+    next-top = top-is (next .symbols) (next .lengths) (next .count) ∙ ap top is ∙ top-push s 1 (stackOf y)
+
+    -- the runs are as many as were counted
+    next-runs : runsOf w n (topOf next) (next .count) ≡ runsOf w (suc n) (topOf y) (y .count)
+    unfolding runsOf
+    next-runs = (λ i. runsOf w n (next-top i) (push-count s 1 y i)) ∙ by-test (eqb s (topOf y))
+        (λ t. (λ i. runsOf w n (eqb-true s (topOf y) t i) (pick-true (eqb s (topOf y)) (y .count) (y .count + 1) t i)) ∙ sym (pick-true (eqb s (topOf y)) _ _ t))
+        (λ t. ap (runsOf w n s) (pick-false (eqb s (topOf y)) (y .count) (y .count + 1) t) ∙ sym (pick-false (eqb s (topOf y)) _ _ t))
+
+    next-cells : streamOf next ≡ (λ d. getD w (suc (n + d)) 0)
+    next-cells = ap stream is ∙ push-means s 1 (stackOf y) ∙ ap (cons s) (l .cells) ∙ fun-ext at
+      where
+        at : (d : ℕ) → cons s (λ d. getD w (suc (suc n + d)) 0) d ≡ getD w (suc (n + d)) 0
+        at zero = let e : suc n ≡ suc (n + 0) = omega arith in ap (λ j. getD w j 0) e
+        at (suc d) = let e : suc (suc n + d) ≡ suc (n + suc d) = omega arith in ap (λ j. getD w j 0) e
+
+    lay-next : Laying k w n x next
+    lay-next = record {
+      kept = kept-both (l .kept) next-kept;
+      runs = subst (RunsFit k) (sym is) (push-fits k s 1 (stackOf y) (omega arith) (word (suc n)) (l .runs));
+      cells = next-cells;
+      sum = omega (arith, l .sum, total-is (next .symbols) (next .lengths) (next .count), total-is (y .symbols) (y .lengths) (y .count), ap total is, push-total s 1 (stackOf y));
+      room = omega (arith, next-runs, l .room, lengths);
+    }
+      where
+        lengths : placesOf (next .symbols) (next .lengths) ≡ placesOf (y .symbols) (y .lengths)
+        lengths = omega (arith, next-kept .symbols, next-kept .lengths)
+
+  pub laid : (n : ℕ) (y : Side) → Laying k w n x y → Laying k w 0 x (laidOf w n y)
+  unfolding laidOf
+  laid zero y l = l
+  laid (suc n) y l = laid n (pushOf (getD w (suc n) 0) 1 y) (lay-next n y l)
+
+  -- nothing is pushed yet
+  pub lay-first : (rs rl : List ℕ) → x ≡ side rs rl 0 → runsOf w (length w - 1) 0 0 ≤ placesOf rs rl → Laying k w (length w - 1) x (side rs rl 0)
+  unfolding sumOf symbolUnder pick
+  lay-first rs rl e room = record {
+    kept = rw e (kept-same (side rs rl 0) (omega arith));
+    runs = tt;
+    cells = fun-ext (λ d. sym (List·getD-eq-default w 0 (omega arith)));
+    sum = omega arith;
+    room = room;
+  }
+
+-- ---- the engine
+
+module _ (m : Machine) (w ls ll rs rl : List ℕ) (word : (i : ℕ) → getD w i 0 < m .symbols) (short : length w ≤ 1048576) (start-in : m .start < m .states)
+    (room : runsOf w (length w - 1) 0 0 ≤ placesOf rs rl) where
+  abbrev right : Side
+  right = laidOf w (length w - 1) (side rs rl 0)
+
+  abbrev engine : Conf
+  engine = conf (freshSim m w (right .count)) ls ll (right .symbols) (right .lengths)
+
+  done : Laying (m .symbols) w 0 (side rs rl 0) right
+  done = laid (m .symbols) w word (side rs rl 0) (length w - 1) (side rs rl 0) (lay-first (m .symbols) w word (side rs rl 0) rs rl refl room)
+
+  pub fresh-kept : Kept (side rs rl 0) right
+  fresh-kept = done .kept
+
+  pub fresh-holds : configOf engine ≡ start (m .start) w
+  fresh-holds = λ i. record { state = m .start; steps = 0; tape0 = tape i; tape1 = startTape []; tape2 = startTape [] }
+    where
+      zero-is : zeroAt ⊖ 2 ^ 63 ≡ pos 0
+      zero-is = omega (ints, diff-⊖ zeroAt (2 ^ 63))
+
+      cell : (z : ℤ) → look blanks (getD w 0 0) (streamOf right) z ≡ wordCell w z
+      cell (pos zero) = refl
+      cell (pos (suc d)) = ap (λ (f : Stream). f d) (done .cells) ∙ ap (λ j. getD w (suc j) 0) (zero-add d)
+      cell (negsuc d) = refl
+
+      near : (z : ℤ) → distance (zeroAt ⊖ 2 ^ 63) z ≡ z
+      near z = omega (ints, diff-distance (zeroAt ⊖ 2 ^ 63) z, zero-is)
+
+      tape : tapeAround blanks (getD w 0 0) (streamOf right) zeroAt zeroAt zeroAt ≡ startTape w
+      tape = tape-≡ _ _ (λ z. ap (look blanks (getD w 0 0) (streamOf right)) (near z) ∙ cell z) zero-is zero-is zero-is
+
+  pub fresh-fits : ChainFits m engine
+  unfolding sumOf
+  fresh-fits = record {
+    state-in = start-in;
+    steps-in = omega arith;
+    macros-in = omega arith;
+    read-in = word 0;
+    low-head = omega arith;
+    head-high = omega arith;
+    low-near = omega arith;
+    high-near = omega arith;
+    lefts = record { live = omega arith; runs = tt; sum = omega arith };
+    rights = record { live = done .kept .live; runs = done .runs; sum = omega (arith, done .sum) };
+    left-far = omega arith;
+    right-far = omega (arith, done .sum);
+  }
+
+-- a symbol past a word's end is the blank
+pub word-all : (k : ℕ) (w : List ℕ) → 1 ≤ k → ((i : ℕ) → i < length w → getD w i 0 < k) → (i : ℕ) → getD w i 0 < k
+word-all k w l h i = by (decLt i (length w))
+  where
+    by : Dec (i < length w) → getD w i 0 < k
+    by (yes g) = h i g
+    by (no g) = rw (List·getD-eq-default w 0 {n = i} (omega arith)) l

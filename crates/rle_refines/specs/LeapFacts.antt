@@ -1,0 +1,218 @@
+-- A macro step of n repeats is n steps of the table machine, and keeps what fits. Assumes nothing.
+use mathlib.Core.Path.{_≡_, refl, sym, ap, _∙_, subst}
+use mathlib.Core.Bool.{true, false}
+use Prim.Native.Nat.{ℕ, zero, suc, _+_, _-_, _≤_, _<_, _^_, min, max}
+use native.Mathlib.Omega.{arith}
+use Rattle.symbol.specs.declared.Dir.{Dir}
+use Rattle.symbol.specs.declared.Dir.the-variants.{L, R, N}
+use Rattle.machine.specs.declared.Machine.{Machine}
+use Rattle.machine.specs.declared.Action.{Action}
+use Rattle.machine.specs.declared.Entry.the-variants.{Defined}
+use Rattle.tables.specs.WellFormed.{ActionOf}
+use Rattle.turing.specs.TableMachine.{Table, Config, entry, run, Sideways}
+use Rattle.turing.specs.Tables.{TableOf}
+use Rattle.stacks.specs.Sides.{Side, placesOf, lacks}
+use Rattle.rle.specs.declared.inner.Leap.{Leap}
+use Rattle.rle.specs.Engine.{Conf, leftOf, rightOf, Carried, carryOf, fullFor, leap, leapTo, leapOf}
+use Rattle.rle_refines.specs.Meaning.{stackOf, top, Stream, tail, prepend, stream, streamOf, tapeAround, configOf, SideFits, ChainFits}
+use Rattle.rle_refines.specs.Statement.{isFull, Kept}
+use Rattle.rle_refines.specs.StackFacts.{take, Reach}
+use Rattle.rle_refines.specs.SideFacts.{Carries, carry-holds}
+use Rattle.rle_refines.specs.TapeFacts.{facing, onward, arrived, read-around}
+use Rattle.rle_refines.specs.WalkFacts.{at, walk, stand}
+
+-- ---- the side behind a move, and the one ahead
+
+abbrev pub behindOf : Dir → Conf → Side
+behindOf L σ = rightOf σ
+behindOf R σ = leftOf σ
+behindOf N σ = leftOf σ
+
+abbrev pub aheadOn : Dir → Conf → Side
+aheadOn L σ = leftOf σ
+aheadOn R σ = rightOf σ
+aheadOn N σ = rightOf σ
+
+pub by-way : {P : Type 0} (x : Dir) → (Sideways x → P) → (x ≡ N → P) → P
+by-way L f g = f tt
+by-way R f g = f tt
+by-way N f g = g refl
+
+-- the entry read
+pub entry-at : (d : Table) (σ : Conf) → entry d (configOf σ) ≡ d (σ .sim .state .0) (σ .sim .tape .cur) 0 0
+entry-at d σ = ap (λ c. d (σ .sim .state .0) c 0 0) (read-around (streamOf (leftOf σ)) (streamOf (rightOf σ)) (σ .sim .tape .cur) (σ .sim .tape .head) (σ .sim .lowest) (σ .sim .highest))
+
+-- the configuration after a macro step, by its two sides
+abbrev sidesOf : Dir → Leap → Conf → Carried
+sidesOf x j σ = carryOf (j .write) (j .repeats) (behindOf x σ) (aheadOn x σ)
+
+module _ (σ : Conf) where
+  held-facing : (x : Dir) → configOf σ ≡ at (σ .sim .state .0) (σ .sim .steps)
+      (facing x (streamOf (behindOf x σ)) (σ .sim .tape .cur) (streamOf (aheadOn x σ)) (σ .sim .tape .head) (σ .sim .lowest) (σ .sim .highest))
+  held-facing L = refl
+  held-facing R = refl
+  held-facing N = refl
+
+  leapt-facing : (x : Dir) → Sideways x → (j : Leap) → configOf (leapTo x j σ) ≡ at (j .next .0) (σ .sim .steps + j .repeats)
+      (arrived x (streamOf (sidesOf x j σ .behind)) (sidesOf x j σ .cur) (streamOf (sidesOf x j σ .ahead)) (onward x (j .repeats) (σ .sim .tape .head)) (σ .sim .lowest) (σ .sim .highest))
+  unfolding leapTo
+  leapt-facing L s j = refl
+  leapt-facing R s j = refl
+  leapt-facing N s j = absurd s
+
+  leapt-still : (j : Leap) → configOf (leapTo N j σ) ≡ at (j .next .0) (σ .sim .steps + j .repeats)
+      (tapeAround (streamOf (leftOf σ)) (j .write) (streamOf (rightOf σ)) (σ .sim .tape .head) (min (σ .sim .lowest) (σ .sim .tape .head)) (max (σ .sim .highest) (σ .sim .tape .head)))
+  unfolding leapTo
+  leapt-still j = refl
+
+  room-behind : (x : Dir) → Sideways x → (w : ℕ) → fullFor x w (placesOf (σ .ls) (σ .ll)) (placesOf (σ .rs) (σ .rl)) (leftOf σ) (rightOf σ) ≡ false
+      → lacks (placesOf (behindOf x σ .symbols) (behindOf x σ .lengths)) w (behindOf x σ) ≡ false
+  unfolding fullFor
+  room-behind L s w e = e
+  room-behind R s w e = e
+  room-behind N s w e = absurd s
+
+-- k more cells of the symbol read lie ahead; an entry that stays rewrites what it read
+abbrev pub Over : Dir → (write k : ℕ) → Conf → Type 0
+Over L w k σ = Reach (σ .sim .tape .cur) k (stackOf (leftOf σ))
+Over R w k σ = Reach (σ .sim .tape .cur) k (stackOf (rightOf σ))
+Over N w k σ = 1 ≤ k → w ≡ σ .sim .tape .cur
+
+pub over-reach : (x : Dir) → Sideways x → (w k : ℕ) (σ : Conf) → Over x w k σ → Reach (σ .sim .tape .cur) k (stackOf (aheadOn x σ))
+over-reach L s w k σ o = o
+over-reach R s w k σ o = o
+over-reach N s w k σ o = absurd s
+
+module _ (m : Machine) (σ : Conf) (f : ChainFits m σ) (w n : ℕ) (some : 1 ≤ n) (w-in : w < m .symbols) (small : σ .sim .steps + n ≤ 2 ^ 62) where
+  sides-in : (x : Dir) → SideFits (m .symbols) (σ .sim .steps + 2 ^ 20) (behindOf x σ) × SideFits (m .symbols) (σ .sim .steps + 2 ^ 20) (aheadOn x σ)
+  sides-in L = (f .rights, f .lefts)
+  sides-in R = (f .lefts, f .rights)
+  sides-in N = (f .lefts, f .rights)
+
+  -- a macro step that ends by step 2^62 takes no position below 0
+  pub high-enough : n ≤ σ .sim .tape .head
+  high-enough = omega (arith, f .low-head, f .low-near)
+
+  module _ (x : Dir) (s : Sideways x) (room : fullFor x w (placesOf (σ .ls) (σ .ll)) (placesOf (σ .rs) (σ .rl)) (leftOf σ) (rightOf σ) ≡ false) where
+    pub carried : Carries (m .symbols) w n (σ .sim .steps + n + 2 ^ 20) (behindOf x σ) (aheadOn x σ) (carryOf w n (behindOf x σ) (aheadOn x σ))
+    carried = carry-holds (m .symbols) w n (σ .sim .steps + 2 ^ 20) (σ .sim .steps + n + 2 ^ 20) (behindOf x σ) (aheadOn x σ) some (omega arith) w-in
+        (sides-in x .0) (sides-in x .1) (room-behind σ x s w room)
+
+-- ---- the configuration
+
+module _ (m : Machine) (d : Table) (table : TableOf m d) (single : m .tapes ≡ 1) (σ : Conf) (f : ChainFits m σ)
+    (a : Action) (reads : d (σ .sim .state .0) (σ .sim .tape .cur) 0 0 ≡ Defined a) (room : isFull σ a ≡ false) where
+  of-machine : ActionOf m a
+  of-machine = table _ _ _ _ a reads
+
+  module _ (k : ℕ) (small : σ .sim .steps + suc k ≤ 2 ^ 62) where
+    pub sides : Sideways (a .dir0) → Carries (m .symbols) (a .write0 .0) (suc k) (σ .sim .steps + suc k + 2 ^ 20) (behindOf (a .dir0) σ) (aheadOn (a .dir0) σ)
+        (carryOf (a .write0 .0) (suc k) (behindOf (a .dir0) σ) (aheadOn (a .dir0) σ))
+    sides s = carried m σ f (a .write0 .0) (suc k) (omega arith) (of-machine .write0-in) small (a .dir0) s room
+
+    module _ (keeps : 1 ≤ k → a .next .0 ≡ σ .sim .state .0) (way : Over (a .dir0) (a .write0 .0) k σ) where
+      -- a macro step of k + 1 repeats is k + 1 steps of the table machine
+      pub leap-holds : configOf (leapOf (leap a (suc k)) σ) ≡ run d (suc k) (configOf σ)
+      leap-holds = by-way (a .dir0) moves stays
+        where
+          less : suc k - 1 ≡ k
+          less = omega arith
+
+          moves : Sideways (a .dir0) → configOf (leapOf (leap a (suc k)) σ) ≡ run d (suc k) (configOf σ)
+          moves s =
+              let x : Dir = a .dir0 in
+              let c = sides s in
+              leapt-facing σ (a .dir0) s (leap a (suc k))
+              ∙ (λ i. at (a .next .0) (σ .sim .steps + suc k) (arrived (a .dir0) (c .behind-cells i) (c .read i) (c .ahead-cells i) (onward (a .dir0) (suc k) (σ .sim .tape .head)) (σ .sim .lowest) (σ .sim .highest)))
+              ∙ (λ i. at (a .next .0) (σ .sim .steps + suc k) (arrived (a .dir0) (prepend (suc k) (a .write0 .0) (streamOf (behindOf (a .dir0) σ))) (stream (take (less i) (stackOf (aheadOn (a .dir0) σ))) 0)
+              (tail (stream (take (less i) (stackOf (aheadOn (a .dir0) σ))))) (onward (a .dir0) (suc k) (σ .sim .tape .head)) (σ .sim .lowest) (σ .sim .highest)))
+              ∙ sym (walk m d table single a (σ .sim .state .0) (σ .sim .tape .cur) reads s k (σ .sim .steps) (streamOf (behindOf (a .dir0) σ)) (stream (take k (stackOf (aheadOn (a .dir0) σ))))
+              (σ .sim .tape .head) (σ .sim .lowest) (σ .sim .highest) keeps (high-enough m σ f (a .write0 .0) (suc k) (omega arith) (of-machine .write0-in) small) (f .low-head) (f .head-high))
+              ∙ ap (λ y. run d (suc k) (at (σ .sim .state .0) (σ .sim .steps) (facing (a .dir0) (streamOf (behindOf (a .dir0) σ)) (σ .sim .tape .cur) y (σ .sim .tape .head) (σ .sim .lowest) (σ .sim .highest))))
+              (sym (over-reach (a .dir0) s (a .write0 .0) k σ way))
+              ∙ ap (run d (suc k)) (sym (held-facing σ (a .dir0)))
+
+          stays : a .dir0 ≡ N → configOf (leapOf (leap a (suc k)) σ) ≡ run d (suc k) (configOf σ)
+          stays n =
+              ap (λ x. configOf (leapTo x (leap a (suc k)) σ)) n
+              ∙ leapt-still σ (leap a (suc k))
+              ∙ sym (stand m d table single a (σ .sim .state .0) (σ .sim .tape .cur) reads n (streamOf (leftOf σ)) (streamOf (rightOf σ)) (σ .sim .tape .head) k (σ .sim .steps) (σ .sim .lowest) (σ .sim .highest)
+              (λ l. (keeps l, subst (λ x. Over x (a .write0 .0) k σ) n way l)))
+
+    -- ---- what it keeps
+
+    pub leap-keeps : Kept m σ (leapOf (leap a (suc k)) σ)
+    unfolding leapTo
+    leap-keeps = by (a .dir0) refl
+      where
+        deep : suc k ≤ σ .sim .tape .head
+        deep = high-enough m σ f (a .write0 .0) (suc k) (omega arith) (of-machine .write0-in) small
+
+        later : (x : Side) → SideFits (m .symbols) (σ .sim .steps + 2 ^ 20) x → SideFits (m .symbols) (σ .sim .steps + suc k + 2 ^ 20) x
+        later x g = record { live = g .live; runs = g .runs; sum = omega (arith, g .sum) }
+
+        by : (x : Dir) → a .dir0 ≡ x → Kept m σ (leapTo x (leap a (suc k)) σ)
+        by L e =
+            let c = carried m σ f (a .write0 .0) (suc k) (omega arith) (of-machine .write0-in) small L tt (rw e at room) in
+            record {
+              fits = record {
+                state-in = of-machine .next-in;
+                steps-in = small;
+                macros-in = omega (arith, f .macros-in);
+                read-in = c .read-in (omega (arith, f .read-in));
+                low-head = omega arith;
+                head-high = omega arith;
+                low-near = omega (arith, f .low-near, f .low-head, deep);
+                high-near = omega (arith, f .high-near, f .head-high);
+                lefts = c .ahead-fits;
+                rights = c .behind-fits;
+                left-far = omega (arith, f .left-far, c .ahead-sum, deep);
+                right-far = omega (arith, f .right-far, c .behind-sum, deep);
+              };
+              same-ls = c .ahead-kept .symbols;
+              same-ll = c .ahead-kept .lengths;
+              same-rs = c .behind-kept .symbols;
+              same-rl = c .behind-kept .lengths;
+            }
+        by R e =
+            let c = carried m σ f (a .write0 .0) (suc k) (omega arith) (of-machine .write0-in) small R tt (rw e at room) in
+            record {
+              fits = record {
+                state-in = of-machine .next-in;
+                steps-in = small;
+                macros-in = omega (arith, f .macros-in);
+                read-in = c .read-in (omega (arith, f .read-in));
+                low-head = omega arith;
+                head-high = omega arith;
+                low-near = omega (arith, f .low-near, f .low-head);
+                high-near = omega (arith, f .high-near, f .head-high);
+                lefts = c .behind-fits;
+                rights = c .ahead-fits;
+                left-far = omega (arith, f .left-far, c .behind-sum);
+                right-far = omega (arith, f .right-far, c .ahead-sum);
+              };
+              same-ls = c .behind-kept .symbols;
+              same-ll = c .behind-kept .lengths;
+              same-rs = c .ahead-kept .symbols;
+              same-rl = c .ahead-kept .lengths;
+            }
+        by N e = record {
+          fits = record {
+            state-in = of-machine .next-in;
+            steps-in = small;
+            macros-in = omega (arith, f .macros-in);
+            read-in = of-machine .write0-in;
+            low-head = omega arith;
+            head-high = omega arith;
+            low-near = omega (arith, f .low-near, f .low-head);
+            high-near = omega (arith, f .high-near, f .head-high);
+            lefts = later (leftOf σ) (f .lefts);
+            rights = later (rightOf σ) (f .rights);
+            left-far = omega (arith, f .left-far);
+            right-far = omega (arith, f .right-far);
+          };
+          same-ls = refl;
+          same-ll = refl;
+          same-rs = refl;
+          same-rl = refl;
+        }

@@ -1,0 +1,189 @@
+-- THE RUN-LENGTH ENGINE REFINES THE TABLE MACHINE: the proof of Statement's claim. Assumes nothing.
+use mathlib.Core.Path.{_≡_, refl, sym, ap, _∙_, subst}
+use mathlib.Core.Bool.{true, false}
+use Prim.Native.Nat.{ℕ, zero, suc, _+_, _-_, _≤_, _<_, _^_}
+use native.Mathlib.Decide.{decLt}
+use native.Mathlib.Omega.{arith}
+use Rattle.laws.specs.Tests.{by-test}
+use Rattle.outcome.specs.declared.Outcome.{Outcome}
+use Rattle.machine.specs.declared.Machine.{Machine}
+use Rattle.machine.specs.declared.Action.{Action}
+use Rattle.machine.specs.declared.Entry.the-variants.{Defined}
+use Rattle.turing.specs.TableMachine.{Config, entry, run, halts, Halted}
+use Rattle.turing.specs.Tables.{TableOf}
+use Rattle.turing.specs.RunFacts.{not-defined, run-add}
+use Rattle.turing.specs.TableFacts.{accepted-table}
+use Rattle.sim.specs.Engine.{Task, task}
+use Rattle.stacks.specs.Sides.{placesOf}
+use Rattle.rle.specs.declared.inner.Leap.{Leap}
+use Rattle.rle.specs.declared.inner.Plan.{Plan}
+use Rattle.rle.specs.declared.inner.Plan.the-variants.{Stop, Go}
+use Rattle.rle.specs.Engine.{Conf, leap, leapOf, planOf, End, end, onPlan, runWithin, runOf}
+use Rattle.rle_refines.specs.Meaning.{configOf, ChainFits}
+use Rattle.rle_refines.specs.Full.{FullAt}
+use Rattle.rle_refines.specs.Statement.{tableIn, after, Unproved, hasRule, isFull, Kept, Went, Answers, verdict, halted, spent, stopped, full, Refines, ChainRefines}
+use Rattle.rle_refines.specs.PlanFacts as P
+use Rattle.rle_refines.specs.PlanFacts.{Repeats, Plans, plan-right}
+use Rattle.rle_refines.specs.MidFacts.{leapt-steps, leapt-macros, cut-holds, cut-kept, way-entry, way-unproved, way-unmatched, way-roomy}
+
+-- ---- what is kept through one change and another
+
+kept-none : (m : Machine) (σ : Conf) → ChainFits m σ → Kept m σ σ
+kept-none m σ f = record { fits = f; same-ls = refl; same-ll = refl; same-rs = refl; same-rl = refl }
+
+kept-both : (m : Machine) (σ τ e : Conf) → Kept m σ τ → Kept m τ e → Kept m σ e
+kept-both m σ τ e p q = record {
+  fits = q .fits;
+  same-ls = q .same-ls ∙ p .same-ls;
+  same-ll = q .same-ll ∙ p .same-ll;
+  same-rs = q .same-rs ∙ p .same-rs;
+  same-rl = q .same-rl ∙ p .same-rl;
+}
+
+-- ---- a run that makes no step
+
+module _ (k : Task) (fuel : ℕ) (σ : Conf) where
+  stands : ChainFits (k .machine) σ → Went k 0 σ σ
+  unfolding run
+  stands f = record {
+    holds = refl;
+    counted = omega arith;
+    macros = omega arith;
+    kept = kept-none (k .machine) σ f;
+    running = λ j h. absurd (omega arith);
+    unproved = λ j h. absurd (omega arith);
+    unmatched = λ j h. absurd (omega arith);
+    roomy = λ j h. absurd (omega arith);
+  }
+
+  answers-here : {o : Outcome} → Plans k fuel σ (Stop o) → Answers k fuel 0 σ o
+  answers-here (P.no-entry h) = by-test (k .proves) (λ t. verdict _ t (halts h) (λ n e. let z : _≡_ {A = ℕ} 0 1 = cc in absurd (omega arith))) (λ t. halted t h)
+  answers-here (P.loops p t v) = verdict _ t v (λ n e. let z : _≡_ {A = ℕ} 0 1 = cc in absurd (omega arith))
+  answers-here (P.spent a e u z) = by-test (k .proves) (λ t. verdict _ t (u t) (λ n _. z)) (λ t. spent t (λ h. not-defined _ a h e) z)
+  answers-here (P.stops a e u l r) = stopped a l e u r
+  answers-here (P.lacks-place a e u l r g) = full a l e u r g
+
+  ends-here : (o : Outcome) → ChainFits (k .machine) σ → Plans k fuel σ (Stop o) → Refines k fuel σ (end σ o)
+  ends-here o f p = record { made = 0; within = omega arith; went = stands f; answers = answers-here p }
+
+-- ---- a macro step, and a run from there
+
+module _ (k : Task) (table : TableOf (k .machine) (tableIn k)) (single : k .machine .tapes ≡ 1) (σ : Conf) (f : ChainFits (k .machine) σ)
+    (a : Action) (e : entry (tableIn k) (configOf σ) ≡ Defined a) (u : Unproved k (configOf σ)) (unruled : hasRule k (configOf σ) ≡ false) (room : isFull σ a ≡ false)
+    (fuel j : ℕ) (r : Repeats σ a fuel (suc j)) (small : σ .sim .steps + fuel ≤ 2 ^ 62) where
+  abbrev next : Conf
+  next = leapOf (leap a (suc j)) σ
+
+  within-fuel : suc j ≤ fuel
+  within-fuel = r .within
+
+  so-far : σ .sim .steps + suc j ≤ 2 ^ 62
+  so-far = omega (arith, within-fuel)
+
+  next-holds : configOf next ≡ after k (suc j) σ
+  next-holds = cut-holds k table single σ f a e room fuel (suc j) r so-far j (omega arith)
+
+  pub next-kept : Kept (k .machine) σ next
+  next-kept = cut-kept k table single σ f a e room fuel (suc j) r so-far j (omega arith)
+
+  next-steps : next .sim .steps ≡ σ .sim .steps + suc j
+  next-steps = leapt-steps (leap a (suc j)) σ (a .dir0)
+
+  pub next-small : next .sim .steps + (fuel - suc j) ≤ 2 ^ 62
+  next-small = omega (arith, next-steps, within-fuel)
+
+  same-left : placesOf (next .ls) (next .ll) ≡ placesOf (σ .ls) (σ .ll)
+  same-left = omega (arith, next-kept .same-ls, next-kept .same-ll)
+
+  same-right : placesOf (next .rs) (next .rl) ≡ placesOf (σ .rs) (σ .rl)
+  same-right = omega (arith, next-kept .same-rs, next-kept .same-rl)
+
+  -- i steps after the macro step
+  later : (i : ℕ) → after k i next ≡ after k (suc j + i) σ
+  later i = ap (run (tableIn k) i) next-holds ∙ sym (run-add (tableIn k) (suc j) i (configOf σ))
+
+  -- what holds on the way of the macro step, and of those after it, holds of all
+  all-along : (P : Config → Type 0) (n : ℕ) → ((i : ℕ) → i < suc j → P (after k i σ)) → ((i : ℕ) → i < n → P (after k i next)) → (i : ℕ) → i < suc j + n → P (after k i σ)
+  all-along P n h g i l = by (decLt i (suc j))
+    where
+      by : Dec (i < suc j) → P (after k i σ)
+      by (yes x) = h i x
+      by (no x) = let q : suc j + (i - suc j) ≡ i = omega arith in subst (λ c. P (after k c σ)) q (subst P (later (i - suc j)) (g (i - suc j) (omega arith)))
+
+  goes-there : (made : ℕ) (τ : Conf) → Went k made next τ → Went k (suc j + made) σ τ
+  goes-there made τ w = record {
+    holds = w .holds ∙ later made;
+    counted = omega (arith, w .counted, next-steps);
+    macros = omega (arith, w .macros, leapt-macros (leap a (suc j)) σ (a .dir0));
+    kept = kept-both (k .machine) σ next τ next-kept (w .kept);
+    running = all-along (λ c. ¬ (Halted (tableIn k) c)) made (λ i l h. not-defined _ a h (way-entry k table single σ f a e room fuel (suc j) r so-far i l)) (w .running);
+    unproved = all-along (Unproved k) made (way-unproved k table single σ f a e room fuel (suc j) r so-far u) (w .unproved);
+    unmatched = all-along (λ c. hasRule k c ≡ false) made (way-unmatched k table single σ f a e room fuel (suc j) r so-far unruled) (w .unmatched);
+    roomy = all-along (λ c. ¬ (FullAt (k .machine) (tableIn k) (placesOf (σ .ls) (σ .ll)) (placesOf (σ .rs) (σ .rl)) c)) made (way-roomy k table single σ f a e room fuel (suc j) r so-far)
+        (λ i l g. w .roomy i l (subst (λ x. FullAt (k .machine) (tableIn k) x (placesOf (next .rs) (next .rl)) (after k i next)) (sym same-left)
+        (subst (λ y. FullAt (k .machine) (tableIn k) (placesOf (σ .ls) (σ .ll)) y (after k i next)) (sym same-right) g)));
+  }
+
+  answers-there : {made : ℕ} {τ : Conf} {o : Outcome} → Answers k (fuel - suc j) made τ o → Answers k fuel (suc j + made) τ o
+  answers-there (verdict o t v g) = verdict o t v (λ n h. omega (arith, g n h, within-fuel))
+  answers-there (halted t h) = halted t h
+  answers-there (spent t h q) = spent t h (omega (arith, within-fuel))
+  answers-there (stopped b l h v q) = stopped b (omega (arith, within-fuel)) h v q
+  answers-there (full b l h v q g) = full b (omega (arith, within-fuel)) h v q g
+
+  runs-on : (x : End) → Refines k (fuel - suc j) next x → Refines k fuel σ x
+  runs-on x y = record {
+    made = suc j + y .made;
+    within = omega (arith, y .within, within-fuel);
+    went = goes-there (y .made) (x .at) (y .went);
+    answers = answers-there (y .answers);
+  }
+
+-- ---- the run
+
+module _ (k : Task) (table : TableOf (k .machine) (tableIn k)) (single : k .machine .tapes ≡ 1) where
+  -- any number above the fuel bounds the macro steps
+  pub within-refines : (most fuel : ℕ) (σ : Conf) → ChainFits (k .machine) σ → σ .sim .steps + fuel ≤ 2 ^ 62 → fuel < most → Refines k fuel σ (runWithin k most fuel σ)
+  unfolding runWithin
+  within-refines zero fuel σ f small l = absurd (omega arith)
+  within-refines (suc most) fuel σ f small l = by (λ j. within-refines most (fuel - j .repeats) (leapOf j σ)) (plan-right k table single fuel σ f)
+    where
+      by : ((j : Leap) → ChainFits (k .machine) (leapOf j σ) → leapOf j σ .sim .steps + (fuel - j .repeats) ≤ 2 ^ 62 → fuel - j .repeats < most
+          → Refines k (fuel - j .repeats) (leapOf j σ) (runWithin k most (fuel - j .repeats) (leapOf j σ)))
+          → {p : Plan} → Plans k fuel σ p → Refines k fuel σ (onPlan p (end σ) (λ j. runWithin k most (fuel - j .repeats) (leapOf j σ)))
+      by on (P.no-entry h) = ends-here k fuel σ _ f (P.no-entry h)
+      by on (P.loops p t v) = ends-here k fuel σ _ f (P.loops p t v)
+      by on (P.spent a e u z) = ends-here k fuel σ _ f (P.spent a e u z)
+      by on (P.stops a e u g r) = ends-here k fuel σ _ f (P.stops a e u g r)
+      by on (P.lacks-place a e u g r h) = ends-here k fuel σ _ f (P.lacks-place a e u g r h)
+      by on (P.leaps a zero e u g h r) = absurd (omega (arith, r .some))
+      by on (P.leaps a (suc j) e u g h r) = runs-on k table single σ f a e u g h fuel j r small _
+          (on (leap a (suc j)) (next-kept k table single σ f a e u g h fuel j r small .fits) (next-small k table single σ f a e u g h fuel j r small) (omega (arith, r .within)))
+
+  pub run-refines : (fuel : ℕ) (σ : Conf) → ChainFits (k .machine) σ → σ .sim .steps + fuel ≤ 2 ^ 62 → Refines k fuel σ (runOf k fuel σ)
+  unfolding runOf
+  run-refines fuel σ f small = within-refines (suc fuel) fuel σ f small (omega arith)
+
+  -- and whichever bounds them, the run is the same
+  pub within-same : (most other fuel : ℕ) (σ : Conf) → ChainFits (k .machine) σ → σ .sim .steps + fuel ≤ 2 ^ 62 → fuel < most → fuel < other
+      → runWithin k most fuel σ ≡ runWithin k other fuel σ
+  unfolding runWithin
+  within-same zero other fuel σ f small l g = absurd (omega arith)
+  within-same (suc most) zero fuel σ f small l g = absurd (omega arith)
+  within-same (suc most) (suc other) fuel σ f small l g = by (λ j. within-same most other (fuel - j .repeats) (leapOf j σ)) (plan-right k table single fuel σ f)
+    where
+      by : ((j : Leap) → ChainFits (k .machine) (leapOf j σ) → leapOf j σ .sim .steps + (fuel - j .repeats) ≤ 2 ^ 62 → fuel - j .repeats < most → fuel - j .repeats < other
+          → runWithin k most (fuel - j .repeats) (leapOf j σ) ≡ runWithin k other (fuel - j .repeats) (leapOf j σ))
+          → {p : Plan} → Plans k fuel σ p
+          → onPlan p (end σ) (λ j. runWithin k most (fuel - j .repeats) (leapOf j σ)) ≡ onPlan p (end σ) (λ j. runWithin k other (fuel - j .repeats) (leapOf j σ))
+      by on (P.no-entry h) = refl
+      by on (P.loops p t v) = refl
+      by on (P.spent a e u z) = refl
+      by on (P.stops a e u x r) = refl
+      by on (P.lacks-place a e u x r h) = refl
+      by on (P.leaps a zero e u x h r) = absurd (omega (arith, r .some))
+      by on (P.leaps a (suc j) e u x h r) = on (leap a (suc j)) (next-kept k table single σ f a e u x h fuel j r small .fits) (next-small k table single σ f a e u x h fuel j r small)
+          (omega (arith, r .within)) (omega (arith, r .within))
+
+pub chain-refines : ChainRefines
+chain-refines m s bytes accepted single proves rule = run-refines (task m s proves rule) (accepted-table m s bytes accepted) single
