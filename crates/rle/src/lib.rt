@@ -2,6 +2,7 @@
 use outcome::Refusal;
 use symbol::State;
 
+mod checks;
 pub mod inner;
 
 // The tape. The runs of each side stand in lent places, of which so many are live. The head's position is raised by
