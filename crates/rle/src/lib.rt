@@ -4,6 +4,7 @@ use symbol::State;
 
 mod checks;
 pub mod inner;
+mod word;
 
 // The tape. The runs of each side stand in lent places, of which so many are live. The head's position is raised by
 // 2^63.

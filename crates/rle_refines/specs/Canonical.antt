@@ -1,19 +1,17 @@
 -- The stack rule makes the stacks canonical: the configuration held decides them, and so whether a step is full. Assumes nothing.
 use mathlib.Core.Path.{_≡_, refl, sym, ap, _∙_, subst, fun-ext}
 use mathlib.Core.Logic.{_↔_}
-use mathlib.Core.Bool.{Bool, true, false}
+use mathlib.Core.Bool.{true, false}
 use mathlib.Core.List.{List}
 use Prim.Native.Nat.{ℕ, zero, suc, _+_, _≤_, _^_}
 use native.Mathlib.Omega.{arith}
-use borrow.Author.Tests.{eqb-true, eqb-false, ne-eqb, leb-true, le-leb}
+use borrow.Author.Tests.{eqb-false, ne-eqb, leb-true, le-leb}
 use lib.Dec.{eqb, leb}
 use lib.IntN.{ℤ, pos, negsuc}
-use Rattle.laws.specs.Choice.{pick}
 use Rattle.laws.specs.Position.{_⊖_, up, dn}
 use Rattle.laws.specs.PositionFacts.{ints, diff-⊖}
 use Rattle.laws.specs.Tests.{clash, pick-cases, pick-false}
 use Rattle.symbol.specs.Kinds.{stateOf}
-use Rattle.symbol.specs.declared.State.{State}
 use Rattle.symbol.specs.declared.Dir.{Dir}
 use Rattle.symbol.specs.declared.Dir.the-variants.{L, R, N}
 use Rattle.machine.specs.declared.Machine.{Machine}
@@ -28,7 +26,8 @@ use Rattle.rle_refines.specs.Full.{height, Stacked, FullOn, FullAt}
 use Rattle.rle_refines.specs.Statement.{isFull}
 use Rattle.rle_refines.specs.StackFacts.{first-cell, empty-of-blank, prepend-first}
 use Rattle.rle_refines.specs.SideFacts.{top-is}
-use Rattle.rle_refines.specs.TapeFacts.{diff-distance, read-around}
+use Rattle.rle_refines.specs.TapeFacts.{diff-distance}
+use Rattle.rle_refines.specs.LeapFacts.{read-held}
 
 -- ---- one stack for the cells of a side
 
@@ -82,14 +81,11 @@ height-is : (ss ls : List ℕ) (n : ℕ) → height (stackUpto ss ls n) ≡ n
 height-is ss ls zero = refl
 height-is ss ls (suc n) = ap suc (height-is ss ls n)
 
-reads : (σ : Conf) → readT (tapeOf σ) ≡ σ .sim .tape .cur
-reads σ = read-around (streamOf (leftOf σ)) (streamOf (rightOf σ)) (σ .sim .tape .cur) (σ .sim .tape .head) (σ .sim .lowest) (σ .sim .highest)
-
 pub held-stacks : (m : Machine) (σ : Conf) → ChainFits m σ → Stacked (m .symbols) (tapeOf σ) (stackOf (leftOf σ)) (stackOf (rightOf σ))
 held-stacks m σ f = record {
   lefts = f .lefts .runs;
   rights = f .rights .runs;
-  cells = λ z. ap (λ c. look (streamOf (leftOf σ)) c (streamOf (rightOf σ)) (distance (tapeOf σ .head) z)) (sym (reads σ));
+  cells = λ z. ap (λ c. look (streamOf (leftOf σ)) c (streamOf (rightOf σ)) (distance (tapeOf σ .head) z)) (sym (read-held σ));
 }
 
 -- two engines that hold one configuration: all is the same but the number of macro steps, and what lies past the live runs
@@ -116,7 +112,7 @@ one-value m σ τ f g e =
     record {
       state = ap (λ (c : Config). stateOf (c .state)) e;
       steps = ap (λ (c : Config). c .steps) e;
-      cur = sym (reads σ) ∙ ap readT t ∙ reads τ;
+      cur = sym (read-held σ) ∙ ap readT t ∙ read-held τ;
       head = omega (ints, diff-⊖ (σ .sim .tape .head) (2 ^ 63), diff-⊖ (τ .sim .tape .head) (2 ^ 63));
       lowest = omega (ints, diff-⊖ (σ .sim .lowest) (2 ^ 63), diff-⊖ (τ .sim .lowest) (2 ^ 63));
       highest = omega (ints, diff-⊖ (σ .sim .highest) (2 ^ 63), diff-⊖ (τ .sim .highest) (2 ^ 63));
@@ -157,7 +153,7 @@ module _ (σ : Conf) (w lp rp : ℕ) where
   full-holds R p = lacks-holds lp w (leftOf σ) p
   full-holds N p = absurd p
 
-same-action : (x : Entry) (a b : Action) → x ≡ Defined a → x ≡ Defined b → a ≡ b
+pub same-action : (x : Entry) (a b : Action) → x ≡ Defined a → x ≡ Defined b → a ≡ b
 same-action x a b h k = cc
 
 -- the engine's test goes by the configuration and the places alone

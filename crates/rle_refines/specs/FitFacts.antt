@@ -2,18 +2,17 @@
 use mathlib.Core.Path.{_≡_, sym, _∙_}
 use mathlib.Core.Bool.{Bool, true, false, not}
 use mathlib.Core.List.{List}
-use Prim.Native.Nat.{ℕ, zero, suc, _+_, _-_, _<_, _≤_}
+use Prim.Native.Nat.{ℕ, zero, suc, _-_, _<_, _≤_}
 use native.Mathlib.Decide.{ℕ-discrete}
 use native.Mathlib.Omega.{arith}
 use borrow.Author.Tests.{leb-true, ltb-true, eqb-false, ne-eqb, lt-ltb, le-leb, not-true}
-use Rattle.laws.specs.Scan.{allIn}
 use Rattle.laws.specs.ScanFacts.{all-says, all-holds}
 use Rattle.laws.specs.Tests.{both-split, both-true}
 use Rattle.machine.specs.declared.Machine.{Machine}
-use Rattle.stacks.specs.Sides.{Side, placesOf, symbolUnder, runFits, runsFit}
+use Rattle.stacks.specs.Sides.{Side, placesOf, runFits, runsFit}
 use Rattle.rle.specs.Engine.{Conf, leftOf, rightOf}
 use Rattle.rle.specs.Fits.{zeroAt, sideFits, headFits, reachFits, countsFit, chainFits}
-use Rattle.rle_refines.specs.Meaning.{stackUpto, stackOf, top, RunsFit, SideFits, ChainFits}
+use Rattle.rle_refines.specs.Meaning.{stackUpto, RunsFit, SideFits, ChainFits}
 use Rattle.rle_refines.specs.SideFacts.{top-is}
 
 -- ---- the runs

@@ -1,13 +1,12 @@
 -- A fresh engine fits and holds the table machine's start: "the start state, heads at 0, tape 0 holding the word from 0 rightward, all else blank".
 -- Assumes nothing.
 use mathlib.Core.Path.{_≡_, refl, sym, ap, _∙_, subst, fun-ext}
-use mathlib.Core.Bool.{Bool, true, false}
 use mathlib.Core.List.{List, []}
 use Prim.Native.Nat.{ℕ, zero, suc, _+_, _-_, _≤_, _<_, _^_}
 use native.Mathlib.Decide.{decLt}
 use native.Mathlib.Nat.{zero-add}
 use native.Mathlib.Omega.{arith}
-use borrow.Author.Tests.{eqb-true, eqb-false, eq-eqb, ne-eqb}
+use borrow.Author.Tests.{eqb-true, ne-eqb}
 use lib.Dec.{eqb}
 use lib.IntN.{ℤ, pos, negsuc}
 use lib.ListN.{length, getD, List·getD-eq-default}
@@ -22,7 +21,7 @@ use Rattle.stacks.specs.Sides.{Side, side, placesOf, topOf, grownOf, pushOf, ce
 use Rattle.rle.specs.Engine.{Conf, conf}
 use Rattle.rle.specs.Fits.{zeroAt}
 use Rattle.rle.specs.Operations.{laidOf, runsOf, freshSim}
-use Rattle.rle_refines.specs.Meaning.{stackOf, top, Stream, blanks, cons, stream, streamOf, distance, look, tapeAround, configOf, RunsFit, SideFits, ChainFits}
+use Rattle.rle_refines.specs.Meaning.{stackOf, top, Stream, blanks, cons, stream, streamOf, distance, look, tapeAround, configOf, RunsFit, ChainFits}
 use Rattle.rle_refines.specs.StackFacts.{total, push, push-means, push-fits, push-total, top-push}
 use Rattle.rle_refines.specs.SideFacts.{top-is, total-is, Place, push-is, Kept, kept-both, kept-same, push-kept}
 use Rattle.rle_refines.specs.TapeFacts.{diff-distance}

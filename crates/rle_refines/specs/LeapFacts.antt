@@ -1,7 +1,7 @@
 -- A macro step of n repeats is n steps of the table machine, and keeps what fits. Assumes nothing.
 use mathlib.Core.Path.{_≡_, refl, sym, ap, _∙_, subst}
-use mathlib.Core.Bool.{true, false}
-use Prim.Native.Nat.{ℕ, zero, suc, _+_, _-_, _≤_, _<_, _^_, min, max}
+use mathlib.Core.Bool.{false}
+use Prim.Native.Nat.{ℕ, suc, _+_, _-_, _≤_, _<_, _^_, min, max}
 use native.Mathlib.Omega.{arith}
 use Rattle.symbol.specs.declared.Dir.{Dir}
 use Rattle.symbol.specs.declared.Dir.the-variants.{L, R, N}
@@ -9,12 +9,12 @@ use Rattle.machine.specs.declared.Machine.{Machine}
 use Rattle.machine.specs.declared.Action.{Action}
 use Rattle.machine.specs.declared.Entry.the-variants.{Defined}
 use Rattle.tables.specs.WellFormed.{ActionOf}
-use Rattle.turing.specs.TableMachine.{Table, Config, entry, run, Sideways}
+use Rattle.turing.specs.TableMachine.{Table, readT, entry, run, Sideways}
 use Rattle.turing.specs.Tables.{TableOf}
 use Rattle.stacks.specs.Sides.{Side, placesOf, lacks}
 use Rattle.rle.specs.declared.inner.Leap.{Leap}
 use Rattle.rle.specs.Engine.{Conf, leftOf, rightOf, Carried, carryOf, fullFor, leap, leapTo, leapOf}
-use Rattle.rle_refines.specs.Meaning.{stackOf, top, Stream, tail, prepend, stream, streamOf, tapeAround, configOf, SideFits, ChainFits}
+use Rattle.rle_refines.specs.Meaning.{stackOf, tail, prepend, stream, streamOf, tapeAround, tapeOf, configOf, SideFits, ChainFits}
 use Rattle.rle_refines.specs.Statement.{isFull, Kept}
 use Rattle.rle_refines.specs.StackFacts.{take, Reach}
 use Rattle.rle_refines.specs.SideFacts.{Carries, carry-holds}
@@ -38,9 +38,12 @@ by-way L f g = f tt
 by-way R f g = f tt
 by-way N f g = g refl
 
--- the entry read
+-- the symbol read, and the entry
+pub read-held : (σ : Conf) → readT (tapeOf σ) ≡ σ .sim .tape .cur
+read-held σ = read-around (streamOf (leftOf σ)) (streamOf (rightOf σ)) (σ .sim .tape .cur) (σ .sim .tape .head) (σ .sim .lowest) (σ .sim .highest)
+
 pub entry-at : (d : Table) (σ : Conf) → entry d (configOf σ) ≡ d (σ .sim .state .0) (σ .sim .tape .cur) 0 0
-entry-at d σ = ap (λ c. d (σ .sim .state .0) c 0 0) (read-around (streamOf (leftOf σ)) (streamOf (rightOf σ)) (σ .sim .tape .cur) (σ .sim .tape .head) (σ .sim .lowest) (σ .sim .highest))
+entry-at d σ = ap (λ c. d (σ .sim .state .0) c 0 0) (read-held σ)
 
 -- the configuration after a macro step, by its two sides
 abbrev sidesOf : Dir → Leap → Conf → Carried
@@ -120,7 +123,6 @@ module _ (m : Machine) (d : Table) (table : TableOf m d) (single : m .tapes ≡ 
 
           moves : Sideways (a .dir0) → configOf (leapOf (leap a (suc k)) σ) ≡ run d (suc k) (configOf σ)
           moves s =
-              let x : Dir = a .dir0 in
               let c = sides s in
               leapt-facing σ (a .dir0) s (leap a (suc k))
               ∙ (λ i. at (a .next .0) (σ .sim .steps + suc k) (arrived (a .dir0) (c .behind-cells i) (c .read i) (c .ahead-cells i) (onward (a .dir0) (suc k) (σ .sim .tape .head)) (σ .sim .lowest) (σ .sim .highest)))

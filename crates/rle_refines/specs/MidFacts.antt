@@ -1,18 +1,15 @@
 -- Inside a macro step: all the configurations on its way stand before the same entry, and none is a proved loop if the first is none. Assumes nothing.
 use mathlib.Core.Path.{_≡_, refl, sym, ap, _∙_, subst, fun-ext}
-use mathlib.Core.Bool.{true, false}
+use mathlib.Core.Bool.{false}
 use Prim.Native.Nat.{ℕ, zero, suc, _+_, _-_, _≤_, _<_, _^_}
 use native.Mathlib.Omega.{arith}
 use borrow.Author.Tests.{eq-eqb}
 use lib.Dec.{eqb}
 use Rattle.laws.specs.Tests.{pick-true}
 use Rattle.symbol.specs.Kinds.{stateOf}
-use Rattle.symbol.specs.declared.State.{State}
 use Rattle.symbol.specs.declared.Dir.{Dir}
 use Rattle.symbol.specs.declared.Dir.the-variants.{L, R, N}
-use Rattle.machine.specs.declared.Machine.{Machine}
 use Rattle.machine.specs.declared.Action.{Action}
-use Rattle.machine.specs.declared.Entry.{Entry}
 use Rattle.machine.specs.declared.Entry.the-variants.{Defined}
 use Rattle.tables.specs.WellFormed.{ActionOf}
 use Rattle.turing.specs.TableMachine.{Config, readT, entry, run, Stays, Sideways, Walks, outOfFuelAt, goes}
@@ -24,11 +21,11 @@ use Rattle.rle.specs.Engine.{Conf, leftOf, rightOf, carryOf, fullFor, leap, lea
 use Rattle.rle_refines.specs.Meaning.{Stack, stackOf, Stream, blanks, tail, prepend, stream, streamOf, configOf, ChainFits}
 use Rattle.rle_refines.specs.Statement.{tableIn, after, Judged, Unproved, hasRule, isFull, FullAfter, Kept}
 use Rattle.rle_refines.specs.Full.{FullAt}
-use Rattle.rle_refines.specs.Canonical.{not-full}
+use Rattle.rle_refines.specs.Canonical.{same-action, not-full}
 use Rattle.rle_refines.specs.StackFacts.{prepend-blank, take, Reach}
 use Rattle.rle_refines.specs.SideFacts.{Carries}
-use Rattle.rle_refines.specs.LeapFacts.{behindOf, aheadOn, by-way, entry-at, Over, over-reach, sides, leap-holds, leap-keeps}
-use Rattle.rle_refines.specs.PlanFacts.{reads-cur, stays-says, walks-says, walks-blank, Repeats}
+use Rattle.rle_refines.specs.LeapFacts.{behindOf, aheadOn, by-way, read-held, entry-at, Over, over-reach, sides, leap-holds, leap-keeps}
+use Rattle.rle_refines.specs.PlanFacts.{stays-says, walks-says, walks-blank, Repeats}
 
 -- ---- streams
 
@@ -100,9 +97,6 @@ unfolding fullFor lacks
 merges w τ L e = pick-true (eqb w (topOf (rightOf τ))) _ _ (eq-eqb _ _ (sym (e tt)))
 merges w τ R e = pick-true (eqb w (topOf (leftOf τ))) _ _ (eq-eqb _ _ (sym (e tt)))
 merges w τ N e = refl
-
-same-action : (x : Entry) (a b : Action) → x ≡ Defined a → x ≡ Defined b → a ≡ b
-same-action x a b h k = cc
 
 -- an entry that is unproved is of neither pattern
 unproved-says : (k : Task) (c : Config) (a : Action) → entry (tableIn k) c ≡ Defined a → Judged k c (outOfFuelAt c) → ¬ (Stays c a) × ((x : Dir) → ¬ (Walks (k .machine .tapes) c a x))
@@ -190,7 +184,7 @@ module _ (k : Task) (table : TableOf (k .machine) (tableIn k)) (single : k .mach
       cut-unproved t =
           let o = unproved-says k (configOf σ) a e (u t) in
           let g : ChainFits (k .machine) (cut j) = cut-kept j before .fits in
-          let c : readT (configOf (cut j) .tape0) ≡ σ .sim .tape .cur = reads-cur k single (cut j) g a of-machine ∙ cut-read in
+          let c : readT (configOf (cut j) .tape0) ≡ σ .sim .tape .cur = read-held (cut j) ∙ cut-read in
           goes a cut-entry
           (λ h. o .0 (stays-says k single σ f a of-machine keeps-state (h .still0) (h .same0 ∙ c)))
           (λ x w. o .1 x (was x w (sym c ∙ w .blank) g))

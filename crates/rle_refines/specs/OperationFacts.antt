@@ -1,13 +1,13 @@
 -- The run-length engine's operations, as they are called, are the table machine's. Assumes nothing.
-use mathlib.Core.Path.{_≡_, refl, sym, ap, _∙_, subst}
-use mathlib.Core.Bool.{true, false}
+use mathlib.Core.Path.{_≡_, refl, ap, _∙_, subst}
+use mathlib.Core.Bool.{true}
 use mathlib.Core.List.{List}
 use Prim.Native.Nat.{ℕ, _+_, _-_, _≤_, _<_, _^_}
 use native.Mathlib.Omega.{arith}
 use borrow.Author.Tests.{leb-true, eqb-true, le-leb, eq-eqb}
 use lib.ListN.{length, getD}
 use Rattle.laws.specs.Choice.{pick}
-use Rattle.laws.specs.Tests.{both-split, both-true, pick-true}
+use Rattle.laws.specs.Tests.{both-split, both-true}
 use Rattle.outcome.specs.declared.NonHaltProof.{NonHaltProof}
 use Rattle.outcome.specs.declared.Outcome.{Outcome}
 use Rattle.outcome.specs.declared.Outcome.the-variants.{NeverHalts}
@@ -19,7 +19,7 @@ use Rattle.machine.specs.CheckFacts.{demand-says, ranges}
 use Rattle.machine.specs.Word.{wordCheck}
 use Rattle.machine.specs.WordFacts.{word-says}
 use Rattle.tables.specs.WellFormed.{Bytes}
-use Rattle.turing.specs.TableMachine.{run, start, Halted}
+use Rattle.turing.specs.TableMachine.{run, Halted}
 use Rattle.turing.specs.Tables.{tableOf}
 use Rattle.sim.specs.declared.StopRule.{StopRule}
 use Rattle.sim.specs.declared.Answer.the-variants as Ans
@@ -30,7 +30,7 @@ use Rattle.stacks.specs.Sides.{Side, side, placesOf}
 use Rattle.rle.specs.declared.ChainSim.{ChainSim}
 use Rattle.rle.specs.declared.Fresh.the-variants as New
 use Rattle.rle.specs.Engine.{Conf, conf, End, end, runOf}
-use Rattle.rle.specs.Fits.{chainFits, placesFit, valueCheck, engineCheck, runCheck}
+use Rattle.rle.specs.Fits.{placesFit, valueCheck, engineCheck, runCheck}
 use Rattle.rle.specs.Operations.{Given, given, runOn, runAnswer, laidOf, runsOf, freshSizes, freshCheck, freshSim, Made, made, madeWith, freshOn, newAnswer}
 use Rattle.rle_refines.specs.Meaning.{configOf, ChainFits}
 use Rattle.rle_refines.specs.Statement.{Refines, Kept}

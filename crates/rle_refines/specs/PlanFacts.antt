@@ -2,38 +2,35 @@
 use mathlib.Core.Path.{_≡_, refl, sym, ap, _∙_, subst}
 use mathlib.Core.Bool.{Bool, true, false}
 use mathlib.Core.List.{List}
-use Prim.Native.Nat.{ℕ, zero, suc, _+_, _-_, _≤_, _<_, min}
+use Prim.Native.Nat.{ℕ, zero, suc, _≤_, _<_}
 use native.Mathlib.Omega.{arith}
 use borrow.Author.Tests.{eqb-true, eqb-false, eq-eqb}
 use lib.Dec.{eqb}
 use Rattle.laws.specs.Choice.{pick, both}
-use Rattle.laws.specs.Tests.{clash, by-test, both-split, both-true, pick-cases}
-use Rattle.symbol.specs.Kinds.{dirNumber}
+use Rattle.laws.specs.Tests.{clash, both-split, both-true, pick-cases}
 use Rattle.symbol.specs.declared.Dir.{Dir}
 use Rattle.symbol.specs.declared.Dir.the-variants.{L, R, N}
 use Rattle.outcome.specs.declared.NonHaltProof.{NonHaltProof}
 use Rattle.outcome.specs.declared.NonHaltProof.the-variants.{StayLoop, ChainToInfinity}
 use Rattle.outcome.specs.declared.Outcome.the-variants.{OutOfFuel, NeverHalts, Stopped, Full}
-use Rattle.machine.specs.declared.Machine.{Machine}
 use Rattle.machine.specs.declared.Action.{Action}
 use Rattle.machine.specs.declared.Entry.{Entry}
 use Rattle.machine.specs.declared.Entry.the-variants.{Undefined, Defined}
 use Rattle.tables.specs.WellFormed.{ActionOf}
-use Rattle.turing.specs.TableMachine.{Config, readT, entry, Halted, haltedAt, Stays, Sideways, Walks, stays, walks, goes}
+use Rattle.turing.specs.TableMachine.{entry, Halted, haltedAt, Stays, Sideways, Walks, stays, walks, goes}
 use Rattle.turing.specs.Tables.{tableOf, TableOf}
 use Rattle.sim.specs.Engine.{Task, entryOf, matches}
-use Rattle.stacks.specs.Sides.{Side, aheadOf}
 use Rattle.rle.specs.declared.inner.Sure.{Sure}
 use Rattle.rle.specs.declared.inner.Sure.the-variants.{Open, Loops}
 use Rattle.rle.specs.declared.inner.Plan.{Plan}
 use Rattle.rle.specs.declared.inner.Plan.the-variants.{Stop, Go}
 use Rattle.rle.specs.Engine.{Conf, leftOf, rightOf, patternOf, sureOf, chainFor, repeatsOf, leap, spaceOf, fuelOf, neverOf, planOn, planOf}
-use Rattle.rle_refines.specs.Meaning.{Stack, empty, over, stackUpto, stackOf, blanks, stream, streamOf, configOf, ChainFits}
+use Rattle.rle_refines.specs.Meaning.{Stack, empty, stackUpto, stackOf, blanks, stream, streamOf, configOf, ChainFits}
 use Rattle.rle_refines.specs.Statement.{tableIn, Judged, Unproved, hasRule, isFull}
-use Rattle.rle_refines.specs.StackFacts.{ahead, Reach, reach-blank, reach-none, reach-run, empty-of-blank}
+use Rattle.rle_refines.specs.StackFacts.{Reach, reach-blank, reach-none, reach-run, empty-of-blank}
 use Rattle.rle_refines.specs.SideFacts.{ahead-is}
-use Rattle.rle_refines.specs.TapeFacts.{read-around, beyond-blank, blank-beyond}
-use Rattle.rle_refines.specs.LeapFacts.{behindOf, aheadOn, entry-at, Over}
+use Rattle.rle_refines.specs.TapeFacts.{beyond-blank, blank-beyond}
+use Rattle.rle_refines.specs.LeapFacts.{aheadOn, read-held, entry-at, Over}
 
 -- ---- a side without runs
 
@@ -50,27 +47,24 @@ pub data Sees (k : Task) (σ : Conf) (a : Action) : Sure → Type 0 where
   walk : (x : Dir) → Walks (k .machine .tapes) (configOf σ) a x → Sees k σ a (Loops (ChainToInfinity (σ .sim .state) x))
 
 module _ (k : Task) (single : k .machine .tapes ≡ 1) (σ : Conf) (f : ChainFits (k .machine) σ) (a : Action) (of-machine : ActionOf (k .machine) a) where
-  pub reads-cur : readT (configOf σ .tape0) ≡ σ .sim .tape .cur
-  reads-cur = read-around (streamOf (leftOf σ)) (streamOf (rightOf σ)) (σ .sim .tape .cur) (σ .sim .tape .head) (σ .sim .lowest) (σ .sim .highest)
-
   pub stays-says : a .next .0 ≡ σ .sim .state .0 → a .dir0 ≡ N → a .write0 .0 ≡ σ .sim .tape .cur → Stays (configOf σ) a
   stays-says q n w = record {
     keeps = q;
     still0 = n;
     still1 = of-machine .lacks1 (omega arith) .1;
     still2 = of-machine .lacks2 (omega arith) .1;
-    same0 = w ∙ sym reads-cur;
+    same0 = w ∙ sym (read-held σ);
     same1 = of-machine .lacks1 (omega arith) .0;
     same2 = of-machine .lacks2 (omega arith) .0;
   }
 
   pub walks-says : (x : Dir) → Sideways x → a .next .0 ≡ σ .sim .state .0 → a .dir0 ≡ x → σ .sim .tape .cur ≡ 0 → streamOf (aheadOn x σ) ≡ blanks → Walks (k .machine .tapes) (configOf σ) a x
   walks-says L s q n z e = record {
-    single = single; same-state = q; moves = n; sideways = s; blank = reads-cur ∙ z;
+    single = single; same-state = q; moves = n; sideways = s; blank = read-held σ ∙ z;
     beyond = beyond-blank (σ .sim .tape .cur) (σ .sim .tape .head) (σ .sim .lowest) (σ .sim .highest) L (streamOf (rightOf σ)) (streamOf (leftOf σ)) e;
   }
   walks-says R s q n z e = record {
-    single = single; same-state = q; moves = n; sideways = s; blank = reads-cur ∙ z;
+    single = single; same-state = q; moves = n; sideways = s; blank = read-held σ ∙ z;
     beyond = beyond-blank (σ .sim .tape .cur) (σ .sim .tape .head) (σ .sim .lowest) (σ .sim .highest) R (streamOf (leftOf σ)) (streamOf (rightOf σ)) e;
   }
   walks-says N s q n z e = absurd s
@@ -101,7 +95,7 @@ module _ (k : Task) (single : k .machine .tapes ≡ 1) (σ : Conf) (f : ChainFit
       sideways x b s n says holds = pick-cases b _ _ (Sees k σ a)
           (λ t. walk x (walks-says x s q n (says t .0) (says t .1)))
           (λ t. unsure (λ h. subst Sideways (sym n ∙ h .still0) s)
-          (λ y w. clash (holds (sym reads-cur ∙ w .blank) (ap (λ z. stackOf (aheadOn z σ)) (moved x y n w) ∙ walks-empty y w)) t))
+          (λ y w. clash (holds (sym (read-held σ) ∙ w .blank) (ap (λ z. stackOf (aheadOn z σ)) (moved x y n w) ∙ walks-empty y w)) t))
 
       by : (x : Dir) → a .dir0 ≡ x → Sees k σ a (patternOf (σ .sim .state) x (a .write0 .0) (σ .sim .tape .cur) (σ .sim .tape .left) (σ .sim .tape .right))
       by L n = sideways L (both (eqb (σ .sim .tape .cur) 0) (eqb (σ .sim .tape .left) 0)) tt n
@@ -112,7 +106,7 @@ module _ (k : Task) (single : k .machine .tapes ≡ 1) (σ : Conf) (f : ChainFit
           (λ z e. both-true (eq-eqb _ _ z) (eq-eqb _ _ (none-empty (σ .rs) (σ .rl) (σ .sim .tape .right) e)))
       by N n = pick-cases (eqb (a .write0 .0) (σ .sim .tape .cur)) _ _ (Sees k σ a)
           (λ t. stay (stays-says q n (eqb-true _ _ t)))
-          (λ t. unsure (λ h. eqb-false _ _ t (h .same0 ∙ reads-cur)) (λ y w. subst Sideways (sym (moved N y n w)) (w .sideways)))
+          (λ t. unsure (λ h. eqb-false _ _ t (h .same0 ∙ read-held σ)) (λ y w. subst Sideways (sym (moved N y n w)) (w .sideways)))
 
   pub sure-sees : Sees k σ a (sureOf (σ .sim .state) a (σ .sim .tape .cur) (σ .sim .tape .left) (σ .sim .tape .right))
   unfolding sureOf
@@ -128,6 +122,9 @@ pub record Repeats (σ : Conf) (a : Action) (fuel n : ℕ) : Type 0 where
   pub within : n ≤ fuel
   pub keeps : (j : ℕ) → j < n → 1 ≤ j → a .next .0 ≡ σ .sim .state .0
   pub way : (j : ℕ) → j < n → Over (a .dir0) (a .write0 .0) j σ
+
+reach-clear : (c j : ℕ) (r : Stack) → c ≡ 0 → r ≡ empty → Reach c j r
+reach-clear c j r z e = rw (z, e) (reach-blank j)
 
 over-none : (x : Dir) (w : ℕ) (σ : Conf) → Over x w 0 σ
 over-none L w σ = reach-none (σ .sim .tape .cur) (stackOf (leftOf σ))
@@ -162,14 +159,8 @@ module _ (k : Task) (single : k .machine .tapes ≡ 1) (σ : Conf) (f : ChainFit
   chain-repeats q N n = once
 
   over-blank : (x : Dir) → Walks (k .machine .tapes) (configOf σ) a x → (j : ℕ) → Over x (a .write0 .0) j σ
-  over-blank L w j = reach (stackOf (leftOf σ)) (walks-empty k single σ f a of-machine L w)
-    where
-      reach : (r : Stack) → r ≡ empty → Reach (σ .sim .tape .cur) j r
-      reach r e = rw (e, sym (reads-cur k single σ f a of-machine) ∙ w .blank) (reach-blank j)
-  over-blank R w j = reach (stackOf (rightOf σ)) (walks-empty k single σ f a of-machine R w)
-    where
-      reach : (r : Stack) → r ≡ empty → Reach (σ .sim .tape .cur) j r
-      reach r e = rw (e, sym (reads-cur k single σ f a of-machine) ∙ w .blank) (reach-blank j)
+  over-blank L w j = reach-clear _ j _ (sym (read-held σ) ∙ w .blank) (walks-empty k single σ f a of-machine L w)
+  over-blank R w j = reach-clear _ j _ (sym (read-held σ) ∙ w .blank) (walks-empty k single σ f a of-machine R w)
   over-blank N w j = absurd (w .sideways)
 
   -- "a macro step is one step; where the entry keeps the state and moves, it is the run ahead .. plus one, or the fuel if less; a proved loop covers all the fuel"
@@ -180,7 +171,7 @@ module _ (k : Task) (single : k .machine .tapes ≡ 1) (σ : Conf) (f : ChainFit
     some = more;
     within = omega arith;
     keeps = λ j l g. h .keeps;
-    way = λ j l. subst (λ x. Over x (a .write0 .0) j σ) (sym (h .still0)) (λ g. h .same0 ∙ reads-cur k single σ f a of-machine);
+    way = λ j l. subst (λ x. Over x (a .write0 .0) j σ) (sym (h .still0)) (λ g. h .same0 ∙ read-held σ);
   }
   repeats-right (Loops p) (walk x w) = record {
     some = more;

@@ -1,6 +1,6 @@
 -- THE RUN-LENGTH ENGINE REFINES THE TABLE MACHINE: the proof of Statement's claim. Assumes nothing.
 use mathlib.Core.Path.{_≡_, refl, sym, ap, _∙_, subst}
-use mathlib.Core.Bool.{true, false}
+use mathlib.Core.Bool.{false}
 use Prim.Native.Nat.{ℕ, zero, suc, _+_, _-_, _≤_, _<_, _^_}
 use native.Mathlib.Decide.{decLt}
 use native.Mathlib.Omega.{arith}
@@ -17,8 +17,8 @@ use Rattle.sim.specs.Engine.{Task, task}
 use Rattle.stacks.specs.Sides.{placesOf}
 use Rattle.rle.specs.declared.inner.Leap.{Leap}
 use Rattle.rle.specs.declared.inner.Plan.{Plan}
-use Rattle.rle.specs.declared.inner.Plan.the-variants.{Stop, Go}
-use Rattle.rle.specs.Engine.{Conf, leap, leapOf, planOf, End, end, onPlan, runWithin, runOf}
+use Rattle.rle.specs.declared.inner.Plan.the-variants.{Stop}
+use Rattle.rle.specs.Engine.{Conf, leap, leapOf, End, end, onPlan, runWithin, runOf}
 use Rattle.rle_refines.specs.Meaning.{configOf, ChainFits}
 use Rattle.rle_refines.specs.Full.{FullAt}
 use Rattle.rle_refines.specs.Statement.{tableIn, after, Unproved, hasRule, isFull, Kept, Went, Answers, verdict, halted, spent, stopped, full, Refines, ChainRefines}

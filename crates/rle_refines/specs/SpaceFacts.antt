@@ -2,17 +2,17 @@
 -- as the timeline makes it. Assumes nothing.
 use mathlib.Core.Path.{_≡_, refl, sym, ap, _∙_, subst}
 use mathlib.Core.Logic.{_↔_}
-use mathlib.Core.Bool.{true, false}
-use Prim.Native.Nat.{ℕ, _+_, _-_, _≤_, _<_, _^_}
+use mathlib.Core.Bool.{false}
+use Prim.Native.Nat.{ℕ, _+_, _≤_, _<_, _^_}
 use native.Mathlib.Decide.{decLt}
 use native.Mathlib.Omega.{arith}
 use Rattle.laws.specs.Tests.{clash}
 use Rattle.symbol.specs.declared.State.{State}
 use Rattle.outcome.specs.declared.Outcome.{Outcome}
 use Rattle.outcome.specs.declared.Outcome.the-variants.{Full}
-use Rattle.turing.specs.TableMachine.{Config, run, Halted}
+use Rattle.turing.specs.TableMachine.{Halted}
 use Rattle.turing.specs.Tables.{TableOf}
-use Rattle.turing.specs.RunFacts.{not-defined, run-past, run-add}
+use Rattle.turing.specs.RunFacts.{not-defined, run-past}
 use Rattle.sim.specs.Engine.{Task, matches}
 use Rattle.stacks.specs.Sides.{placesOf}
 use Rattle.rle.specs.Engine.{Conf, End, runOf}

@@ -1,6 +1,5 @@
 -- Streams of cells, and push and take on a stack of runs: what they do to the cells, and what they keep. Assumes nothing.
 use mathlib.Core.Path.{_≡_, refl, sym, ap, _∙_, fun-ext}
-use mathlib.Core.Bool.{true, false}
 use Prim.Native.Nat.{ℕ, zero, suc, _+_, _-_, _≤_, _<_}
 use native.Mathlib.Nat.{add-comm, zero-add, suc-add}
 use native.Mathlib.Omega.{arith}

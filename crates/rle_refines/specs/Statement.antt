@@ -5,9 +5,8 @@ use mathlib.Core.List.{List}
 use Prim.Native.Nat.{ℕ, _+_, _≤_, _<_, _^_}
 use lib.ListN.{length}
 use Rattle.symbol.specs.Kinds.{stateOf}
-use Rattle.outcome.specs.declared.NonHaltProof.{NonHaltProof}
 use Rattle.outcome.specs.declared.Outcome.{Outcome}
-use Rattle.outcome.specs.declared.Outcome.the-variants.{OutOfFuel, NeverHalts, Stopped, Full}
+use Rattle.outcome.specs.declared.Outcome.the-variants.{OutOfFuel, Stopped, Full}
 use Rattle.machine.specs.declared.Machine.{Machine}
 use Rattle.machine.specs.declared.Action.{Action}
 use Rattle.machine.specs.declared.Entry.the-variants.{Defined}

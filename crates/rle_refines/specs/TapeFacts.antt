@@ -1,8 +1,7 @@
 -- A tape seen from its head: what a step of the table machine does to it, and the cells beyond the head. Assumes nothing.
 use mathlib.Core.Path.{_≡_, refl, sym, ap, _∙_, fun-ext}
-use mathlib.Core.Bool.{true, false}
+use mathlib.Core.Bool.{false}
 use Prim.Native.Nat.{ℕ, zero, suc, _+_, _-_, _≤_, _^_, min, max}
-use native.Mathlib.Omega.{arith}
 use lib.IntN.{ℤ, pos, negsuc, sucℤ, predℤ}
 use lib.Signed.{leZ}
 use Rattle.laws.specs.Position.{_⊖_, eqZ, up, dn, minℤ, maxℤ}

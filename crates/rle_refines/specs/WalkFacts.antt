@@ -1,6 +1,6 @@
 -- Steps of the table machine on a tape seen from its head: one entry, met once or many times in a row. Assumes nothing.
-use mathlib.Core.Path.{_≡_, refl, sym, ap, _∙_}
-use Prim.Native.Nat.{ℕ, zero, suc, _+_, _-_, _≤_, min, max}
+use mathlib.Core.Path.{_≡_, ap, _∙_}
+use Prim.Native.Nat.{ℕ, zero, suc, _+_, _≤_, min, max}
 use native.Mathlib.Omega.{arith}
 use Rattle.symbol.specs.declared.Dir.{Dir}
 use Rattle.symbol.specs.declared.Dir.the-variants.{L, R, N}
@@ -8,7 +8,7 @@ use Rattle.machine.specs.declared.Machine.{Machine}
 use Rattle.machine.specs.declared.Action.{Action}
 use Rattle.machine.specs.declared.Entry.the-variants.{Defined}
 use Rattle.tables.specs.WellFormed.{ActionOf}
-use Rattle.turing.specs.TableMachine.{Table, Tape, Config, readT, update, blankTape, entry, act, step, run, Sideways}
+use Rattle.turing.specs.TableMachine.{Table, Tape, Config, readT, update, blankTape, entry, step, run, Sideways}
 use Rattle.turing.specs.Tables.{TableOf}
 use Rattle.turing.specs.RunFacts.{step-act}
 use Rattle.turing.specs.NeverFacts.{blank-stays}

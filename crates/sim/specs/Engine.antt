@@ -7,26 +7,20 @@ use lib.Dec.{eqb}
 use lib.ListN.{length}
 use Rattle.laws.specs.Choice.{pick, both}
 use Rattle.symbol.specs.declared.State.{State}
-use Rattle.symbol.specs.declared.Dir.{Dir}
-use Rattle.symbol.specs.declared.Dir.the-variants.{L, R, N}
 use Rattle.outcome.specs.declared.NonHaltProof.{NonHaltProof}
-use Rattle.outcome.specs.declared.NonHaltProof.the-variants.{StayLoop, ChainToInfinity}
 use Rattle.outcome.specs.declared.Outcome.{Outcome}
 use Rattle.outcome.specs.declared.Outcome.the-variants.{Halted, OutOfFuel, NeverHalts, Stopped, Full}
 use Rattle.outcome.specs.declared.Status.{Status}
 use Rattle.outcome.specs.declared.Status.the-variants as Step
 use Rattle.machine.specs.declared.Machine.{Machine}
 use Rattle.machine.specs.declared.Action.{Action}
-use Rattle.machine.specs.declared.Entry.{Entry}
-use Rattle.machine.specs.declared.Entry.the-variants.{Undefined, Defined}
-use Rattle.machine.specs.Layout.{strideOf, entryNumber, entryAt}
 use Rattle.tape.specs.Moves.{Held, held, readOf, roomFor, actOf}
-use Rattle.tape.specs.Questions.{blankBeyond}
 use Rattle.sim.specs.declared.Simulator.{Simulator}
 use Rattle.sim.specs.declared.StopRule.{StopRule}
 use Rattle.sim.specs.declared.StopRule.the-variants as Rule
-use Rattle.sim.specs.declared.inner.Look.{Look}
-use Rattle.sim.specs.declared.inner.Look.the-variants.{Halt, Never, Go}
+use Rattle.before.specs.declared.look.Look.{Look}
+pub use Rattle.before.specs.Look.{onLook}
+unfoldable pub use Rattle.before.specs.Look.{stays, staysAll, loopOf, judgeOf, lookOn, entryOf}
 
 -- ---- what stays the same through a run
 
@@ -61,37 +55,6 @@ abbrev pub tape2 : Conf → Held
 tape2 σ = held (σ .sim .t2) (σ .c2)
 
 -- ---- what is looked at before a step: no entry; else, where asked, a proved loop; else the entry
-
-unfoldable pub stays : Dir → Bool
-stays L = false
-stays R = false
-stays N = true
-
-abbrev pub rewrites : (w0 w1 w2 r0 r1 r2 : ℕ) → Bool
-rewrites w0 w1 w2 r0 r1 r2 = both (eqb w0 r0) (both (eqb w1 r1) (eqb w2 r2))
-
--- every tape stays and rewrites what it read
-unfoldable pub staysAll : Action → (r0 r1 r2 : ℕ) → Bool
-staysAll a r0 r1 r2 =
-    both (stays (a .dir0))
-    (both (stays (a .dir1))
-    (both (stays (a .dir2)) (rewrites (a .write0 .0) (a .write1 .0) (a .write2 .0) r0 r1 r2)))
-
--- an entry that keeps the state: the first pattern, or the second where there is one tape
-unfoldable pub loopOf : (tapes : ℕ) → State → Action → (r0 r1 r2 : ℕ) → Held → Look
-loopOf tapes q a r0 r1 r2 h =
-    pick (staysAll a r0 r1 r2) (Never (StayLoop q))
-    (pick (both (eqb tapes 1) (both (eqb r0 0) (blankBeyond h (a .dir0)))) (Never (ChainToInfinity q (a .dir0))) (Go a))
-
-unfoldable pub judgeOf : (proves : Bool) (tapes : ℕ) → State → Action → (r0 r1 r2 : ℕ) → Held → Look
-judgeOf p tapes q a r0 r1 r2 h = pick (both p (eqb (a .next .0) (q .0))) (loopOf tapes q a r0 r1 r2 h) (Go a)
-
-unfoldable pub lookOn : Entry → (proves : Bool) (tapes : ℕ) → State → (r0 r1 r2 : ℕ) → Held → Look
-lookOn Undefined p tapes q r0 r1 r2 h = Halt
-lookOn (Defined a) p tapes q r0 r1 r2 h = judgeOf p tapes q a r0 r1 r2 h
-
-unfoldable pub entryOf : Machine → List ℕ → State → (r0 r1 r2 : ℕ) → Entry
-entryOf m s q r0 r1 r2 = entryAt s (entryNumber (m .symbols) (strideOf m) (q .0) r0 r1 r2)
 
 unfoldable pub lookWith : Machine → List ℕ → (proves : Bool) → Conf → Look
 lookWith m s p σ =
@@ -137,11 +100,6 @@ pub record End : Type 0 where
 
 abbrev pub end : Conf → Outcome → End
 end σ o = record { at = σ; outcome = o }
-
-abbrev pub onLook : {A : Type 0} → Look → A → (NonHaltProof → A) → (Action → A) → A
-onLook Halt h n g = h
-onLook (Never p) h n g = n p
-onLook (Go a) h n g = g a
 
 unfoldable pub matches : StopRule → State → Bool
 matches Rule.Never q = false

@@ -22,68 +22,10 @@ use Rattle.tape.specs.Moves.{Held, held, readOf, roomFor, actOf}
 use Rattle.tape.specs.Questions.{blankBeyond}
 use Rattle.sim.specs.declared.Simulator.{Simulator}
 use Rattle.sim.specs.declared.StopRule.the-variants as Rule
-use Rattle.sim.specs.declared.inner.Look.{Look}
-use Rattle.sim.specs.declared.inner.Look.the-variants.{Halt, Never, Go}
+pub use Rattle.before.specs.LookCases.{entry-is}
+use Rattle.before.specs.declared.look.Look.{Look}
+use Rattle.before.specs.declared.look.Look.the-variants.{Halt, Never, Go}
 use Rattle.sim.specs.Engine.{Task, Conf, conf, staysAll, loopOf, judgeOf, lookOn, entryOf, lookWith, lookOf, roomsFor, roomyOf, stepOf, matches, End, end, haltedEnd, neverEnd, fuelEnd, fullEnd, stoppedEnd, task, runOf, Once, once, onceOf, statusOf}
-
-pub entry-is : (m : Machine) (s : List ℕ) (q : State) (r0 r1 r2 number stride : ℕ) (e : Entry) → e ≡ entryAt s number
-    → number ≡ entryNumber (m .symbols) stride (q .0) r0 r1 r2 → stride ≡ strideOf m → e ≡ entryOf m s q r0 r1 r2
-unfolding entryOf
-entry-is m s q r0 r1 r2 number stride e p n k = rw (p, n, k)
-
--- ---- an entry that keeps the state
-
-module _ (tapes : ℕ) (q : State) (a : Action) (r0 r1 r2 : ℕ) (h : Held) (st : Bool) (is : st ≡ staysAll a r0 r1 r2) where
-  pub loop-stays : st ≡ true → Never (StayLoop q) ≡ loopOf tapes q a r0 r1 r2 h
-  unfolding loopOf pick
-  loop-stays e = simp (← is, e)
-
-  module _ (moves : st ≡ false) where
-    pub loop-several : (tapes ≡ 1 → ⊥) → Go a ≡ loopOf tapes q a r0 r1 r2 h
-    unfolding loopOf pick both
-    loop-several n = simp (← is, moves, ne-eqb _ _ n)
-
-    module _ (one : tapes ≡ 1) where
-      pub loop-reads : (r0 ≡ 0 → ⊥) → Go a ≡ loopOf tapes q a r0 r1 r2 h
-      unfolding loopOf pick both
-      loop-reads n = simp (← is, moves, eq-eqb _ _ one, ne-eqb _ _ n)
-
-      module _ (blank : r0 ≡ 0) (b : Bool) (beyond : b ≡ blankBeyond h (a .dir0)) where
-        pub loop-chain : b ≡ true → Never (ChainToInfinity q (a .dir0)) ≡ loopOf tapes q a r0 r1 r2 h
-        unfolding loopOf pick both
-        loop-chain e = simp (← is, moves, eq-eqb _ _ one, eq-eqb _ _ blank, ← beyond, e)
-
-        pub loop-goes : b ≡ false → Go a ≡ loopOf tapes q a r0 r1 r2 h
-        unfolding loopOf pick both
-        loop-goes e = simp (← is, moves, eq-eqb _ _ one, eq-eqb _ _ blank, ← beyond, e)
-
-module _ (p : Bool) (tapes : ℕ) (q : State) (a : Action) (r0 r1 r2 : ℕ) (h : Held) where
-  pub judge-off : p ≡ false → Go a ≡ judgeOf p tapes q a r0 r1 r2 h
-  unfolding judgeOf pick both
-  judge-off e = simp e
-
-  pub judge-leaves : p ≡ true → (a .next .0 ≡ q .0 → ⊥) → Go a ≡ judgeOf p tapes q a r0 r1 r2 h
-  unfolding judgeOf pick both
-  judge-leaves e n = simp (e, ne-eqb _ _ n)
-
-  pub judge-loop : (x : Look) → x ≡ loopOf tapes q a r0 r1 r2 h → p ≡ true → a .next .0 ≡ q .0 → x ≡ judgeOf p tapes q a r0 r1 r2 h
-  unfolding judgeOf pick both
-  judge-loop x l e k = simp (e, eq-eqb _ _ k, l)
-
--- ---- the look
-
-module _ (m : Machine) (s : List ℕ) (p : Bool) (v : Simulator) (c0 c1 c2 : List ℕ) (r0 r1 r2 : ℕ) (e : Entry)
-    (found : e ≡ entryOf m s (v .state) r0 r1 r2) (q0 : r0 ≡ readOf (held (v .t0) c0)) (q1 : r1 ≡ readOf (held (v .t1) c1)) (q2 : r2 ≡ readOf (held (v .t2) c2)) where
-  is-entry : entryOf m s (v .state) (readOf (held (v .t0) c0)) (readOf (held (v .t1) c1)) (readOf (held (v .t2) c2)) ≡ e
-  is-entry = rw (← q0, ← q1, ← q2) (sym found)
-
-  pub look-halt : e ≡ Undefined → Halt ≡ lookWith m s p (conf v c0 c1 c2)
-  unfolding lookWith lookOn
-  look-halt z = rw (is-entry, z)
-
-  pub look-judged : (a : Action) (x : Look) → x ≡ judgeOf p (m .tapes) (v .state) a r0 r1 r2 (held (v .t0) c0) → e ≡ Defined a → x ≡ lookWith m s p (conf v c0 c1 c2)
-  unfolding lookWith lookOn
-  look-judged a x j z = rw (is-entry, z) (rw (← q0, ← q1, ← q2) j)
 
 -- ---- the step
 

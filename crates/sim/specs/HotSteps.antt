@@ -5,7 +5,7 @@ use mathlib.Core.List.{List}
 use Prim.Native.Nat.{ℕ, _+_, _*_, _-_, _≤_, _<_, min, max}
 use native.Mathlib.Omega.{arith}
 use borrow.Author.Tests.{ne-eqb}
-use lib.ListN.{length, getD, set, length-set}
+use lib.ListN.{getD, set}
 use Rattle.laws.specs.Choice.{pick, both}
 use Rattle.symbol.specs.declared.Dir.the-variants.{L, R, N}
 use Rattle.symbol.specs.Kinds.{stateOf}
@@ -18,11 +18,13 @@ use Rattle.tape.specs.Moves.{held, leaves, roomFor, shiftOf}
 use Rattle.tape.specs.MoveCases.{act-none, act-inside, shift-left, shift-right, shift-none}
 use Rattle.sim.specs.declared.Simulator.{Simulator}
 use Rattle.sim.specs.declared.StopRule.{StopRule}
-use Rattle.sim.specs.declared.hot.Hot.{Hot}
-use Rattle.sim.specs.declared.inner.Look.the-variants.{Go}
-use Rattle.sim.specs.Engine.{task, Conf, conf, staysAll, judgeOf, lookWith, roomsFor, roomyOf, stepOf, matches, runOf}
-use Rattle.sim.specs.EngineCases.{judge-off, look-judged, stepped, run-next}
-use Rattle.sim.specs.Hot.{Says, Calm, unasked, goes-on, rewrites, reads-one, sees-left, sees-right, Moved, went-left, went-right, stood, movedTo, CalmIf, MovedIf, HotOk, One, into, Follows, Reached}
+use Rattle.burst.specs.declared.hot.Hot.{Hot}
+use Rattle.burst.specs.Burst.{Says, Calm, unasked, goes-on, rewrites, reads-one, sees-left, sees-right, Moved, went-left, went-right, stood, movedTo, HotOk, Step, Walk, here, more}
+use Rattle.before.specs.declared.look.Look.the-variants.{Go}
+use Rattle.sim.specs.Engine.{task, Conf, conf, tape0, tape1, tape2, staysAll, judgeOf, lookWith, roomsFor, roomyOf, stepOf, matches, runOf}
+use Rattle.before.specs.LookCases.{judge-off, look-judged}
+use Rattle.sim.specs.EngineCases.{stepped, run-next}
+use Rattle.sim.specs.Hot.{One, into, Follows}
 use Rattle.sim.specs.HotFacts.{not-blank-left, not-blank-right, beyond-none, go-leaves, go-reads, go-sees, moves-left, moves-right, writes-other, number-left, number-right, number-none, reads-there, reads-none, entry-of-one}
 
 -- ---- one step, for an engine that stands where the burst does
@@ -102,9 +104,10 @@ module _ (k len : ℕ) (x : Hot) (c : List ℕ) (ok : HotOk c k len x) (w d next
         go-sees _ _ _ a _ _ _ _ (moves-right a _ _ _ i) (rw i (not-blank-right (eng .t0) c j h l g))
 
     looked : (to : ℕ) → Moved d (x .head) to → Calm p c len (x .head) read w d next (x .state) → lookWith m s p before ≡ Go a
+    unfolding lookWith
     looked to mv calm =
         sym
-        (look-judged m s p eng c c1 c2 read 0 0 _ (entry-of-one m s (x .state) read k (one .tapes-is) (one .symbols-is))
+        (look-judged m s p (eng .state) (tape0 before) (tape1 before) (tape2 before) read 0 0 _ (entry-of-one m s (x .state) read k (one .tapes-is) (one .symbols-is))
         (reads-there (eng .t0) c (ok .head-in)) (reads-none (v .t1) c1 (one .none1)) (reads-none (v .t2) c2 (one .none2)) a (Go a) (judged to mv calm) (says .is))
 
     roomy : (to : ℕ) → Goes to → roomyOf before a ≡ true
@@ -131,7 +134,7 @@ module _ (k len : ℕ) (x : Hot) (c : List ℕ) (ok : HotOk c k len x) (w d next
         let g : Goes to = goes-of to mv h in
         rw (step-is to g) (run-next (task m s p rule) before _ a (looked to mv calm) (x .left) pos (roomy to g) misses refl)
 
-  pub follows-step : (Known : List ℕ → Type 0) (p : Bool) (stop to : ℕ) → ((s : List ℕ) → Known s → Says (entryAt s (x .state * k + read)) w d next)
+  follows-step : (Known : List ℕ → Type 0) (p : Bool) (stop to : ℕ) → ((s : List ℕ) → Known s → Says (entryAt s (x .state * k + read)) w d next)
       → Moved d (x .head) to → to < len → Calm p c len (x .head) read w d next (x .state) → (x .left ≡ 0 → ⊥) → (x .state ≡ stop → ⊥)
       → Follows Known p stop k len x c (movedTo x to next) cells
   follows-step Known p stop to says mv h calm pos on =
@@ -156,37 +159,13 @@ module _ (Known : List ℕ → Type 0) (p : Bool) (stop k len : ℕ) where
             r .same s known m rule v c1 c2 u steps′ one miss (omega arith) ∙ f .same s known m rule v c1 c2 steps u one miss (omega arith);
       }
 
-  pub reached-start : (x : Hot) (c : List ℕ) → HotOk c k len x → Reached Known p stop k len x c x c
-  reached-start x c ok = record { ok = ok; less = omega arith; lens = refl; follows = follows-refl x c }
+  less : (x y : Hot) (c d : List ℕ) → Walk Known p stop k len x c y d → y .left ≤ x .left
+  less x y c d here = omega arith
+  less x y c d (more z e w next to walk st) = let h : z .left ≤ x .left = less x z c e walk in omega arith
 
-  -- one turn, whole, from what the code has
-  module _ (x y : Hot) (c d : List ℕ) (r : Reached Known p stop k len x c y d) where
-    hot-ok : (to next w : ℕ) → to < len → next < 65536 → HotOk (set d (y .head) w) k len (movedTo y to next)
-    hot-ok to next w h n =
-        let o : HotOk d k len y = r .ok in
-        let l : length (set d (y .head) w) ≡ length d = length-set d (y .head) w in
-        record {
-          k-in = o .k-in;
-          len-in = omega arith;
-          cap = omega arith;
-          head-in = h;
-          low-in = omega arith;
-          high-in = omega arith;
-          high-len = omega arith;
-          state-in = n;
-        }
-
-    pub reached-again : (w dir next to : ℕ) (z : Hot) (fine : Bool) → (y .left ≡ 0 → ⊥) → (y .state ≡ stop → ⊥)
-        → ((s : List ℕ) → Known s → Says (entryAt s (y .state * k + getD d (y .head) 0)) w dir next) → next < 65536
-        → CalmIf fine p d len (y .head) (getD d (y .head) 0) w dir next (y .state) → fine ≡ true
-        → MovedIf dir (y .head) len to → to < len → z ≡ movedTo y to next
-        → Reached Known p stop k len x c z (set d (y .head) w)
-    reached-again w dir next to z fine pos on says small calm f mv h e =
-        let st = follows-step k len y d (r .ok) w dir next Known p stop to says (mv .moved h) h (calm .calm f) pos on in
-        rw e
-        (record {
-          ok = hot-ok to next w h small;
-          less = omega (arith, r .less);
-          lens = length-set d (y .head) w ∙ r .lens;
-          follows = follows-trans x y (movedTo y to next) c d (set d (y .head) w) (r .less) (omega arith) (r .follows) st;
-        })
+  -- a walk is followed by the run
+  pub walked : (x y : Hot) (c d : List ℕ) → Walk Known p stop k len x c y d → Follows Known p stop k len x c y d
+  walked x y c d here = follows-refl x c
+  walked x y c d (more z e w next to walk st) =
+      follows-trans x z (movedTo z to next) c e (set e (z .head) w) (less x z c e walk) (omega arith) (walked x z c e walk)
+      (follows-step k len z e (st .ok) w (st .dir) next Known p stop to (st .says) (st .moved) (st .inside) (st .calm) (st .fuel) (st .goes))

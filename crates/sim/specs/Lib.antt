@@ -8,10 +8,8 @@ pub mod OperationCases
 pub mod QuestionCases
 pub mod FastCases
 pub mod Hot
-pub mod HotCases
 pub mod HotFacts
 pub mod HotSteps
-pub mod Words
-pub mod WordsFacts
 pub mod Runs
 pub mod RunsCases
+pub mod AnswerCases

@@ -25,6 +25,7 @@ use Rattle.tape.specs.declared.Tape.{Tape}
 use Rattle.tape.specs.Moves.{held, noTape, freshOf}
 use Rattle.tape.specs.Fits.{TapeSafe, tapeFits}
 use Rattle.tape.specs.MoveFacts.{fits-safe, none-safe}
+pub use Rattle.before.specs.SizesCases.{on-says, FreshPassed, fresh-says}
 use Rattle.sim.specs.declared.Simulator.{Simulator}
 use Rattle.sim.specs.declared.StopRule.{StopRule}
 use Rattle.sim.specs.declared.Answer.the-variants as Ans
@@ -83,10 +84,6 @@ module _ (m : Machine) (s words : List ℕ) (fuel : ℕ) (v : Simulator) (c0 c1 
 
 -- ---- what a passed check says
 
-pub on-says : (c rest : Checked) → checkedOn c rest ≡ Accepted → (c ≡ Accepted) × (rest ≡ Accepted)
-on-says (Refused why) rest e = let z : _≡_ {A = ℕ} 0 1 = cc in absurd (omega arith)
-on-says Accepted rest e = (refl, e)
-
 pub record Passed (m : Machine) (s : List ℕ) (σ : Conf) : Type 0 where
   pub table : tableCheck m s ≡ Accepted
   pub sizes : sizesFit m (length (σ .c0)) (length (σ .c1)) (length (σ .c2)) ≡ true
@@ -141,114 +138,22 @@ run-says m s fuel σ e =
     let u = on-says _ _ (t .1) in
     (value-says m s σ (t .0) (u .0), fuel-says _ fuel (demand-says _ _ _ (u .1) .0))
 
-pub run-ok : (m : Machine) (s : List ℕ) (fuel : ℕ) (v : Simulator) (c0 c1 c2 : List ℕ) (r : Checked) (b : Simulator) (stride : ℕ)
-    → r ≡ runCheck m s fuel (conf v c0 c1 c2) → r ≡ Accepted → b ≡ bareSim (m .tapes) v → stride ≡ strideOf m → stride ≤ 16777216
+pub run-ok : (m : Machine) (s : List ℕ) (fuel : ℕ) (v : Simulator) (c0 c1 c2 : List ℕ) (b : Simulator) (stride : ℕ)
+    → runCheck m s fuel (conf v c0 c1 c2) ≡ Accepted → b ≡ bareSim (m .tapes) v → stride ≡ strideOf m → stride ≤ 16777216
     → RunOk m stride b c0 c1 c2 fuel
 unfolding bareSim
-run-ok m s fuel v c0 c1 c2 r b stride e a q k l =
-    let p = run-says m s fuel (conf v c0 c1 c2) (sym e ∙ a) in
+run-ok m s fuel v c0 c1 c2 b stride e q k l =
+    let p = run-says m s fuel (conf v c0 c1 c2) e in
     rw q (record { ok = bare-look m s (conf v c0 c1 c2) stride (p .0) k l; steps-in = p .1 })
 
--- ---- the answers of run and step
-
--- x is the operation's check: that of run, or of the fast run
-module _ (m : Machine) (s : List ℕ) (rule : StopRule) (fuel : ℕ) (v : Simulator) (c0 c1 c2 : List ℕ) (x r : Checked) (checked : r ≡ x) where
-  abbrev at : Conf
-  at = conf v c0 c1 c2
-
-  pub ran-refused : (why : Refusal) → r ≡ Refused why → given (conf v c0 c1 c2) (Ans.Refused why) ≡ runOn x at (ranBack m at (runOf (task m s true rule) fuel (bareOf m at)))
-  ran-refused why e = rw (← checked, e)
-
-  pub ran-done : (b u w : Simulator) (d0 d1 d2 : List ℕ) (o : Outcome) → r ≡ Accepted → b ≡ bareSim (m .tapes) v
-      → end (conf u d0 d1 d2) o ≡ runOf (task m s true rule) fuel (conf b c0 c1 c2) → w ≡ handBack (m .tapes) v u
-      → given (conf w d0 d1 d2) (Ans.Done o) ≡ runOn x at (ranBack m at (runOf (task m s true rule) fuel (bareOf m at)))
-  ran-done b u w d0 d1 d2 o a p e q = rw (← checked, a, q, ← p, ← e)
-
-module _ (m : Machine) (s : List ℕ) (v : Simulator) (c0 c1 c2 : List ℕ) (r : Checked) (checked : r ≡ runCheck m s 1 (conf v c0 c1 c2)) where
-  pub step-refused : (why : Refusal) → r ≡ Refused why → stepGiven (conf v c0 c1 c2) (StepAns.Refused why) ≡ stepAnswer m s (conf v c0 c1 c2)
-  unfolding stepAnswer
-  step-refused why e = rw (← checked, e)
-
-  pub step-done : (b u w : Simulator) (d0 d1 d2 : List ℕ) (o : Status) → r ≡ Accepted → b ≡ bareSim (m .tapes) v
-      → once (conf u d0 d1 d2) o ≡ onceOf m s (conf b c0 c1 c2) → w ≡ handBack (m .tapes) v u
-      → stepGiven (conf w d0 d1 d2) (StepAns.Done o) ≡ stepAnswer m s (conf v c0 c1 c2)
-  unfolding stepAnswer
-  step-done b u w d0 d1 d2 o a p e q = rw (← checked, a, q, ← p, ← e)
-
 -- the stride of a checked machine
-pub stride-ok : (m : Machine) (s : List ℕ) (fuel : ℕ) (σ : Conf) (r : Checked) → r ≡ runCheck m s fuel σ → r ≡ Accepted
+pub stride-ok : (m : Machine) (s : List ℕ) (fuel : ℕ) (σ : Conf) → runCheck m s fuel σ ≡ Accepted
     → (1 ≤ m .tapes) × (m .tapes ≤ 3) × (m .symbols ≤ 256)
-stride-ok m s fuel σ r e a =
-    let g = ranges m s (run-says m s fuel σ (sym e ∙ a) .0 .table) in
+stride-ok m s fuel σ e =
+    let g = ranges m s (run-says m s fuel σ e .0 .table) in
     (g .tapes-low, g .tapes-high, g .symbols-high)
 
 -- ---- a fresh engine
-
-module _ (m : Machine) (s w : List ℕ) (n0 n1 n2 : ℕ) (r : Checked) (checked : r ≡ tableCheck m s) where
-  pub fresh-table : (why : Refusal) → r ≡ Refused why → Refused why ≡ freshCheck m s w n0 n1 n2
-  unfolding freshCheck
-  fresh-table why e = rw (← checked, e)
-
-  module _ (passed : r ≡ Accepted) (q : Checked) (spelled : q ≡ wordCheck (m .symbols) w) where
-    pub fresh-word : (why : Refusal) → q ≡ Refused why → Refused why ≡ freshCheck m s w n0 n1 n2
-    unfolding freshCheck
-    fresh-word why e = rw (← checked, passed, ← spelled, e)
-
-    module _ (fine : q ≡ Accepted) (z : Bool) (sizes : z ≡ freshSizes m (length w) n0 n1 n2) where
-      pub fresh-small : z ≡ false → Refused Why.BufferSize ≡ freshCheck m s w n0 n1 n2
-      unfolding freshCheck pick
-      fresh-small e = rw (← checked, passed, ← spelled, fine, ← sizes, e)
-
-      pub fresh-passed : z ≡ true → Accepted ≡ freshCheck m s w n0 n1 n2
-      unfolding freshCheck pick
-      fresh-passed e = rw (← checked, passed, ← spelled, fine, ← sizes, e)
-
--- what a passed check says
-pub record FreshPassed (m : Machine) (s w : List ℕ) (n0 n1 n2 : ℕ) : Type 0 where
-  pub table : tableCheck m s ≡ Accepted
-  pub word : wordCheck (m .symbols) w ≡ Accepted
-  pub room0 : 32 + length w ≤ n0
-  pub room1 : ifHas (has1 m) (leb 32 n1) ≡ true
-  pub room2 : ifHas (has2 m) (leb 32 n2) ≡ true
-  pub start-fits : m .start < 65536
-
-has-room : (has : Bool) (n : ℕ) → ifHas has (within 32 cellsMost n) ≡ true → ifHas has (leb 32 n) ≡ true
-unfolding pick
-has-room true n e = both-split e .0
-has-room false n e = refl
-
-pub fresh-says : (m : Machine) (s w : List ℕ) (n0 n1 n2 : ℕ) → freshCheck m s w n0 n1 n2 ≡ Accepted → FreshPassed m s w n0 n1 n2
-unfolding freshCheck freshSizes
-fresh-says m s w n0 n1 n2 e =
-    let t = on-says _ _ e in
-    let q = on-says _ _ (t .1) in
-    let z = demand-says _ _ _ (q .1) in
-    let z0 = both-split (z .0) in
-    let z1 = both-split (z0 .1) in
-    let g = ranges m s (t .0) in
-    record {
-      table = t .0;
-      word = q .0;
-      room0 = omega (arith, leb-true (length w + 32) n0 (both-split (z0 .0) .0));
-      room1 = has-room (has1 m) n1 (z1 .0);
-      room2 = has-room (has2 m) n2 (z1 .1);
-      start-fits = omega (arith, g .start-in, g .states-high);
-    }
-
-pub fresh-ok : (m : Machine) (s w : List ℕ) (n0 n1 n2 : ℕ) (r : Checked) → r ≡ freshCheck m s w n0 n1 n2 → r ≡ Accepted → FreshPassed m s w n0 n1 n2
-fresh-ok m s w n0 n1 n2 r e a = fresh-says m s w n0 n1 n2 (sym e ∙ a)
-
-module _ (has : Bool) (c : List ℕ) where
-  pub blank-has : (t : Tape) (d : List ℕ) → has ≡ true → held t d ≡ freshOf [] c → held t d ≡ blankTape has c
-  unfolding pick
-  blank-has t d e p = simp (e, p)
-
-  pub blank-lacks : has ≡ false → held noTape c ≡ blankTape has c
-  unfolding pick
-  blank-lacks e = simp e
-
-  pub blank-room : ifHas has (leb 32 (length c)) ≡ true → has ≡ true → 32 ≤ length c
-  blank-room h e = leb-true _ _ (sym (pick-true has (leb 32 (length c)) true e) ∙ h)
 
 module _ (m : Machine) (s w c0 c1 c2 : List ℕ) (r : Checked) (checked : r ≡ freshCheck m s w (length c0) (length c1) (length c2)) where
   pub new-refused : (why : Refusal) → r ≡ Refused why → made (New.Refused why) c0 c1 c2 ≡ newAnswer m s w c0 c1 c2

@@ -18,6 +18,8 @@ use Rattle.machine.specs.Packing.{wordAt}
 use Rattle.machine.specs.Word.{wordCheck}
 use Rattle.tape.specs.Moves.{Held, held, noTape, freshOf}
 use Rattle.tape.specs.Fits.{tapeFits}
+pub use Rattle.before.specs.Sizes.{has1, has2, ifHas, cellsMost, stepsMost, wordRight, blankTape}
+unfoldable pub use Rattle.before.specs.Sizes.{sizesFit, fuelFits, wordsRight, freshSizes, freshCheck}
 use Rattle.sim.specs.declared.Simulator.{Simulator}
 use Rattle.sim.specs.declared.StopRule.{StopRule}
 use Rattle.sim.specs.declared.Answer.{Answer}
@@ -29,16 +31,6 @@ use Rattle.sim.specs.declared.Fresh.the-variants as New
 use Rattle.sim.specs.Engine.{Conf, conf, task, End, runOf, Once, onceOf}
 
 -- ---- tapes that the machine has, and those that it lacks
-
-abbrev pub has1 : Machine → Bool
-has1 m = ltb 1 (m .tapes)
-
-abbrev pub has2 : Machine → Bool
-has2 m = ltb 2 (m .tapes)
-
--- a test of a tape that is not there is passed
-abbrev pub ifHas : Bool → Bool → Bool
-ifHas has test = pick has test true
 
 -- a lacking tape's fields are neither read nor changed: 0 while the engine runs, the caller's own afterwards
 unfoldable pub bareSim : (tapes : ℕ) → Simulator → Simulator
@@ -67,17 +59,6 @@ backOf m σ τ = conf (handBack (m .tapes) (σ .sim) (τ .sim)) (τ .c0) (τ .c1
 
 -- ---- 11 and 12
 
-abbrev pub cellsMost : ℕ
-cellsMost = 1073741824
-
-abbrev pub stepsMost : ℕ
-stepsMost = 4611686018427387904
-
--- "11 for the upper sizes": a cells buffer over 2^30
-unfoldable pub sizesFit : Machine → (n0 n1 n2 : ℕ) → Bool
-sizesFit m n0 n1 n2 =
-    both (leb n0 cellsMost) (both (ifHas (has1 m) (leb n1 cellsMost)) (ifHas (has2 m) (leb n2 cellsMost)))
-
 -- "Fits: state below n, steps to 2^62, symbols below k. Plain, each tape: .."
 unfoldable pub simFits : Machine → Simulator → (c0 c1 c2 : List ℕ) → Bool
 simFits m v c0 c1 c2 =
@@ -96,13 +77,7 @@ valueCheck m σ =
 unfoldable pub engineCheck : Machine → List ℕ → Conf → Checked
 engineCheck m s σ = checkedOn (tableCheck m s) (valueCheck m σ)
 
--- ---- the run: 13 "steps + fuel over 2^62", without computing a sum that could wrap
-
-unfoldable pub fuelFits : (steps fuel : ℕ) → Bool
-fuelFits steps fuel = both (leb fuel stepsMost) (leb steps (stepsMost - fuel))
-
-abbrev pub wordRight : List ℕ → ℕ → List ℕ → ℕ → Bool
-wordRight s k words i = eqb (getD words i 0) (wordAt s k i)
+-- ---- the run
 
 -- 11, 12, 13
 unfoldable pub fuelCheck : Machine → ℕ → Conf → Checked
@@ -110,11 +85,6 @@ fuelCheck m fuel σ = checkedOn (valueCheck m σ) (demand (fuelFits (σ .sim .st
 
 unfoldable pub runCheck : Machine → List ℕ → ℕ → Conf → Checked
 runCheck m s fuel σ = checkedOn (tableCheck m s) (fuelCheck m fuel σ)
-
--- the fast run: after the table check "7 packed words not the table's (more than one tape also counts)", exactly as many as the table has
-unfoldable pub wordsRight : Machine → (s words : List ℕ) → Bool
-wordsRight m s words =
-    both (eqb (m .tapes) 1) (both (eqb (length words) (entryCount m)) (allIn (wordRight s (m .symbols) words) (entryCount m) 0))
 
 unfoldable pub fastCheck : Machine → (s words : List ℕ) → ℕ → Conf → Checked
 fastCheck m s words fuel σ =
@@ -165,20 +135,6 @@ unfoldable pub stepAnswer : Machine → List ℕ → Conf → StepGiven
 stepAnswer m s σ = stepOn (runCheck m s 1 σ) σ (stepBack m σ (onceOf m s (bareOf m σ)))
 
 -- ---- a fresh engine: the table check, the word's 9 and 10, then 11
-
--- "11 a cells buffer under word + 32 (other tapes 32) or over 2^30 .. Tapes the machine lacks need none."
-unfoldable pub freshSizes : Machine → (n n0 n1 n2 : ℕ) → Bool
-freshSizes m n n0 n1 n2 =
-    both (within (n + 32) cellsMost n0) (both (ifHas (has1 m) (within 32 cellsMost n1)) (ifHas (has2 m) (within 32 cellsMost n2)))
-
-unfoldable pub freshCheck : Machine → (s w : List ℕ) → (n0 n1 n2 : ℕ) → Checked
-freshCheck m s w n0 n1 n2 =
-    checkedOn (tableCheck m s)
-    (checkedOn (wordCheck (m .symbols) w) (demand (freshSizes m (length w) n0 n1 n2) Why.BufferSize Accepted))
-
--- a tape of the machine starts blank; one that it lacks is left as it is
-abbrev pub blankTape : Bool → List ℕ → Held
-blankTape has c = pick has (freshOf [] c) (held noTape c)
 
 abbrev pub freshSim : Machine → Held → Held → Held → Simulator
 freshSim m h0 h1 h2 = record { state = stateOf (m .start); steps = 0; t0 = h0 .tape; t1 = h1 .tape; t2 = h2 .tape }

@@ -25,6 +25,7 @@ use Rattle.tape.specs.Moves.{held}
 use Rattle.tape.specs.Questions.{cellAt, nonBlankOf, countOf, windowOf, findOf}
 use Rattle.tape.specs.Fits.{TapeOk, TapeSafe, tapeFits}
 use Rattle.tape.specs.MoveFacts.{fits-safe}
+use Rattle.before.specs.SizesCases.{on-says}
 use Rattle.sim.specs.declared.Simulator.{Simulator}
 use Rattle.sim.specs.declared.questions.Got.the-variants as Got
 use Rattle.sim.specs.declared.questions.Extent.the-variants as Extent
@@ -32,7 +33,7 @@ use Rattle.sim.specs.declared.questions.Counted.the-variants as Counted
 use Rattle.sim.specs.declared.questions.Located.the-variants as Located
 use Rattle.sim.specs.Engine.{Conf, conf}
 use Rattle.sim.specs.Operations.{cellsMost, ifHas, sizesFit, simFits, engineCheck}
-use Rattle.sim.specs.OperationCases.{on-says, Passed, engine-says}
+use Rattle.sim.specs.OperationCases.{Passed, engine-says}
 use Rattle.sim.specs.Questions.{tapeAt, cellsAt, questionCheck, getAnswer, extentAnswer, countAnswer, windowInto, findAnswer}
 
 module _ (m : Machine) (s : List ℕ) (i : ℕ) (v : Simulator) (c0 c1 c2 : List ℕ) (r : Checked) (checked : r ≡ engineCheck m s (conf v c0 c1 c2)) where

@@ -5,14 +5,21 @@ use mathlib.Core.List.{List}
 use Prim.Native.Nat.{ℕ, _+_, _≤_, _<_}
 use lib.ListN.{length}
 use Rattle.machine.specs.declared.Machine.{Machine}
+use Rattle.machine.specs.declared.Checked.{Checked}
+use Rattle.machine.specs.declared.Checked.the-variants.{Accepted}
 use Rattle.tape.specs.Fits.{TapeSafe}
 use Rattle.sim.specs.declared.Simulator.{Simulator}
 use Rattle.sim.specs.declared.StopRule.{StopRule}
-use Rattle.sim.specs.declared.hot.Hot.{Hot}
-use Rattle.sim.specs.Engine.{task, conf, runOf}
+use Rattle.burst.specs.declared.hot.Hot.{Hot}
+use Rattle.burst.specs.Words.{WordsOk}
+use Rattle.sim.specs.declared.Answer.{Answer}
+use Rattle.sim.specs.declared.Answer.the-variants as Ans
+use Rattle.sim.specs.declared.StepAnswer.{StepAnswer}
+use Rattle.sim.specs.declared.StepAnswer.the-variants as StepAns
+use Rattle.sim.specs.Engine.{task, Conf, conf, runOf, statusOf}
+use Rattle.sim.specs.Operations.{bareOf, runCheck, Given, ranBack, runOn}
 use Rattle.sim.specs.Turns.{RunOk}
 use Rattle.sim.specs.Hot.{Misses}
-use Rattle.sim.specs.Words.{WordsOk}
 
 -- where a burst on the engine's value starts
 abbrev pub hotOf : Simulator → (left : ℕ) → Hot
@@ -54,3 +61,19 @@ pub record Sped (m : Machine) (s : List ℕ) (proves : Bool) (stop : ℕ) (v : S
   pub okay : (stride : ℕ) (c1 c2 : List ℕ) → RunOk m stride v c c1 c2 left → RunOk m stride v′ c′ c1 c2 left′
   pub less : left′ ≤ left
   pub lens : length c′ ≡ length c
+
+-- ---- the operations over a run
+
+-- a check that passes lets the run begin, over the words where they are packed
+pub record Cleared (checked : Checked) (m : Machine) (s : List ℕ) (packed : Bool) (words : List ℕ) (fuel : ℕ) (σ : Conf) : Type 0 where
+  pub runs : checked ≡ Accepted → runCheck m s fuel σ ≡ Accepted
+  pub words-ok : checked ≡ Accepted → WordsIf packed m s words
+
+-- what an operation answers by its check: the refusal, or the run on the tapes that the machine has
+abbrev pub answerOf : Checked → Machine → List ℕ → (proves : Bool) → StopRule → (fuel : ℕ) → Conf → Given
+answerOf checked m s p rule fuel σ = runOn checked σ (ranBack m σ (runOf (task m s p rule) fuel (bareOf m σ)))
+
+-- the answer of a run of one step, as a step's
+abbrev pub stepAnswerOf : Answer → StepAnswer
+stepAnswerOf (Ans.Done o) = StepAns.Done (statusOf o)
+stepAnswerOf (Ans.Refused why) = StepAns.Refused why

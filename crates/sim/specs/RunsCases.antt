@@ -12,12 +12,14 @@ use Rattle.tape.specs.Fits.{TapeOk, TapeSafe}
 use Rattle.sim.specs.declared.Simulator.{Simulator}
 use Rattle.sim.specs.declared.StopRule.{StopRule}
 use Rattle.sim.specs.declared.StopRule.the-variants as Rule
-use Rattle.sim.specs.declared.hot.Hot.{Hot}
+use Rattle.burst.specs.declared.hot.Hot.{Hot}
+use Rattle.burst.specs.Burst.{HotOk, Reached}
+use Rattle.burst.specs.Words.{Packs}
+use Rattle.burst.specs.WordsFacts.{packs-of}
 use Rattle.sim.specs.Engine.{task, Conf, matches}
 use Rattle.sim.specs.TurnCases.{RunInv}
-use Rattle.sim.specs.Hot.{HotOk, Misses, into, Reached}
-use Rattle.sim.specs.Words.{Packs}
-use Rattle.sim.specs.WordsFacts.{packs-of}
+use Rattle.sim.specs.Hot.{Misses, into}
+use Rattle.sim.specs.HotSteps.{walked}
 use Rattle.sim.specs.Runs.{hotOf, May, MayIf, WordsIf, SprintOk, Sped}
 
 -- ---- the stop rule's state
@@ -77,7 +79,7 @@ module _ (m : Machine) (s : List ℕ) (p : Bool) (stop : ℕ) (v : Simulator) (c
   sped Known known r =
       let may : May (m .tapes) v = mays .may z in
       record {
-        same = λ rule miss c1 c2. r .follows .same s known m rule v c1 c2 (v .steps) (v .steps + (left - at .left))
+        same = λ rule miss c1 c2. walked Known p stop (m .symbols) (v .t0 .len) _ _ _ _ (r .walk) .same s known m rule v c1 c2 (v .steps) (v .steps + (left - at .left))
             (record { tapes-is = may .one-tape; symbols-is = refl; none1 = may .none1; none2 = may .none2 }) miss (omega (arith, r .less));
         okay = λ stride c1 c2 ok. record {
           ok = record {

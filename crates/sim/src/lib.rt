@@ -1,4 +1,5 @@
 // The plain engine: one step at a time on dense tapes, one to three of them.
+use before::sizes;
 use machine::Checked;
 use machine::Machine;
 use outcome::Outcome;
@@ -7,15 +8,13 @@ use outcome::Status;
 use symbol::State;
 use tape::Tape;
 ghost use mathlib.Core.Path.{_≡_};
-ghost use Rattle.sim.specs.Engine.{conf};
+ghost use Rattle.sim.specs.Engine.{conf, statusOf};
 ghost use Rattle.sim.specs.Operations.{given, runAnswer, fastAnswer, stepGiven, stepAnswer, made, newAnswer};
+ghost use Rattle.sim.specs.Runs.{stepAnswerOf};
 
-mod burst;
 mod checks;
 mod fast;
-mod hot;
 pub mod inner;
-mod packed;
 pub mod questions;
 mod runs;
 
@@ -64,6 +63,29 @@ pub enum Fresh {
     Refused(Refusal),
 }
 
+// What the answer of a run of one step says of the step.
+fn step_answer(answer: Answer) -> StepAnswer
+    ensures { λ r. ⌜ r ≡ stepAnswerOf answer ⌝ }
+{
+    match answer {
+        Answer::Refused(why) => StepAnswer::Refused(why),
+        Answer::Done(outcome) => StepAnswer::Done(status_of(outcome)),
+    }
+}
+
+// What the end of a run of one step says of the step.
+fn status_of(outcome: Outcome) -> Status
+    ensures { λ r. ⌜ r ≡ statusOf outcome ⌝ }
+{
+    match outcome {
+        Outcome::Halted { steps: _, state: _ } => Status::Halted,
+        Outcome::OutOfFuel { steps: _ } => Status::Running,
+        Outcome::NeverHalts { steps: _, proof: _ } => Status::Halted,
+        Outcome::Stopped { steps: _ } => Status::Running,
+        Outcome::Full { steps: _ } => Status::Full,
+    }
+}
+
 impl Simulator {
     // Starts in the start state with the word on tape 0, heads at position 0, all else blank.
     pub fn new(
@@ -76,15 +98,15 @@ impl Simulator {
     ) -> Fresh
         ensures { λ r. ⌜ made r (now (c0 .exit)) (now (c1 .exit)) (now (c2 .exit)) ≡ newAnswer m (now (table .entry)) (now (word .entry)) (now (c0 .entry)) (now (c1 .entry)) (now (c2 .entry)) ⌝ }
     {
-        let checked = checks::fresh_check(m, table, word, c0.len(), c1.len(), c2.len());
+        let checked = sizes::fresh_check(m, table, word, c0.len(), c1.len(), c2.len());
         match checked {
             Checked::Refused(why) => {
                 return Fresh::Refused(why);
             }
             Checked::Accepted => {
                 let t0 = tape::inner::fresh(c0, word);
-                let t1 = checks::blank(1 < m.tapes, c1);
-                let t2 = checks::blank(2 < m.tapes, c2);
+                let t1 = sizes::blank(1 < m.tapes, c1);
+                let t2 = sizes::blank(2 < m.tapes, c2);
                 let start = m.start;
                 return Fresh::Made(Simulator {
                     state: State(start as u16),
@@ -111,25 +133,20 @@ impl Simulator {
         ensures { λ r. ⌜ given (conf (r .sim) (now (c0 .exit)) (now (c1 .exit)) (now (c2 .exit))) (r .answer) ≡ runAnswer m (now (table .entry)) rule fuel (conf self (now (c0 .entry)) (now (c1 .entry)) (now (c2 .entry))) ⌝ }
     {
         let checked = self.run_check(m, table, c0, c1, c2, fuel);
-        match checked {
-            Checked::Refused(why) => {
-                return Answered {
-                    sim: self,
-                    answer: Answer::Refused(why),
-                };
-            }
-            Checked::Accepted => {
-                let stride = machine::inner::stride(m.tapes, m.symbols);
-                let bare = self.bare(m.tapes);
-                let ran = bare.run_all(m, stride, true, rule, table, c0, c1, c2, fuel);
-                let after = ran.sim;
-                let outcome = ran.outcome;
-                return Answered {
-                    sim: after.hand_back(m.tapes, self),
-                    answer: Answer::Done(outcome),
-                };
-            }
-        }
+        let none: [u64; 1] = [3];
+        self.run_checked(
+            checked,
+            m,
+            true,
+            rule,
+            table,
+            false,
+            &none,
+            c0,
+            c1,
+            c2,
+            fuel,
+        )
     }
 
     // The same over packed words, which must be the table's; for machines of one tape.
@@ -147,25 +164,7 @@ impl Simulator {
         ensures { λ r. ⌜ given (conf (r .sim) (now (c0 .exit)) (now (c1 .exit)) (now (c2 .exit))) (r .answer) ≡ fastAnswer m (now (table .entry)) (now (words .entry)) rule fuel (conf self (now (c0 .entry)) (now (c1 .entry)) (now (c2 .entry))) ⌝ }
     {
         let checked = self.fast_check(m, table, words, c0, c1, c2, fuel);
-        match checked {
-            Checked::Refused(why) => {
-                return Answered {
-                    sim: self,
-                    answer: Answer::Refused(why),
-                };
-            }
-            Checked::Accepted => {
-                let stride = machine::inner::stride(m.tapes, m.symbols);
-                let bare = self.bare(m.tapes);
-                let ran = bare.run_words(m, stride, true, rule, table, words, c0, c1, c2, fuel);
-                let after = ran.sim;
-                let outcome = ran.outcome;
-                return Answered {
-                    sim: after.hand_back(m.tapes, self),
-                    answer: Answer::Done(outcome),
-                };
-            }
-        }
+        self.run_checked(checked, m, true, rule, table, true, words, c0, c1, c2, fuel)
     }
 
     // Makes one step, whether or not it is a proved loop, or says that the machine has halted or lacks space.
@@ -180,24 +179,15 @@ impl Simulator {
         ensures { λ r. ⌜ stepGiven (conf (r .sim) (now (c0 .exit)) (now (c1 .exit)) (now (c2 .exit))) (r .answer) ≡ stepAnswer m (now (table .entry)) (conf self (now (c0 .entry)) (now (c1 .entry)) (now (c2 .entry))) ⌝ }
     {
         let checked = self.run_check(m, table, c0, c1, c2, 1);
-        match checked {
-            Checked::Refused(why) => {
-                return Stepped {
-                    sim: self,
-                    answer: StepAnswer::Refused(why),
-                };
-            }
-            Checked::Accepted => {
-                let stride = machine::inner::stride(m.tapes, m.symbols);
-                let bare = self.bare(m.tapes);
-                let made = bare.step_once(m, stride, table, c0, c1, c2);
-                let after = made.sim;
-                let status = made.status;
-                return Stepped {
-                    sim: after.hand_back(m.tapes, self),
-                    answer: StepAnswer::Done(status),
-                };
-            }
+        let state = self.state;
+        let rule = StopRule::From(state);
+        let none: [u64; 1] = [3];
+        let ran = self.run_checked(checked, m, false, rule, table, false, &none, c0, c1, c2, 1);
+        let sim = ran.sim;
+        let answer = ran.answer;
+        Stepped {
+            sim,
+            answer: step_answer(answer),
         }
     }
 }

@@ -1,11 +1,14 @@
 // The run: bursts of ordinary steps where the machine has one tape, and a turn at each doubt, which decides.
+use super::Answer;
+use super::Answered;
 use super::Simulator;
 use super::StopRule;
-use super::burst;
-use super::hot::Hot;
-use super::inner::Ran;
-use super::inner::Turn;
-use super::packed;
+use super::inner;
+use before::look::Choice;
+use burst::hot::Hot;
+use burst::packed;
+use burst::table;
+use machine::Checked;
 use machine::Machine;
 use outcome::Outcome;
 use symbol::State;
@@ -13,11 +16,18 @@ use tape::Tape;
 ghost use mathlib.Core.Path.{_≡_};
 ghost use mathlib.Core.Bool.{false};
 ghost use Prim.Native.Nat.{_+_, _-_, _≤_, _<_};
+ghost use Rattle.outcome.specs.declared.Outcome.the-variants.{Stopped};
 ghost use Rattle.sim.specs.Engine.{task, conf, end, runOf};
+ghost use Rattle.sim.specs.Operations.{given};
 ghost use Rattle.sim.specs.Turns.{RunOk};
 ghost use Rattle.sim.specs.Hot.{Misses, into};
-ghost use Rattle.sim.specs.Words.{WordsOk};
-ghost use Rattle.sim.specs.Runs.{hotOf, MayIf, SprintOk, WordsIf, Sped};
+ghost use Rattle.sim.specs.Runs.{hotOf, MayIf, SprintOk, WordsIf, Sped, Cleared, answerOf};
+
+// An engine after a run, and how the run ended.
+pub struct Ran {
+    pub sim: Simulator,
+    pub outcome: Outcome,
+}
 
 // An engine after a burst, and the fuel left.
 pub struct Ahead {
@@ -36,6 +46,17 @@ fn stop_of(rule: StopRule) -> usize
         StopRule::From(p) => {
             return p.0 as usize;
         }
+    }
+}
+
+// The run that the stop rule ends.
+fn stopped(sim: Simulator) -> Ran
+    ensures { λ r. ⌜ (r .sim ≡ sim) × (r .outcome ≡ Stopped (sim .steps)) ⌝ }
+{
+    let steps = sim.steps;
+    Ran {
+        sim,
+        outcome: Outcome::Stopped { steps },
     }
 }
 
@@ -136,12 +157,12 @@ impl Simulator {
             let at = packed::burst_words(words, c0, proves, stop, k, t0.len, start);
             return self.after(at, left);
         }
-        let at = burst::burst(table, c0, proves, stop, k, t0.len, start);
+        let at = table::burst(table, c0, proves, stop, k, t0.len, start);
         self.after(at, left)
     }
 
     // The run over a table, or over its words where they are packed.
-    pub(crate) fn run_bursts(
+    fn run_bursts(
         self,
         m: Machine,
         stride: u64,
@@ -166,19 +187,16 @@ impl Simulator {
             let ahead = sim.sprint(m, proves, stop, table, packed, words, c0, left);
             let at = ahead.sim;
             let fuel_left = ahead.left;
-            let t = at.turn(m, stride, proves, rule, table, c0, c1, c2, fuel_left);
-            match t {
-                Turn::Stop(outcome) => {
+            let choice = at.decide(m, stride, proves, table, c0, c1, c2, fuel_left);
+            match choice {
+                Choice::Stop(outcome) => {
                     return Ran { sim: at, outcome };
                 }
-                Turn::Last(last) => {
-                    let steps = last.steps;
-                    return Ran {
-                        sim: last,
-                        outcome: Outcome::Stopped { steps },
-                    };
-                }
-                Turn::Next(next) => {
+                Choice::Go(a) => {
+                    let next = at.advance(c0, c1, c2, a);
+                    if inner::matches(rule, at.state) {
+                        return stopped(next);
+                    }
                     sim = next;
                     left = fuel_left - 1;
                 }
@@ -186,36 +204,54 @@ impl Simulator {
         }
     }
 
-    // The run over the packed words of a table of one tape, which the caller has held to the table.
-    pub(crate) fn run_words(
+    // What an operation answers once its check is made: the refusal, with nothing touched, or the run.
+    pub(crate) fn run_checked(
         self,
+        checked: Checked,
         m: Machine,
-        stride: u64,
         proves: bool,
         rule: StopRule,
         table: &[u8],
+        packed: bool,
         words: &[u64],
         c0: &mut [u8],
         c1: &mut [u8],
         c2: &mut [u8],
         fuel: u64,
-    ) -> Ran
-        requires { ⌜ RunOk m stride self (now c0) (now c1) (now c2) fuel ⌝ }
-        requires { ⌜ WordsOk m (now table) (now words) ⌝ }
-        ensures { λ r. ⌜ end (conf (r .sim) (now (c0 .exit)) (now (c1 .exit)) (now (c2 .exit))) (r .outcome) ≡ runOf (task m (now (table .entry)) proves rule) fuel (conf self (now (c0 .entry)) (now (c1 .entry)) (now (c2 .entry))) ⌝ }
+    ) -> Answered
+        requires { ⌜ Cleared checked m (now table) packed (now words) fuel (conf self (now c0) (now c1) (now c2)) ⌝ }
+        ensures { λ r. ⌜ given (conf (r .sim) (now (c0 .exit)) (now (c1 .exit)) (now (c2 .exit))) (r .answer) ≡ answerOf checked m (now (table .entry)) proves rule fuel (conf self (now (c0 .entry)) (now (c1 .entry)) (now (c2 .entry))) ⌝ }
     {
-        self.run_bursts(
-            m,
-            stride,
-            proves,
-            rule,
-            table,
-            true,
-            words,
-            c0,
-            c1,
-            c2,
-            fuel,
-        )
+        match checked {
+            Checked::Refused(why) => {
+                return Answered {
+                    sim: self,
+                    answer: Answer::Refused(why),
+                };
+            }
+            Checked::Accepted => {
+                let stride = machine::inner::stride(m.tapes, m.symbols);
+                let bare = self.bare(m.tapes);
+                let ran = bare.run_bursts(
+                    m,
+                    stride,
+                    proves,
+                    rule,
+                    table,
+                    packed,
+                    words,
+                    c0,
+                    c1,
+                    c2,
+                    fuel,
+                );
+                let after = ran.sim;
+                let outcome = ran.outcome;
+                return Answered {
+                    sim: after.hand_back(m.tapes, self),
+                    answer: Answer::Done(outcome),
+                };
+            }
+        }
     }
 }

@@ -1,7 +1,7 @@
 use mathlib.Core.Path.{refl}
 use borrow.Author.Tests.{not-false}
 use Rattle.sim.specs.RunsCases.{hot-starts, after-asks, sped-burst, sped-words}
-use Rattle.sim.specs.Hot.{Is}
+use Rattle.burst.specs.Burst.{Is}
 use borrow.Author.Needs.{needs}
 use Rattle.sim.proofs.Simulator.sprint.Statement.{statement}
 use Rattle.sim.proofs.Simulator.sprint.Tie as tie
@@ -10,8 +10,8 @@ use Rattle.sim.proofs.Simulator.sprint.Lts as lts
 use Rattle.sim.proofs.Simulator.after.Reads as after-reads
 use Rattle.sim.proofs.Simulator.hot.Reads as hot-reads
 use Rattle.sim.proofs.Simulator.may.Reads as may-reads
-use Rattle.sim.proofs.burst.burst.Reads as burst-reads
-use Rattle.sim.proofs.packed.burst_words.Reads as burst-words-reads
+use Rattle.burst.proofs.table.burst.Reads as burst-reads
+use Rattle.burst.proofs.packed.burst_words.Reads as burst-words-reads
 
 -- src/runs.rt:130:13
 may-requires : tie.Need-may-requires

@@ -1,69 +1,54 @@
-use Rattle.sim.specs.OperationCases.{step-refused, step-done, stride-ok, run-ok}
+use Rattle.sim.specs.AnswerCases.{run-cleared, step-answers}
 use borrow.Author.Needs.{needs}
 use Rattle.sim.proofs.Simulator.step.Statement.{statement}
 use Rattle.sim.proofs.Simulator.step.Tie as tie
+use Rattle.sim.proofs.Simulator.step.Reads as reads
+use Rattle.sim.proofs.Simulator.step.Lts as lts
+use Rattle.sim.proofs.Simulator.run_check.Reads as run-check-reads
+use Rattle.sim.proofs.Simulator.run_checked.Reads as run-checked-reads
+use Rattle.sim.proofs.step_answer.Reads as step-answer-reads
 
+-- src/lib.rt:168:13
 run-check-requires : tie.Need-run-check-requires
 run-check-requires c κs = search needs
 
-enum-known-checked : tie.Need-enum-known-checked
-enum-known-checked c = search needs
+-- src/lib.rt:172:75
+slice-aggregate-run-checked : tie.Need-slice-aggregate-run-checked
+slice-aggregate-run-checked c = search needs
 
+-- src/lib.rt:172:13
+run-checked-requires : tie.Need-run-checked-requires
+run-checked-requires c κs = run-cleared _ _ _ _ _ _ (c .before .before .before .before .before .run-check .ensures)
+
+-- src/lib.rt:177:21
+step-answer-requires : tie.Need-step-answer-requires
+step-answer-requires c κs = search needs
+
+-- src/lib.rt:158:5
 same-length : tie.Need-same-length
 same-length c = search needs
 
+-- src/lib.rt:158:5
 same-length-2 : tie.Need-same-length-2
 same-length-2 c = search needs
 
+-- src/lib.rt:158:5
 same-length-3 : tie.Need-same-length-3
 same-length-3 c = search needs
 
+-- src/lib.rt:158:5
 returns : tie.Need-returns
-returns c = step-refused _ _ _ _ _ _ _ (c .before .before .before .run-check .ensures) _ (c .before .checked .given .1)
-
-enum-told : tie.Need-enum-told
-enum-told c = search needs
-
-stride-requires : tie.Need-stride-requires
-stride-requires c κs = stride-ok _ _ _ _ _ (c .before .before .run-check .ensures) (c .enum-told .given .1)
-
-bare-requires : tie.Need-bare-requires
-bare-requires c κs = search needs
-
-step-once-requires : tie.Need-step-once-requires
-step-once-requires c κs = run-ok _ _ _ _ _ _ _ _ _ _ (c .before .before .before .before .before .before .before .run-check .ensures) (c .before .before .before .before .before .enum-told .given .1) (c .before .before .before .bare .ensures) (c .before .before .before .before .stride .ensures .0) (c .before .before .before .before .stride .ensures .1)
-
-hand-back-requires : tie.Need-hand-back-requires
-hand-back-requires c κs = search needs
-
-same-length-4 : tie.Need-same-length-4
-same-length-4 c = search needs
-
-same-length-5 : tie.Need-same-length-5
-same-length-5 c = search needs
-
-same-length-6 : tie.Need-same-length-6
-same-length-6 c = search needs
-
-returns-2 : tie.Need-returns-2
-returns-2 c = step-done _ _ _ _ _ _ _ (c .before .before .before .before .before .before .before .before .before .before .before .before .before .before .before .before .run-check .ensures) _ _ _ _ _ _ _ (c .before .before .before .before .before .before .before .before .before .before .before .before .before .before .enum-told .given .1) (c .before .before .before .before .before .before .before .before .before .before .before .before .bare .ensures) (c .before .before .before .before .before .before .before .before .step-once .ensures) (c .hand-back .ensures)
+returns c = step-answers _ _ _ _ _ _ _ _ _ _ _ _ _ (c .before .before .before .before .before .before .before .before .before .before .before .before .before .before .run-check .ensures) (c .before .before .before .before .before .before .before .before .run-checked .ensures) (c .step-answer .ensures)
 
 pub step-spec : {M : Type 1} → statement M
 step-spec =
     tie.close
     (tie.spec
     run-check-requires
-    enum-known-checked
+    slice-aggregate-run-checked
+    run-checked-requires
+    step-answer-requires
     same-length
     same-length-2
     same-length-3
-    returns
-    enum-told
-    stride-requires
-    bare-requires
-    step-once-requires
-    hand-back-requires
-    same-length-4
-    same-length-5
-    same-length-6
-    returns-2)
+    returns)

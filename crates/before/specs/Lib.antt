@@ -1,0 +1,4 @@
+pub mod Look
+pub mod LookCases
+pub mod Sizes
+pub mod SizesCases

@@ -1,0 +1,4 @@
+// What the plain engine asks before it begins, and before each step of a run, over tapes and their cells.
+pub mod look;
+pub mod sizes;
+pub mod words;

@@ -1,0 +1,17 @@
+use native.Mathlib.Omega.{arith}
+use Rattle.burst.specs.BurstCases.{number-in}
+use Rattle.burst.proofs.hot.row.Statement.{statement}
+use Rattle.burst.proofs.hot.row.Tie as tie
+use Rattle.burst.proofs.hot.row.Reads as reads
+use Rattle.burst.proofs.hot.row.Lts as lts
+
+-- src/hot.rt:43:5
+mul-result : tie.Need-mul-result
+mul-result c = omega (arith, number-in (c .args .state) (c .args .k) (c .pre .0) (c .pre .1))
+
+-- src/hot.rt:39:1
+returns : tie.Need-returns
+returns c = let h = number-in (c .args .state) (c .args .k) (c .pre .0) (c .pre .1) in omega arith
+
+pub row-spec : {M : Type 1} → statement M
+row-spec = tie.close (tie.spec mul-result returns)

@@ -1,0 +1,122 @@
+-- What is asked before a step of a burst, one fact for each way through the code. Assumes nothing.
+use mathlib.Core.Path.{_≡_, refl, ap}
+use mathlib.Core.Bool.{Bool, true, false, not}
+use mathlib.Core.List.{List}
+use Prim.Native.Nat.{ℕ, zero, suc, _+_, _*_, _-_, _/_, _≤_, _<_, min, max}
+use native.Mathlib.Nat.{mul-le-mul}
+use native.Mathlib.Omega.{arith}
+use borrow.Author.Tests.{ltb-true, eqb-false, not-true, lt-ltb, eq-eqb}
+use lib.Dec.{eqb, ltb}
+use lib.ListN.{length, getD}
+use Rattle.laws.specs.Choice.{pick, both}
+use Rattle.laws.specs.Tests.{clash}
+use Rattle.symbol.specs.Kinds.{dirNumber}
+use Rattle.symbol.specs.declared.Dir.the-variants.{N}
+use Rattle.machine.specs.declared.Entry.{Entry}
+use Rattle.machine.specs.declared.Entry.the-variants.{Defined}
+use Rattle.machine.specs.Layout.{flagAt, byteAt, actionAt, entryAt}
+use Rattle.burst.specs.declared.hot.Hot.{Hot}
+use Rattle.burst.specs.declared.hot.Told.{Told}
+use Rattle.burst.specs.Burst.{unasked, goes-on, rewrites, reads-one, sees-left, sees-right, went-left, went-right, stood, movedTo, LeftSeen, RightSeen, CalmIf, MovedIf, Says, Tells, Is}
+
+-- ---- a cell that is not blank
+
+pub left-found : (c : List ℕ) (head r : ℕ) → (getD c r 0 ≡ 0 → ⊥) → LeftSeen c head r
+left-found c head r h = record { seen = λ l. h }
+
+pub left-none : (c : List ℕ) (head r : ℕ) → head ≤ r → LeftSeen c head r
+left-none c head r h = record { seen = λ l z. omega arith }
+
+pub right-found : (c : List ℕ) (head len r : ℕ) → (getD c r 0 ≡ 0 → ⊥) → head < r → RightSeen c head len r
+right-found c head len r h l = record { above = λ _. l; seen = λ _. h }
+
+pub right-none : (c : List ℕ) (head len r : ℕ) → len ≤ r → RightSeen c head len r
+right-none c head len r h = record { above = λ l. omega arith; seen = λ l z. omega arith }
+
+-- ---- whether the step is surely no proved loop
+
+module _ (p : Bool) (c : List ℕ) (len head read w d next q : ℕ) where
+  pub calm-on : (next ≡ q → ⊥) → CalmIf true p c len head read w d next q
+  calm-on h = record { calm = λ _. goes-on h }
+
+  pub calm-off : not p ≡ true → CalmIf true p c len head read w d next q
+  calm-off h = record { calm = λ _. unasked (not-true p h) }
+
+  pub calm-write : d ≡ 2 → CalmIf (not (eqb w read)) p c len head read w d next q
+  calm-write e = record { calm = λ t. rewrites e (eqb-false w read (not-true (eqb w read) t)) }
+
+  pub calm-read : (d ≡ 2 → ⊥) → (read ≡ 0 → ⊥) → CalmIf true p c len head read w d next q
+  calm-read e h = record { calm = λ _. reads-one e h }
+
+  pub calm-left : (j : ℕ) → LeftSeen c head j → d ≡ 0 → CalmIf (ltb j head) p c len head read w d next q
+  calm-left j s e = record { calm = λ t. let l : j < head = ltb-true j head t in sees-left j e l (s .seen l) }
+
+  pub calm-right : (j : ℕ) → RightSeen c head len j → (d ≡ 0 → ⊥) → (d ≡ 2 → ⊥) → CalmIf (ltb j len) p c len head read w d next q
+  calm-right j s a b = record { calm = λ t. let l : j < len = ltb-true j len t in sees-right j a b (s .above l) l (s .seen l) }
+
+-- ---- where the step takes the head
+
+module _ (d head len : ℕ) where
+  pub moved-out : MovedIf d head len len
+  moved-out = record { moved = λ l. absurd (omega arith) }
+
+  pub moved-left : d ≡ 0 → (head ≡ 0 → ⊥) → MovedIf d head len (head - 1)
+  moved-left e h = record { moved = λ l. went-left e (omega arith) }
+
+  pub moved-right : d ≡ 1 → MovedIf d head len (head + 1)
+  moved-right e = record { moved = λ l. went-right e refl }
+
+  pub moved-none : (d ≡ 0 → ⊥) → (d ≡ 1 → ⊥) → MovedIf d head len head
+  moved-none a b = record { moved = λ l. stood a b refl }
+
+pub moved-is : (x : Hot) (to next low high : ℕ) → low ≡ min (x .low) to → high ≡ max (x .high) to
+    → _≡_ {A = Hot} (record { head = to; low = low; high = high; state = next; left = x .left - 1 }) (movedTo x to next)
+moved-is x to next low high p q = rw (p, q)
+
+pub moved-less : (x y : Hot) (to next : ℕ) → y ≡ movedTo x to next → (x .left ≡ 0 → ⊥) → y .left < x .left
+moved-less x y to next e h = let l : y .left ≡ x .left - 1 = ap (λ (z : Hot). z .left) e in omega arith
+
+-- ---- what an entry says
+
+pub tells-none : (e : Entry) → Tells e (record { known = false; write = 0; dir = 0; next = 0 })
+tells-none e = record { says = λ z. absurd (clash z refl); small = omega arith }
+
+pub number-in : (q k : ℕ) → q < 65536 → k ≤ 256 → q * k ≤ 65535 * 256
+number-in q k h g = mul-le-mul {n₂ = 65535} {m₂ = 256} (omega arith) g
+
+module _ (s : List ℕ) (i : ℕ) (there : 8 * i + 8 ≤ length s) (defined : flagAt s i ≡ 1) where
+  is-defined : entryAt s i ≡ Defined (actionAt s i)
+  unfolding entryAt pick both
+  is-defined =
+      let l : i < length s / 8 = omega arith in
+      simp (lt-ltb _ _ l, eq-eqb _ _ defined)
+
+  moves-of : (d : ℕ) → byteAt s i 6 ≡ 24 + d → d ≤ 2 → (dirNumber (actionAt s i .dir0) ≡ d) × (actionAt s i .dir1 ≡ N) × (actionAt s i .dir2 ≡ N)
+  unfolding actionAt pick
+  moves-of zero e h = simp e (refl, refl, refl)
+  moves-of (suc zero) e h = simp e (refl, refl, refl)
+  moves-of (suc (suc zero)) e h = simp e (refl, refl, refl)
+  moves-of (suc (suc (suc d))) e h = absurd (omega arith)
+
+  pub tells-entry : (r1 r2 : ℕ) → 24 ≤ byteAt s i 6 → byteAt s i 6 ≤ 26 → r1 ≡ byteAt s i 1 → r1 < 256 → r2 ≡ byteAt s i 2 → r2 < 256
+      → Tells (entryAt s i) (record { known = true; write = byteAt s i 3; dir = byteAt s i 6 - 24; next = r1 + 256 * r2 })
+  unfolding actionAt
+  tells-entry r1 r2 a b e1 l1 e2 l2 =
+      let m = moves-of (byteAt s i 6 - 24) (omega arith) (omega arith) in
+      record {
+        says = λ _. record {
+          act = actionAt s i;
+          is = is-defined;
+          writes = refl;
+          moves = m .0;
+          goes = rw (e1, e2);
+          still1 = m .1;
+          still2 = m .2;
+        };
+        small = omega arith;
+      }
+
+-- what the table at hand tells, every table that is it says
+pub told-says : (s : List ℕ) (i n : ℕ) (t : Told) → Tells (entryAt s i) t → t .known ≡ true → i ≡ n
+    → (u : List ℕ) → Is s u → Says (entryAt u n) (t .write) (t .dir) (t .next)
+told-says s i n t f z e u is = rw (is, ← e) (f .says z)

@@ -1,0 +1,200 @@
+// What a burst of ordinary steps on one tape asks before each step: whether it may be a proved loop, and where it
+// takes the head.
+ghost use mathlib.Core.Path.{_≡_};
+ghost use Prim.Native.Nat.{_*_, _≤_, _<_, min, max};
+ghost use lib.ListN.{length};
+ghost use Rattle.burst.specs.Burst.{LeftSeen, RightSeen, CalmIf, MovedIf, movedTo};
+
+// Where a burst stands: the head, the lowest and the highest head so far, the state, and the fuel left.
+pub struct Hot {
+    pub head: usize,
+    pub low: usize,
+    pub high: usize,
+    pub state: usize,
+    pub left: u64,
+}
+
+// What an entry says of one tape, where it is known to say no more. The move is by its number.
+pub struct Told {
+    pub known: bool,
+    pub write: u8,
+    pub dir: u8,
+    pub next: usize,
+}
+
+// A cell on each side of the head that was not blank when it was found, and whether the step is surely no proved loop.
+pub struct Hints {
+    pub left: usize,
+    pub right: usize,
+    pub calm: bool,
+}
+
+pub(crate) fn wide(x: u8) -> usize
+    ensures { λ r. ⌜ (r ≡ x) × (r < 256) ⌝ }
+{
+    x as usize
+}
+
+// The number of a state's first entry in a table of one tape.
+pub(crate) fn row(state: usize, k: usize) -> usize
+    requires { ⌜ (state < 65536) × (k ≤ 256) ⌝ }
+    ensures { λ r. ⌜ (r ≡ state * k) × (r ≤ 16776960) ⌝ }
+{
+    state * k
+}
+
+fn lower(a: usize, b: usize) -> usize
+    ensures { λ r. ⌜ r ≡ min a b ⌝ }
+{
+    if a < b {
+        return a;
+    }
+    b
+}
+
+fn upper(a: usize, b: usize) -> usize
+    ensures { λ r. ⌜ r ≡ max a b ⌝ }
+{
+    if a < b {
+        return b;
+    }
+    a
+}
+
+// The nearest cell below `head` that is not blank, or `head` where there is none.
+fn scan_left(cells: &[u8], head: usize) -> usize
+    requires { ⌜ head ≤ length (now cells) ⌝ }
+    ensures { λ r. ⌜ LeftSeen (now (cells .entry)) head r ⌝ }
+{
+    let mut i = head;
+    while i > 0 {
+        i -= 1;
+        if cells[i] != 0 {
+            return i;
+        }
+    }
+    head
+}
+
+// The nearest cell above `head` that is not blank, or `len` where there is none.
+fn scan_right(cells: &[u8], head: usize, len: usize) -> usize
+    requires { ⌜ (head < len) × (len ≤ length (now cells)) ⌝ }
+    ensures { λ r. ⌜ RightSeen (now (cells .entry)) head len r ⌝ }
+{
+    let mut i = head + 1;
+    while i < len {
+        if cells[i] != 0 {
+            return i;
+        }
+        i += 1;
+    }
+    len
+}
+
+// A cell below `head` that is not blank: the hint, where its cell still is such, else by a scan.
+fn left_of(cells: &[u8], head: usize, hint: usize) -> usize
+    requires { ⌜ head ≤ length (now cells) ⌝ }
+    ensures { λ r. ⌜ LeftSeen (now (cells .entry)) head r ⌝ }
+{
+    if hint < head {
+        if cells[hint] != 0 {
+            return hint;
+        }
+    }
+    scan_left(cells, head)
+}
+
+// A cell above `head` that is not blank, likewise.
+fn right_of(cells: &[u8], head: usize, len: usize, hint: usize) -> usize
+    requires { ⌜ (head < len) × (len ≤ length (now cells)) ⌝ }
+    ensures { λ r. ⌜ RightSeen (now (cells .entry)) head len r ⌝ }
+{
+    if head < hint {
+        if hint < len {
+            if cells[hint] != 0 {
+                return hint;
+            }
+        }
+    }
+    scan_right(cells, head, len)
+}
+
+// Nothing found yet.
+pub(crate) fn unseen(len: usize) -> Hints {
+    Hints {
+        left: len,
+        right: 0,
+        calm: true,
+    }
+}
+
+// Whether the step is surely no proved loop, with the hints that were found on the way.
+pub(crate) fn calm(
+    cells: &[u8],
+    len: usize,
+    proves: bool,
+    at: Hot,
+    read: u8,
+    told: Told,
+    hints: Hints,
+) -> Hints
+    requires { ⌜ (at .head < len) × (len ≤ length (now cells)) ⌝ }
+    ensures { λ h. ⌜ CalmIf (h .calm) proves (now (cells .entry)) len (at .head) read (told .write) (told .dir) (told .next) (at .state) ⌝ }
+{
+    let mut found = hints;
+    found.calm = true;
+    if told.next != at.state {
+        return found;
+    }
+    if !proves {
+        return found;
+    }
+    if told.dir == 2 {
+        found.calm = told.write != read;
+        return found;
+    }
+    if read != 0 {
+        return found;
+    }
+    if told.dir == 0 {
+        found.left = left_of(cells, at.head, hints.left);
+        found.calm = found.left < at.head;
+        return found;
+    }
+    found.right = right_of(cells, at.head, len, hints.right);
+    found.calm = found.right < len;
+    found
+}
+
+// Where the step takes the head; `len` where it leaves the cells.
+pub(crate) fn target(dir: u8, head: usize, len: usize) -> usize
+    requires { ⌜ (head < len) × (len ≤ 1073741824) ⌝ }
+    ensures { λ r. ⌜ MovedIf dir head len r ⌝ }
+{
+    if dir == 0 {
+        if head == 0 {
+            return len;
+        }
+        return head - 1;
+    }
+    if dir == 1 {
+        return head + 1;
+    }
+    head
+}
+
+// Where the burst stands after the step.
+pub(crate) fn moved(at: Hot, to: usize, next: usize) -> Hot
+    requires { ⌜ 1 ≤ at .left ⌝ }
+    ensures { λ r. ⌜ r ≡ movedTo at to next ⌝ }
+{
+    let low = lower(at.low, to);
+    let high = upper(at.high, to);
+    Hot {
+        head: to,
+        low,
+        high,
+        state: next,
+        left: at.left - 1,
+    }
+}
