@@ -1,7 +1,7 @@
 -- The word on a fresh engine's right side: the loops that count and push its runs, and the check. Assumes nothing.
 use mathlib.Core.Path.{_≡_, refl, sym, _∙_, ap, subst}
 use mathlib.Core.Bool.{Bool, true, false}
-use mathlib.Core.List.{List}
+use mathlib.Core.List.{List, [], _∷_}
 use Prim.Native.Nat.{ℕ, zero, suc, _+_, _-_, _≤_, _<_, min}
 use native.Mathlib.Omega.{arith}
 use borrow.Author.Tests.{leb-true, le-leb, lt-leb, eq-eqb, ne-eqb, eqb-true, eqb-false}
@@ -221,3 +221,7 @@ module _ (m : Machine) (s w : List ℕ) (l r : ℕ) (c : Checked) (checked : c �
         pub fresh-passed : b ≡ true → Accepted ≡ freshCheck m s w l r
         unfolding freshCheck pick
         fresh-passed e = rw (← checked, passed, eq-eqb (m .tapes) 1 one, ← spelled, good, ← sized, e)
+
+pub first-none : (w : List ℕ) → length w ≡ 0 → 0 ≡ getD w 0 0
+first-none [] h = refl
+first-none (x ∷ xs) h = absurd (omega (arith, h))

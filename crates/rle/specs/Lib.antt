@@ -3,6 +3,7 @@ pub mod Turns
 pub mod Fits
 pub mod FitsCases
 pub mod FreshCases
+pub mod OperationCases
 pub mod EngineCases
 pub mod RunCases
 pub mod Operations

@@ -1,6 +1,14 @@
 // The run-length engine: a machine of one tape, whose tape is two stacks of runs around the cell under the head.
+use machine::Checked;
+use machine::Machine;
 use outcome::Refusal;
+use sim::Answer;
+use sim::StopRule;
+use stacks::inner as stack;
 use symbol::State;
+ghost use mathlib.Core.Path.{_≡_};
+ghost use Rattle.rle.specs.Engine.{conf};
+ghost use Rattle.rle.specs.Operations.{given, runAnswer, made, newAnswer};
 
 mod checks;
 pub mod inner;
@@ -15,7 +23,8 @@ pub struct RunTape {
     pub head: u64,
 }
 
-// The engine's value. The lowest and the highest head so far are raised as the head is.
+// The engine's value: state, steps, macro steps, tape, and the lowest and the highest head so far, raised as the head
+// is. The places are lent to each call: symbols `ls` and lengths `ll` of the left side, `rs` and `rl` of the right.
 pub struct ChainSim {
     pub state: State,
     pub steps: u64,
@@ -29,4 +38,99 @@ pub struct ChainSim {
 pub enum Fresh {
     Made(ChainSim),
     Refused(Refusal),
+}
+
+// The engine handed back, with the answer.
+pub struct Answered {
+    pub sim: ChainSim,
+    pub answer: Answer,
+}
+
+impl ChainSim {
+    // Starts in the start state with the word from position 0, the head at 0, all else blank. Nothing is written on
+    // the left side's places.
+    pub fn new(
+        m: Machine,
+        table: &[u8],
+        word: &[u8],
+        ls: &[u8],
+        ll: &[u64],
+        rs: &mut [u8],
+        rl: &mut [u64],
+    ) -> Fresh
+        ensures { λ r. ⌜ made r (now (rs .exit)) (now (rl .exit)) ≡ newAnswer m (now (table .entry)) (now (word .entry)) (now (ls .entry)) (now (ll .entry)) (now (rs .entry)) (now (rl .entry)) ⌝ }
+    {
+        let checked = word::fresh_check(
+            m,
+            table,
+            word,
+            stack::places(ls, ll),
+            stack::places(rs, rl),
+        );
+        match checked {
+            Checked::Refused(why) => {
+                return Fresh::Refused(why);
+            }
+            Checked::Accepted => {
+                let right = word::lay(rs, rl, word);
+                let cur = word::first(word);
+                let start = m.start;
+                return Fresh::Made(ChainSim {
+                    state: State(start as u16),
+                    steps: 0,
+                    macros: 0,
+                    tape: RunTape {
+                        left: 0,
+                        cur,
+                        right,
+                        head: 9223372036854775808,
+                    },
+                    lowest: 9223372036854775808,
+                    highest: 9223372036854775808,
+                });
+            }
+        }
+    }
+
+    // Runs until the machine halts, is shown never to halt, has used its fuel, stops by the rule, or lacks space.
+    pub fn run(
+        self,
+        m: Machine,
+        table: &[u8],
+        ls: &mut [u8],
+        ll: &mut [u64],
+        rs: &mut [u8],
+        rl: &mut [u64],
+        rule: StopRule,
+        fuel: u64,
+    ) -> Answered
+        ensures { λ r. ⌜ given (conf (r .sim) (now (ls .exit)) (now (ll .exit)) (now (rs .exit)) (now (rl .exit))) (r .answer) ≡ runAnswer m (now (table .entry)) rule fuel (conf self (now (ls .entry)) (now (ll .entry)) (now (rs .entry)) (now (rl .entry))) ⌝ }
+    {
+        let checked = self.run_check(m, table, ls, ll, rs, rl, fuel);
+        match checked {
+            Checked::Refused(why) => {
+                return Answered {
+                    sim: self,
+                    answer: Answer::Refused(why),
+                };
+            }
+            Checked::Accepted => {
+                let stride = machine::inner::stride(m.tapes, m.symbols);
+                let ran = self.run_all(m, stride, true, rule, table, ls, ll, rs, rl, fuel);
+                let sim = ran.sim;
+                let outcome = ran.outcome;
+                return Answered {
+                    sim,
+                    answer: Answer::Done(outcome),
+                };
+            }
+        }
+    }
+
+    // How many macro steps were made.
+    pub fn macro_steps(self) -> u64
+        ensures { λ r. ⌜ r ≡ self .macros ⌝ }
+    {
+        self.macros
+    }
 }

@@ -5,7 +5,7 @@ use outcome::Refusal;
 use stacks::inner as stack;
 ghost use mathlib.Core.Path.{_≡_};
 ghost use Prim.Native.Nat.{_+_, _-_, _≤_};
-ghost use lib.ListN.{length};
+ghost use lib.ListN.{length, getD};
 ghost use Rattle.stacks.specs.Sides.{side, placesOf};
 ghost use Rattle.rle.specs.Operations.{laidOf, runsOf, freshSizes, freshCheck};
 ghost use Rattle.rle.specs.FreshCases.{moreOf};
@@ -99,4 +99,14 @@ pub(crate) fn fresh_check(
             }
         }
     }
+}
+
+// The word's first symbol; that of no word is blank.
+pub(crate) fn first(word: &[u8]) -> u8
+    ensures { λ r. ⌜ r ≡ getD (now (word .entry)) 0 0 ⌝ }
+{
+    if word.len() == 0 {
+        return 0;
+    }
+    word[0]
 }

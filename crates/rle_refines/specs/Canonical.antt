@@ -21,9 +21,9 @@ use Rattle.machine.specs.declared.Entry.the-variants.{Defined}
 use Rattle.turing.specs.TableMachine.{Table, Tape, Config, readT, entry}
 use Rattle.stacks.specs.Sides.{Side, placesOf, topOf, lacks}
 use Rattle.rle.specs.Engine.{Conf, leftOf, rightOf, fullFor}
-use Rattle.rle_refines.specs.Meaning.{Stack, empty, over, stackUpto, stackOf, top, Stream, tail, prepend, stream, streamOf, distance, look, tapeOf, configOf, RunsFit, ChainFits}
+use Rattle.rle_refines.specs.Meaning.{Stack, empty, over, stackUpto, stackOf, top, Stream, tail, prepend, stream, streamOf, distance, look, tapeOf, configOf, RunsFit, ChainFits, Alike}
 use Rattle.rle_refines.specs.Full.{height, Stacked, FullOn, FullAt}
-use Rattle.rle_refines.specs.Statement.{isFull}
+use Rattle.rle_refines.specs.Statement.{isFull, Kept}
 use Rattle.rle_refines.specs.StackFacts.{first-cell, empty-of-blank, prepend-first}
 use Rattle.rle_refines.specs.SideFacts.{top-is}
 use Rattle.rle_refines.specs.TapeFacts.{diff-distance}
@@ -88,19 +88,7 @@ held-stacks m σ f = record {
   cells = λ z. ap (λ c. look (streamOf (leftOf σ)) c (streamOf (rightOf σ)) (distance (tapeOf σ .head) z)) (sym (read-held σ));
 }
 
--- two engines that hold one configuration: all is the same but the number of macro steps, and what lies past the live runs
-pub record Alike (σ τ : Conf) : Type 0 where
-  pub state : σ .sim .state ≡ τ .sim .state
-  pub steps : σ .sim .steps ≡ τ .sim .steps
-  pub cur : σ .sim .tape .cur ≡ τ .sim .tape .cur
-  pub head : σ .sim .tape .head ≡ τ .sim .tape .head
-  pub lowest : σ .sim .lowest ≡ τ .sim .lowest
-  pub highest : σ .sim .highest ≡ τ .sim .highest
-  pub left : σ .sim .tape .left ≡ τ .sim .tape .left
-  pub right : σ .sim .tape .right ≡ τ .sim .tape .right
-  pub lefts : stackOf (leftOf σ) ≡ stackOf (leftOf τ)
-  pub rights : stackOf (rightOf σ) ≡ stackOf (rightOf τ)
-
+-- two engines that hold one configuration
 pub one-value : (m : Machine) (σ τ : Conf) → ChainFits m σ → ChainFits m τ → configOf σ ≡ configOf τ → Alike σ τ
 one-value m σ τ f g e =
     let t : tapeOf σ ≡ tapeOf τ = ap (λ (c : Config). c .tape0) e in
@@ -182,3 +170,17 @@ module _ (m : Machine) (d : Table) (σ : Conf) (f : ChainFits m σ) (a : Action)
 
   pub not-full : isFull σ a ≡ false → ¬ (FullAt m d (placesOf (σ .ls) (σ .ll)) (placesOf (σ .rs) (σ .rl)) (configOf σ))
   not-full t g = clash (full-exact .1 g) t
+
+-- and lists of the same lengths have the same places
+pub full-same : (m : Machine) (d : Table) (σ τ : Conf) → Kept m σ τ → (c : Config)
+    → FullAt m d (placesOf (σ .ls) (σ .ll)) (placesOf (σ .rs) (σ .rl)) c ↔ FullAt m d (placesOf (τ .ls) (τ .ll)) (placesOf (τ .rs) (τ .rl)) c
+full-same m d σ τ k c = (subst (λ n. n) same, subst (λ n. n) (sym same))
+  where
+    lefts : placesOf (σ .ls) (σ .ll) ≡ placesOf (τ .ls) (τ .ll)
+    lefts = omega (arith, k .same-ls, k .same-ll)
+
+    rights : placesOf (σ .rs) (σ .rl) ≡ placesOf (τ .rs) (τ .rl)
+    rights = omega (arith, k .same-rs, k .same-rl)
+
+    same : FullAt m d (placesOf (σ .ls) (σ .ll)) (placesOf (σ .rs) (σ .rl)) c ≡ FullAt m d (placesOf (τ .ls) (τ .ll)) (placesOf (τ .rs) (τ .rl)) c
+    same = λ i. FullAt m d (lefts i) (rights i) c

@@ -23,7 +23,7 @@ use Rattle.rle.specs.Fits.{zeroAt}
 use Rattle.rle.specs.Operations.{laidOf, runsOf, freshSim}
 use Rattle.rle_refines.specs.Meaning.{stackOf, top, Stream, blanks, cons, stream, streamOf, distance, look, tapeAround, configOf, RunsFit, ChainFits}
 use Rattle.rle_refines.specs.StackFacts.{total, push, push-means, push-fits, push-total, top-push}
-use Rattle.rle_refines.specs.SideFacts.{top-is, total-is, Place, push-is, Kept, kept-both, kept-same, push-kept}
+use Rattle.rle_refines.specs.SideFacts.{top-is, total-is, Place, push-is, SideKept, side-both, side-same, push-kept}
 use Rattle.rle_refines.specs.TapeFacts.{diff-distance}
 
 -- ---- the runs that a word makes
@@ -43,7 +43,7 @@ push-count s n x = by-test (eqb s (topOf x))
 -- ---- symbols n to 1 are still to be pushed
 
 pub record Laying (k : ℕ) (w : List ℕ) (n : ℕ) (x y : Side) : Type 0 where
-  pub kept : Kept x y
+  pub kept : SideKept x y
   pub runs : RunsFit k (stackOf y)
   -- the word's symbols after number n, and blanks after these
   pub cells : streamOf y ≡ (λ d. getD w (suc (n + d)) 0)
@@ -65,7 +65,7 @@ module _ (k : ℕ) (w : List ℕ) (word : (i : ℕ) → getD w i 0 < k) (x : Sid
     is : stackOf next ≡ push s 1 (stackOf y)
     is = push-is s 1 y (l .kept .live) free
 
-    next-kept : Kept y next
+    next-kept : SideKept y next
     next-kept = push-kept y (l .kept .live) s 1 free
 
     next-top : topOf next ≡ s
@@ -87,7 +87,7 @@ module _ (k : ℕ) (w : List ℕ) (word : (i : ℕ) → getD w i 0 < k) (x : Sid
 
     lay-next : Laying k w n x next
     lay-next = record {
-      kept = kept-both (l .kept) next-kept;
+      kept = side-both (l .kept) next-kept;
       runs = subst (RunsFit k) (sym is) (push-fits k s 1 (stackOf y) (omega arith) (word (suc n)) (l .runs));
       cells = next-cells;
       sum = omega (arith, l .sum, total-is (next .symbols) (next .lengths) (next .count), total-is (y .symbols) (y .lengths) (y .count), ap total is, push-total s 1 (stackOf y));
@@ -106,7 +106,7 @@ module _ (k : ℕ) (w : List ℕ) (word : (i : ℕ) → getD w i 0 < k) (x : Sid
   pub lay-first : (rs rl : List ℕ) → x ≡ side rs rl 0 → runsOf w (length w - 1) 0 0 ≤ placesOf rs rl → Laying k w (length w - 1) x (side rs rl 0)
   unfolding sumOf symbolUnder pick
   lay-first rs rl e room = record {
-    kept = rw e (kept-same (side rs rl 0) (omega arith));
+    kept = rw e (side-same (side rs rl 0) (omega arith));
     runs = tt;
     cells = fun-ext (λ d. sym (List·getD-eq-default w 0 (omega arith)));
     sum = omega arith;
@@ -126,7 +126,7 @@ module _ (m : Machine) (w ls ll rs rl : List ℕ) (word : (i : ℕ) → getD w i
   done : Laying (m .symbols) w 0 (side rs rl 0) right
   done = laid (m .symbols) w word (side rs rl 0) (length w - 1) (side rs rl 0) (lay-first (m .symbols) w word (side rs rl 0) rs rl refl room)
 
-  pub fresh-kept : Kept (side rs rl 0) right
+  pub fresh-kept : SideKept (side rs rl 0) right
   fresh-kept = done .kept
 
   pub fresh-holds : configOf engine ≡ start (m .start) w

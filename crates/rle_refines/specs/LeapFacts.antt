@@ -9,12 +9,12 @@ use Rattle.machine.specs.declared.Machine.{Machine}
 use Rattle.machine.specs.declared.Action.{Action}
 use Rattle.machine.specs.declared.Entry.the-variants.{Defined}
 use Rattle.tables.specs.WellFormed.{ActionOf}
-use Rattle.turing.specs.TableMachine.{Table, readT, entry, run, Sideways}
+use Rattle.turing.specs.TableMachine.{Table, Config, readT, entry, run, Sideways}
 use Rattle.turing.specs.Tables.{TableOf}
 use Rattle.stacks.specs.Sides.{Side, placesOf, lacks}
 use Rattle.rle.specs.declared.inner.Leap.{Leap}
 use Rattle.rle.specs.Engine.{Conf, leftOf, rightOf, Carried, carryOf, fullFor, leap, leapTo, leapOf}
-use Rattle.rle_refines.specs.Meaning.{stackOf, tail, prepend, stream, streamOf, tapeAround, tapeOf, configOf, SideFits, ChainFits}
+use Rattle.rle_refines.specs.Meaning.{stackOf, Stream, tail, prepend, stream, streamOf, tapeAround, tapeOf, configOf, SideFits, ChainFits}
 use Rattle.rle_refines.specs.Statement.{isFull, Kept}
 use Rattle.rle_refines.specs.StackFacts.{take, Reach}
 use Rattle.rle_refines.specs.SideFacts.{Carries, carry-holds}
@@ -86,17 +86,17 @@ over-reach L s w k σ o = o
 over-reach R s w k σ o = o
 over-reach N s w k σ o = absurd s
 
-module _ (m : Machine) (σ : Conf) (f : ChainFits m σ) (w n : ℕ) (some : 1 ≤ n) (w-in : w < m .symbols) (small : σ .sim .steps + n ≤ 2 ^ 62) where
+-- a macro step that ends by step 2^62 takes no position below 0
+high-enough : (m : Machine) (σ : Conf) → ChainFits m σ → (n : ℕ) → σ .sim .steps + n ≤ 2 ^ 62 → n ≤ σ .sim .tape .head
+high-enough m σ f n small = omega (arith, f .low-head, f .low-near)
+
+module _ (m : Machine) (σ : Conf) (f : ChainFits m σ) where
   sides-in : (x : Dir) → SideFits (m .symbols) (σ .sim .steps + 2 ^ 20) (behindOf x σ) × SideFits (m .symbols) (σ .sim .steps + 2 ^ 20) (aheadOn x σ)
   sides-in L = (f .rights, f .lefts)
   sides-in R = (f .lefts, f .rights)
   sides-in N = (f .lefts, f .rights)
 
-  -- a macro step that ends by step 2^62 takes no position below 0
-  pub high-enough : n ≤ σ .sim .tape .head
-  high-enough = omega (arith, f .low-head, f .low-near)
-
-  module _ (x : Dir) (s : Sideways x) (room : fullFor x w (placesOf (σ .ls) (σ .ll)) (placesOf (σ .rs) (σ .rl)) (leftOf σ) (rightOf σ) ≡ false) where
+  module _ (w n : ℕ) (some : 1 ≤ n) (w-in : w < m .symbols) (x : Dir) (s : Sideways x) (room : fullFor x w (placesOf (σ .ls) (σ .ll)) (placesOf (σ .rs) (σ .rl)) (leftOf σ) (rightOf σ) ≡ false) where
     pub carried : Carries (m .symbols) w n (σ .sim .steps + n + 2 ^ 20) (behindOf x σ) (aheadOn x σ) (carryOf w n (behindOf x σ) (aheadOn x σ))
     carried = carry-holds (m .symbols) w n (σ .sim .steps + 2 ^ 20) (σ .sim .steps + n + 2 ^ 20) (behindOf x σ) (aheadOn x σ) some (omega arith) w-in
         (sides-in x .0) (sides-in x .1) (room-behind σ x s w room)
@@ -109,37 +109,49 @@ module _ (m : Machine) (d : Table) (table : TableOf m d) (single : m .tapes ≡ 
   of-machine = table _ _ _ _ a reads
 
   module _ (k : ℕ) (small : σ .sim .steps + suc k ≤ 2 ^ 62) where
+    deep : suc k ≤ σ .sim .tape .head
+    deep = high-enough m σ f (suc k) small
+
     pub sides : Sideways (a .dir0) → Carries (m .symbols) (a .write0 .0) (suc k) (σ .sim .steps + suc k + 2 ^ 20) (behindOf (a .dir0) σ) (aheadOn (a .dir0) σ)
         (carryOf (a .write0 .0) (suc k) (behindOf (a .dir0) σ) (aheadOn (a .dir0) σ))
-    sides s = carried m σ f (a .write0 .0) (suc k) (omega arith) (of-machine .write0-in) small (a .dir0) s room
+    sides s = carried m σ f (a .write0 .0) (suc k) (omega arith) (of-machine .write0-in) (a .dir0) s room
 
     module _ (keeps : 1 ≤ k → a .next .0 ≡ σ .sim .state .0) (way : Over (a .dir0) (a .write0 .0) k σ) where
+      abbrev behind : Stream
+      behind = streamOf (behindOf (a .dir0) σ)
+
+      -- the cells ahead, without the first j
+      abbrev past : ℕ → Stream
+      past j = stream (take j (stackOf (aheadOn (a .dir0) σ)))
+
+      abbrev before : Stream → Config
+      before f = at (σ .sim .state .0) (σ .sim .steps) (facing (a .dir0) behind (σ .sim .tape .cur) f (σ .sim .tape .head) (σ .sim .lowest) (σ .sim .highest))
+
+      abbrev there : Stream → ℕ → Stream → Config
+      there b c f = at (a .next .0) (σ .sim .steps + suc k) (arrived (a .dir0) b c f (onward (a .dir0) (suc k) (σ .sim .tape .head)) (σ .sim .lowest) (σ .sim .highest))
+
+      moves : Sideways (a .dir0) → configOf (leapOf (leap a (suc k)) σ) ≡ run d (suc k) (configOf σ)
+      moves s =
+          let less : suc k - 1 ≡ k = omega arith in
+          let c = sides s in
+          leapt-facing σ (a .dir0) s (leap a (suc k))
+          ∙ (λ i. there (c .behind-cells i) (c .read i) (c .ahead-cells i))
+          ∙ (λ i. there (prepend (suc k) (a .write0 .0) behind) (past (less i) 0) (tail (past (less i))))
+          ∙ sym (walk m d table single a (σ .sim .state .0) (σ .sim .tape .cur) reads s k (σ .sim .steps) behind (past k) (σ .sim .tape .head) (σ .sim .lowest) (σ .sim .highest)
+          keeps deep (f .low-head) (f .head-high))
+          ∙ ap (λ y. run d (suc k) (before y)) (sym (over-reach (a .dir0) s (a .write0 .0) k σ way))
+          ∙ ap (run d (suc k)) (sym (held-facing σ (a .dir0)))
+
+      stays : a .dir0 ≡ N → configOf (leapOf (leap a (suc k)) σ) ≡ run d (suc k) (configOf σ)
+      stays n =
+          ap (λ x. configOf (leapTo x (leap a (suc k)) σ)) n
+          ∙ leapt-still σ (leap a (suc k))
+          ∙ sym (stand m d table single a (σ .sim .state .0) (σ .sim .tape .cur) reads n (streamOf (leftOf σ)) (streamOf (rightOf σ)) (σ .sim .tape .head) k (σ .sim .steps) (σ .sim .lowest) (σ .sim .highest)
+          (λ l. (keeps l, subst (λ x. Over x (a .write0 .0) k σ) n way l)))
+
       -- a macro step of k + 1 repeats is k + 1 steps of the table machine
       pub leap-holds : configOf (leapOf (leap a (suc k)) σ) ≡ run d (suc k) (configOf σ)
       leap-holds = by-way (a .dir0) moves stays
-        where
-          less : suc k - 1 ≡ k
-          less = omega arith
-
-          moves : Sideways (a .dir0) → configOf (leapOf (leap a (suc k)) σ) ≡ run d (suc k) (configOf σ)
-          moves s =
-              let c = sides s in
-              leapt-facing σ (a .dir0) s (leap a (suc k))
-              ∙ (λ i. at (a .next .0) (σ .sim .steps + suc k) (arrived (a .dir0) (c .behind-cells i) (c .read i) (c .ahead-cells i) (onward (a .dir0) (suc k) (σ .sim .tape .head)) (σ .sim .lowest) (σ .sim .highest)))
-              ∙ (λ i. at (a .next .0) (σ .sim .steps + suc k) (arrived (a .dir0) (prepend (suc k) (a .write0 .0) (streamOf (behindOf (a .dir0) σ))) (stream (take (less i) (stackOf (aheadOn (a .dir0) σ))) 0)
-              (tail (stream (take (less i) (stackOf (aheadOn (a .dir0) σ))))) (onward (a .dir0) (suc k) (σ .sim .tape .head)) (σ .sim .lowest) (σ .sim .highest)))
-              ∙ sym (walk m d table single a (σ .sim .state .0) (σ .sim .tape .cur) reads s k (σ .sim .steps) (streamOf (behindOf (a .dir0) σ)) (stream (take k (stackOf (aheadOn (a .dir0) σ))))
-              (σ .sim .tape .head) (σ .sim .lowest) (σ .sim .highest) keeps (high-enough m σ f (a .write0 .0) (suc k) (omega arith) (of-machine .write0-in) small) (f .low-head) (f .head-high))
-              ∙ ap (λ y. run d (suc k) (at (σ .sim .state .0) (σ .sim .steps) (facing (a .dir0) (streamOf (behindOf (a .dir0) σ)) (σ .sim .tape .cur) y (σ .sim .tape .head) (σ .sim .lowest) (σ .sim .highest))))
-              (sym (over-reach (a .dir0) s (a .write0 .0) k σ way))
-              ∙ ap (run d (suc k)) (sym (held-facing σ (a .dir0)))
-
-          stays : a .dir0 ≡ N → configOf (leapOf (leap a (suc k)) σ) ≡ run d (suc k) (configOf σ)
-          stays n =
-              ap (λ x. configOf (leapTo x (leap a (suc k)) σ)) n
-              ∙ leapt-still σ (leap a (suc k))
-              ∙ sym (stand m d table single a (σ .sim .state .0) (σ .sim .tape .cur) reads n (streamOf (leftOf σ)) (streamOf (rightOf σ)) (σ .sim .tape .head) k (σ .sim .steps) (σ .sim .lowest) (σ .sim .highest)
-              (λ l. (keeps l, subst (λ x. Over x (a .write0 .0) k σ) n way l)))
 
     -- ---- what it keeps
 
@@ -147,15 +159,12 @@ module _ (m : Machine) (d : Table) (table : TableOf m d) (single : m .tapes ≡ 
     unfolding leapTo
     leap-keeps = by (a .dir0) refl
       where
-        deep : suc k ≤ σ .sim .tape .head
-        deep = high-enough m σ f (a .write0 .0) (suc k) (omega arith) (of-machine .write0-in) small
-
         later : (x : Side) → SideFits (m .symbols) (σ .sim .steps + 2 ^ 20) x → SideFits (m .symbols) (σ .sim .steps + suc k + 2 ^ 20) x
         later x g = record { live = g .live; runs = g .runs; sum = omega (arith, g .sum) }
 
         by : (x : Dir) → a .dir0 ≡ x → Kept m σ (leapTo x (leap a (suc k)) σ)
         by L e =
-            let c = carried m σ f (a .write0 .0) (suc k) (omega arith) (of-machine .write0-in) small L tt (rw e at room) in
+            let c = carried m σ f (a .write0 .0) (suc k) (omega arith) (of-machine .write0-in) L tt (rw e at room) in
             record {
               fits = record {
                 state-in = of-machine .next-in;
@@ -177,7 +186,7 @@ module _ (m : Machine) (d : Table) (table : TableOf m d) (single : m .tapes ≡ 
               same-rl = c .behind-kept .lengths;
             }
         by R e =
-            let c = carried m σ f (a .write0 .0) (suc k) (omega arith) (of-machine .write0-in) small R tt (rw e at room) in
+            let c = carried m σ f (a .write0 .0) (suc k) (omega arith) (of-machine .write0-in) R tt (rw e at room) in
             record {
               fits = record {
                 state-in = of-machine .next-in;

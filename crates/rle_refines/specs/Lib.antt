@@ -16,3 +16,4 @@ pub mod FreshFacts
 pub mod Operations
 pub mod OperationFacts
 pub mod SpaceFacts
+pub mod CutFacts

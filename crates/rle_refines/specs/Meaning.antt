@@ -121,3 +121,17 @@ pub record ChainFits (m : Machine) (σ : Conf) : Type 0 where
   pub rights : SideFits (m .symbols) (σ .sim .steps + 2 ^ 20) (rightOf σ)
   pub left-far : 2 ^ 63 + cellsOf (leftOf σ) ≤ σ .sim .tape .head + σ .sim .steps + 2 ^ 20
   pub right-far : σ .sim .tape .head + cellsOf (rightOf σ) ≤ 2 ^ 63 + σ .sim .steps + 2 ^ 20
+
+-- ---- all is the same but the number of macro steps, and what lies past the live runs
+
+pub record Alike (σ τ : Conf) : Type 0 where
+  pub state : σ .sim .state ≡ τ .sim .state
+  pub steps : σ .sim .steps ≡ τ .sim .steps
+  pub cur : σ .sim .tape .cur ≡ τ .sim .tape .cur
+  pub head : σ .sim .tape .head ≡ τ .sim .tape .head
+  pub lowest : σ .sim .lowest ≡ τ .sim .lowest
+  pub highest : σ .sim .highest ≡ τ .sim .highest
+  pub left : σ .sim .tape .left ≡ τ .sim .tape .left
+  pub right : σ .sim .tape .right ≡ τ .sim .tape .right
+  pub lefts : stackOf (leftOf σ) ≡ stackOf (leftOf τ)
+  pub rights : stackOf (rightOf σ) ≡ stackOf (rightOf τ)

@@ -21,7 +21,7 @@ use Rattle.rle.specs.Engine.{Conf, leftOf, rightOf, carryOf, fullFor, leap, lea
 use Rattle.rle_refines.specs.Meaning.{Stack, stackOf, Stream, blanks, tail, prepend, stream, streamOf, configOf, ChainFits}
 use Rattle.rle_refines.specs.Statement.{tableIn, after, Judged, Unproved, hasRule, isFull, FullAfter, Kept}
 use Rattle.rle_refines.specs.Full.{FullAt}
-use Rattle.rle_refines.specs.Canonical.{same-action, not-full}
+use Rattle.rle_refines.specs.Canonical.{same-action, not-full, full-same}
 use Rattle.rle_refines.specs.StackFacts.{prepend-blank, take, Reach}
 use Rattle.rle_refines.specs.SideFacts.{Carries}
 use Rattle.rle_refines.specs.LeapFacts.{behindOf, aheadOn, by-way, read-held, entry-at, Over, over-reach, sides, leap-holds, leap-keeps}
@@ -161,13 +161,9 @@ module _ (k : Task) (table : TableOf (k .machine) (tableIn k)) (single : k .mach
     cut-merges = merges (a .write0 .0) (cut j) (a .dir0) (λ s. ap topOf (leapt-behind (leap a (suc j)) σ (a .dir0) s) ∙ parts j before s .again)
 
     cut-roomy : ¬ (FullAt (k .machine) (tableIn k) (placesOf (σ .ls) (σ .ll)) (placesOf (σ .rs) (σ .rl)) (configOf (cut j)))
-    cut-roomy =
+    cut-roomy g =
         let c : Kept (k .machine) σ (cut j) = cut-kept j before in
-        let l : placesOf (cut j .ls) (cut j .ll) ≡ placesOf (σ .ls) (σ .ll) = omega (arith, c .same-ls, c .same-ll) in
-        let g : placesOf (cut j .rs) (cut j .rl) ≡ placesOf (σ .rs) (σ .rl) = omega (arith, c .same-rs, c .same-rl) in
-        subst (λ x. ¬ (FullAt (k .machine) (tableIn k) x (placesOf (σ .rs) (σ .rl)) (configOf (cut j)))) l
-        (subst (λ y. ¬ (FullAt (k .machine) (tableIn k) (placesOf (cut j .ls) (cut j .ll)) y (configOf (cut j)))) g
-        (not-full (k .machine) (tableIn k) (cut j) (c .fits) a cut-entry cut-merges))
+        not-full (k .machine) (tableIn k) (cut j) (c .fits) a cut-entry cut-merges (full-same (k .machine) (tableIn k) σ (cut j) c (configOf (cut j)) .0 g)
 
     -- if all is blank ahead now, it was before
     blank-before : (s : Sideways (a .dir0)) → σ .sim .tape .cur ≡ 0 → streamOf (aheadOn (a .dir0) (cut j)) ≡ blanks → streamOf (aheadOn (a .dir0) σ) ≡ blanks

@@ -1,11 +1,13 @@
 -- What the engine plans is what the table machine's configuration asks for. Assumes nothing.
 use mathlib.Core.Path.{_≡_, refl, sym, ap, _∙_, subst}
+use mathlib.Core.Logic.{_↔_}
 use mathlib.Core.Bool.{Bool, true, false}
 use mathlib.Core.List.{List}
 use Prim.Native.Nat.{ℕ, zero, suc, _≤_, _<_}
 use native.Mathlib.Omega.{arith}
 use borrow.Author.Tests.{eqb-true, eqb-false, eq-eqb}
 use lib.Dec.{eqb}
+use lib.IntN.{ℤ}
 use Rattle.laws.specs.Choice.{pick, both}
 use Rattle.laws.specs.Tests.{clash, both-split, both-true, pick-cases}
 use Rattle.symbol.specs.declared.Dir.{Dir}
@@ -13,11 +15,12 @@ use Rattle.symbol.specs.declared.Dir.the-variants.{L, R, N}
 use Rattle.outcome.specs.declared.NonHaltProof.{NonHaltProof}
 use Rattle.outcome.specs.declared.NonHaltProof.the-variants.{StayLoop, ChainToInfinity}
 use Rattle.outcome.specs.declared.Outcome.the-variants.{OutOfFuel, NeverHalts, Stopped, Full}
+use Rattle.machine.specs.declared.Machine.{Machine}
 use Rattle.machine.specs.declared.Action.{Action}
 use Rattle.machine.specs.declared.Entry.{Entry}
 use Rattle.machine.specs.declared.Entry.the-variants.{Undefined, Defined}
 use Rattle.tables.specs.WellFormed.{ActionOf}
-use Rattle.turing.specs.TableMachine.{entry, Halted, haltedAt, Stays, Sideways, Walks, stays, walks, goes}
+use Rattle.turing.specs.TableMachine.{entry, Halted, haltedAt, Stays, Sideways, Beyond, Walks, stays, walks, goes}
 use Rattle.turing.specs.Tables.{tableOf, TableOf}
 use Rattle.sim.specs.Engine.{Task, entryOf, matches}
 use Rattle.rle.specs.declared.inner.Sure.{Sure}
@@ -25,7 +28,7 @@ use Rattle.rle.specs.declared.inner.Sure.the-variants.{Open, Loops}
 use Rattle.rle.specs.declared.inner.Plan.{Plan}
 use Rattle.rle.specs.declared.inner.Plan.the-variants.{Stop, Go}
 use Rattle.rle.specs.Engine.{Conf, leftOf, rightOf, patternOf, sureOf, chainFor, repeatsOf, leap, spaceOf, fuelOf, neverOf, planOn, planOf}
-use Rattle.rle_refines.specs.Meaning.{Stack, empty, stackUpto, stackOf, blanks, stream, streamOf, configOf, ChainFits}
+use Rattle.rle_refines.specs.Meaning.{Stack, empty, stackUpto, stackOf, blanks, stream, streamOf, tapeOf, configOf, RunsFit, ChainFits}
 use Rattle.rle_refines.specs.Statement.{tableIn, Judged, Unproved, hasRule, isFull}
 use Rattle.rle_refines.specs.StackFacts.{Reach, reach-blank, reach-none, reach-run, empty-of-blank}
 use Rattle.rle_refines.specs.SideFacts.{ahead-is}
@@ -37,6 +40,33 @@ use Rattle.rle_refines.specs.LeapFacts.{aheadOn, read-held, entry-at, Ov
 none-empty : (ss ls : List ℕ) (n : ℕ) → stackUpto ss ls n ≡ empty → n ≡ 0
 none-empty ss ls zero e = refl
 none-empty ss ls (suc n) e = let z : _≡_ {A = ℕ} 0 1 = cc in absurd (omega arith)
+
+module _ (σ : Conf) where
+  abbrev pub BlankBeyond : Dir → Type 0
+  BlankBeyond x = (z : ℤ) → Beyond x (tapeOf σ .head) z → tapeOf σ .cell z ≡ 0
+
+  stream-beyond : (x : Dir) → streamOf (aheadOn x σ) ≡ blanks → BlankBeyond x
+  stream-beyond L e = beyond-blank (σ .sim .tape .cur) (σ .sim .tape .head) (σ .sim .lowest) (σ .sim .highest) L (streamOf (rightOf σ)) (streamOf (leftOf σ)) e
+  stream-beyond R e = beyond-blank (σ .sim .tape .cur) (σ .sim .tape .head) (σ .sim .lowest) (σ .sim .highest) R (streamOf (leftOf σ)) (streamOf (rightOf σ)) e
+  stream-beyond N e = λ z b. absurd b
+
+  beyond-stream : (x : Dir) → Sideways x → BlankBeyond x → streamOf (aheadOn x σ) ≡ blanks
+  beyond-stream L s b = blank-beyond (σ .sim .tape .cur) (σ .sim .tape .head) (σ .sim .lowest) (σ .sim .highest) L s (streamOf (rightOf σ)) (streamOf (leftOf σ)) b
+  beyond-stream R s b = blank-beyond (σ .sim .tape .cur) (σ .sim .tape .head) (σ .sim .lowest) (σ .sim .highest) R s (streamOf (leftOf σ)) (streamOf (rightOf σ)) b
+  beyond-stream N s b = absurd s
+
+module _ (m : Machine) (σ : Conf) (f : ChainFits m σ) where
+  ahead-runs : (x : Dir) → RunsFit (m .symbols) (stackOf (aheadOn x σ))
+  ahead-runs L = f .lefts .runs
+  ahead-runs R = f .rights .runs
+  ahead-runs N = f .rights .runs
+
+  -- a side is empty exactly where every cell strictly beyond the head that way is blank
+  pub empty-exact : (x : Dir) → Sideways x → (aheadOn x σ .count ≡ 0) ↔ BlankBeyond σ x
+  empty-exact x s = (
+    λ e. stream-beyond σ x (ap (λ n. stream (stackUpto (aheadOn x σ .symbols) (aheadOn x σ .lengths) n)) e),
+    λ b. none-empty _ _ _ (empty-of-blank (m .symbols) (stackOf (aheadOn x σ)) (ahead-runs x) (beyond-stream σ x s b)),
+  )
 
 -- ---- the two patterns
 
@@ -59,25 +89,20 @@ module _ (k : Task) (single : k .machine .tapes ≡ 1) (σ : Conf) (f : ChainFit
   }
 
   pub walks-says : (x : Dir) → Sideways x → a .next .0 ≡ σ .sim .state .0 → a .dir0 ≡ x → σ .sim .tape .cur ≡ 0 → streamOf (aheadOn x σ) ≡ blanks → Walks (k .machine .tapes) (configOf σ) a x
-  walks-says L s q n z e = record {
-    single = single; same-state = q; moves = n; sideways = s; blank = read-held σ ∙ z;
-    beyond = beyond-blank (σ .sim .tape .cur) (σ .sim .tape .head) (σ .sim .lowest) (σ .sim .highest) L (streamOf (rightOf σ)) (streamOf (leftOf σ)) e;
+  walks-says x s q n z e = record {
+    single = single;
+    same-state = q;
+    moves = n;
+    sideways = s;
+    blank = read-held σ ∙ z;
+    beyond = stream-beyond σ x e;
   }
-  walks-says R s q n z e = record {
-    single = single; same-state = q; moves = n; sideways = s; blank = read-held σ ∙ z;
-    beyond = beyond-blank (σ .sim .tape .cur) (σ .sim .tape .head) (σ .sim .lowest) (σ .sim .highest) R (streamOf (leftOf σ)) (streamOf (rightOf σ)) e;
-  }
-  walks-says N s q n z e = absurd s
 
   pub walks-blank : (x : Dir) → Walks (k .machine .tapes) (configOf σ) a x → streamOf (aheadOn x σ) ≡ blanks
-  walks-blank L w = blank-beyond (σ .sim .tape .cur) (σ .sim .tape .head) (σ .sim .lowest) (σ .sim .highest) L (w .sideways) (streamOf (rightOf σ)) (streamOf (leftOf σ)) (w .beyond)
-  walks-blank R w = blank-beyond (σ .sim .tape .cur) (σ .sim .tape .head) (σ .sim .lowest) (σ .sim .highest) R (w .sideways) (streamOf (leftOf σ)) (streamOf (rightOf σ)) (w .beyond)
-  walks-blank N w = absurd (w .sideways)
+  walks-blank x w = beyond-stream σ x (w .sideways) (w .beyond)
 
   walks-empty : (x : Dir) → Walks (k .machine .tapes) (configOf σ) a x → stackOf (aheadOn x σ) ≡ empty
-  walks-empty L w = empty-of-blank (k .machine .symbols) (stackOf (leftOf σ)) (f .lefts .runs) (walks-blank L w)
-  walks-empty R w = empty-of-blank (k .machine .symbols) (stackOf (rightOf σ)) (f .rights .runs) (walks-blank R w)
-  walks-empty N w = absurd (w .sideways)
+  walks-empty x w = empty-of-blank (k .machine .symbols) (stackOf (aheadOn x σ)) (ahead-runs (k .machine) σ f x) (walks-blank x w)
 
   -- "all tapes stay and rewrite", or "the cell read is blank .. and every cell strictly beyond the head that way is blank": an empty side, and no other
   pattern-sees : (x : Dir) → a .dir0 ≡ x → a .next .0 ≡ σ .sim .state .0

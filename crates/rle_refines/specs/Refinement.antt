@@ -22,6 +22,7 @@ use Rattle.rle.specs.Engine.{Conf, leap, leapOf, End, end, onPlan, runWithin, r
 use Rattle.rle_refines.specs.Meaning.{configOf, ChainFits}
 use Rattle.rle_refines.specs.Full.{FullAt}
 use Rattle.rle_refines.specs.Statement.{tableIn, after, Unproved, hasRule, isFull, Kept, Went, Answers, verdict, halted, spent, stopped, full, Refines, ChainRefines}
+use Rattle.rle_refines.specs.Canonical.{full-same}
 use Rattle.rle_refines.specs.PlanFacts as P
 use Rattle.rle_refines.specs.PlanFacts.{Repeats, Plans, plan-right}
 use Rattle.rle_refines.specs.MidFacts.{leapt-steps, leapt-macros, cut-holds, cut-kept, way-entry, way-unproved, way-unmatched, way-roomy}
@@ -66,6 +67,49 @@ module _ (k : Task) (fuel : ℕ) (σ : Conf) where
   ends-here : (o : Outcome) → ChainFits (k .machine) σ → Plans k fuel σ (Stop o) → Refines k fuel σ (end σ o)
   ends-here o f p = record { made = 0; within = omega arith; went = stands f; answers = answers-here p }
 
+-- ---- one way, and another from there
+
+module _ (k : Task) (n made : ℕ) (σ τ e : Conf) (w : Went k n σ τ) (v : Went k made τ e) where
+  -- i steps after the first way
+  later : (i : ℕ) → after k i τ ≡ after k (n + i) σ
+  later i = ap (run (tableIn k) i) (w .holds) ∙ sym (run-add (tableIn k) n i (configOf σ))
+
+  -- what holds of all on the first way, and on the second, holds of all
+  all-along : (P : Config → Type 0) → ((i : ℕ) → i < n → P (after k i σ)) → ((i : ℕ) → i < made → P (after k i τ)) → (i : ℕ) → i < n + made → P (after k i σ)
+  all-along P h g i l = by (decLt i n)
+    where
+      by : Dec (i < n) → P (after k i σ)
+      by (yes x) = h i x
+      by (no x) = let q : n + (i - n) ≡ i = omega arith in subst (λ c. P (after k c σ)) q (subst P (later (i - n)) (g (i - n) (omega arith)))
+
+  pub went-both : Went k (n + made) σ e
+  went-both = record {
+    holds = v .holds ∙ later made;
+    counted = omega (arith, w .counted, v .counted);
+    macros = omega (arith, w .macros, v .macros);
+    kept = kept-both (k .machine) σ τ e (w .kept) (v .kept);
+    running = all-along (λ c. ¬ (Halted (tableIn k) c)) (w .running) (v .running);
+    unproved = all-along (Unproved k) (w .unproved) (v .unproved);
+    unmatched = all-along (λ c. hasRule k c ≡ false) (w .unmatched) (v .unmatched);
+    roomy = all-along (λ c. ¬ (FullAt (k .machine) (tableIn k) (placesOf (σ .ls) (σ .ll)) (placesOf (σ .rs) (σ .rl)) c)) (w .roomy)
+        (λ i l g. v .roomy i l (full-same (k .machine) (tableIn k) σ τ (w .kept) (after k i τ) .0 g));
+  }
+
+pub answers-later : (k : Task) (n : ℕ) {fuel made : ℕ} {e : Conf} {o : Outcome} → Answers k fuel made e o → Answers k (n + fuel) (n + made) e o
+answers-later k n (verdict o t v g) = verdict o t v (λ i h. ap (λ x. n + x) (g i h))
+answers-later k n (halted t h) = halted t h
+answers-later k n (spent t h q) = spent t h (ap (λ x. n + x) q)
+answers-later k n (stopped b l h v q) = stopped b (omega arith) h v q
+answers-later k n (full b l h v q g) = full b (omega arith) h v q g
+
+pub refines-later : (k : Task) (n fuel : ℕ) (σ τ : Conf) (x : End) → Went k n σ τ → Refines k fuel τ x → Refines k (n + fuel) σ x
+refines-later k n fuel σ τ x w r = record {
+  made = n + r .made;
+  within = omega (arith, r .within);
+  went = went-both k n (r .made) σ τ (x .at) w (r .went);
+  answers = answers-later k n (r .answers);
+}
+
 -- ---- a macro step, and a run from there
 
 module _ (k : Task) (table : TableOf (k .machine) (tableIn k)) (single : k .machine .tapes ≡ 1) (σ : Conf) (f : ChainFits (k .machine) σ)
@@ -80,64 +124,28 @@ module _ (k : Task) (table : TableOf (k .machine) (tableIn k)) (single : k .mach
   so-far : σ .sim .steps + suc j ≤ 2 ^ 62
   so-far = omega (arith, within-fuel)
 
-  next-holds : configOf next ≡ after k (suc j) σ
-  next-holds = cut-holds k table single σ f a e room fuel (suc j) r so-far j (omega arith)
-
-  pub next-kept : Kept (k .machine) σ next
-  next-kept = cut-kept k table single σ f a e room fuel (suc j) r so-far j (omega arith)
-
   next-steps : next .sim .steps ≡ σ .sim .steps + suc j
   next-steps = leapt-steps (leap a (suc j)) σ (a .dir0)
 
   pub next-small : next .sim .steps + (fuel - suc j) ≤ 2 ^ 62
   next-small = omega (arith, next-steps, within-fuel)
 
-  same-left : placesOf (next .ls) (next .ll) ≡ placesOf (σ .ls) (σ .ll)
-  same-left = omega (arith, next-kept .same-ls, next-kept .same-ll)
-
-  same-right : placesOf (next .rs) (next .rl) ≡ placesOf (σ .rs) (σ .rl)
-  same-right = omega (arith, next-kept .same-rs, next-kept .same-rl)
-
-  -- i steps after the macro step
-  later : (i : ℕ) → after k i next ≡ after k (suc j + i) σ
-  later i = ap (run (tableIn k) i) next-holds ∙ sym (run-add (tableIn k) (suc j) i (configOf σ))
-
-  -- what holds on the way of the macro step, and of those after it, holds of all
-  all-along : (P : Config → Type 0) (n : ℕ) → ((i : ℕ) → i < suc j → P (after k i σ)) → ((i : ℕ) → i < n → P (after k i next)) → (i : ℕ) → i < suc j + n → P (after k i σ)
-  all-along P n h g i l = by (decLt i (suc j))
-    where
-      by : Dec (i < suc j) → P (after k i σ)
-      by (yes x) = h i x
-      by (no x) = let q : suc j + (i - suc j) ≡ i = omega arith in subst (λ c. P (after k c σ)) q (subst P (later (i - suc j)) (g (i - suc j) (omega arith)))
-
-  goes-there : (made : ℕ) (τ : Conf) → Went k made next τ → Went k (suc j + made) σ τ
-  goes-there made τ w = record {
-    holds = w .holds ∙ later made;
-    counted = omega (arith, w .counted, next-steps);
-    macros = omega (arith, w .macros, leapt-macros (leap a (suc j)) σ (a .dir0));
-    kept = kept-both (k .machine) σ next τ next-kept (w .kept);
-    running = all-along (λ c. ¬ (Halted (tableIn k) c)) made (λ i l h. not-defined _ a h (way-entry k table single σ f a e room fuel (suc j) r so-far i l)) (w .running);
-    unproved = all-along (Unproved k) made (way-unproved k table single σ f a e room fuel (suc j) r so-far u) (w .unproved);
-    unmatched = all-along (λ c. hasRule k c ≡ false) made (way-unmatched k table single σ f a e room fuel (suc j) r so-far unruled) (w .unmatched);
-    roomy = all-along (λ c. ¬ (FullAt (k .machine) (tableIn k) (placesOf (σ .ls) (σ .ll)) (placesOf (σ .rs) (σ .rl)) c)) made (way-roomy k table single σ f a e room fuel (suc j) r so-far)
-        (λ i l g. w .roomy i l (subst (λ x. FullAt (k .machine) (tableIn k) x (placesOf (next .rs) (next .rl)) (after k i next)) (sym same-left)
-        (subst (λ y. FullAt (k .machine) (tableIn k) (placesOf (σ .ls) (σ .ll)) y (after k i next)) (sym same-right) g)));
+  pub leap-went : Went k (suc j) σ next
+  leap-went = record {
+    holds = cut-holds k table single σ f a e room fuel (suc j) r so-far j (omega arith);
+    counted = next-steps;
+    macros = omega (arith, leapt-macros (leap a (suc j)) σ (a .dir0));
+    kept = cut-kept k table single σ f a e room fuel (suc j) r so-far j (omega arith);
+    running = λ i l h. not-defined _ a h (way-entry k table single σ f a e room fuel (suc j) r so-far i l);
+    unproved = way-unproved k table single σ f a e room fuel (suc j) r so-far u;
+    unmatched = way-unmatched k table single σ f a e room fuel (suc j) r so-far unruled;
+    roomy = way-roomy k table single σ f a e room fuel (suc j) r so-far;
   }
-
-  answers-there : {made : ℕ} {τ : Conf} {o : Outcome} → Answers k (fuel - suc j) made τ o → Answers k fuel (suc j + made) τ o
-  answers-there (verdict o t v g) = verdict o t v (λ n h. omega (arith, g n h, within-fuel))
-  answers-there (halted t h) = halted t h
-  answers-there (spent t h q) = spent t h (omega (arith, within-fuel))
-  answers-there (stopped b l h v q) = stopped b (omega (arith, within-fuel)) h v q
-  answers-there (full b l h v q g) = full b (omega (arith, within-fuel)) h v q g
 
   runs-on : (x : End) → Refines k (fuel - suc j) next x → Refines k fuel σ x
-  runs-on x y = record {
-    made = suc j + y .made;
-    within = omega (arith, y .within, within-fuel);
-    went = goes-there (y .made) (x .at) (y .went);
-    answers = answers-there (y .answers);
-  }
+  runs-on x y =
+      let q : suc j + (fuel - suc j) ≡ fuel = omega (arith, within-fuel) in
+      subst (λ n. Refines k n σ x) q (refines-later k (suc j) (fuel - suc j) σ next x leap-went y)
 
 -- ---- the run
 
@@ -158,7 +166,7 @@ module _ (k : Task) (table : TableOf (k .machine) (tableIn k)) (single : k .mach
       by on (P.lacks-place a e u g r h) = ends-here k fuel σ _ f (P.lacks-place a e u g r h)
       by on (P.leaps a zero e u g h r) = absurd (omega (arith, r .some))
       by on (P.leaps a (suc j) e u g h r) = runs-on k table single σ f a e u g h fuel j r small _
-          (on (leap a (suc j)) (next-kept k table single σ f a e u g h fuel j r small .fits) (next-small k table single σ f a e u g h fuel j r small) (omega (arith, r .within)))
+          (on (leap a (suc j)) (leap-went k table single σ f a e u g h fuel j r small .kept .fits) (next-small k table single σ f a e u g h fuel j r small) (omega (arith, r .within)))
 
   pub run-refines : (fuel : ℕ) (σ : Conf) → ChainFits (k .machine) σ → σ .sim .steps + fuel ≤ 2 ^ 62 → Refines k fuel σ (runOf k fuel σ)
   unfolding runOf
@@ -182,7 +190,7 @@ module _ (k : Task) (table : TableOf (k .machine) (tableIn k)) (single : k .mach
       by on (P.stops a e u x r) = refl
       by on (P.lacks-place a e u x r h) = refl
       by on (P.leaps a zero e u x h r) = absurd (omega (arith, r .some))
-      by on (P.leaps a (suc j) e u x h r) = on (leap a (suc j)) (next-kept k table single σ f a e u x h fuel j r small .fits) (next-small k table single σ f a e u x h fuel j r small)
+      by on (P.leaps a (suc j) e u x h r) = on (leap a (suc j)) (leap-went k table single σ f a e u x h fuel j r small .kept .fits) (next-small k table single σ f a e u x h fuel j r small)
           (omega (arith, r .within)) (omega (arith, r .within))
 
 pub chain-refines : ChainRefines

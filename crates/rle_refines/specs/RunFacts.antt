@@ -29,7 +29,7 @@ use Rattle.rle_refines.specs.Meaning.{configOf, ChainFits}
 use Rattle.rle_refines.specs.Statement.{tableIn, Judged, Kept, Answers, verdict, Refines}
 use Rattle.rle_refines.specs.PlanFacts as P
 use Rattle.rle_refines.specs.PlanFacts.{Plans, plan-right}
-use Rattle.rle_refines.specs.Refinement.{next-kept, next-small, within-same, chain-refines}
+use Rattle.rle_refines.specs.Refinement.{leap-went, next-small, within-same, chain-refines}
 
 module _ (k : Task) (table : TableOf (k .machine) (tableIn k)) (single : k .machine .tapes ≡ 1) where
   -- ---- a run is its plan, and the rest
@@ -51,7 +51,7 @@ module _ (k : Task) (table : TableOf (k .machine) (tableIn k)) (single : k .mach
     turned-by j (P.leaps a (suc n) e u g h r) = record {
       some = r .some;
       within = r .within;
-      kept = next-kept k table single σ f a e u g h fuel n r small;
+      kept = leap-went k table single σ f a e u g h fuel n r small .kept;
       small = next-small k table single σ f a e u g h fuel n r small;
     }
 

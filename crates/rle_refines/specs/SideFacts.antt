@@ -99,35 +99,35 @@ take-is n ss ls (suc c) h =
 
 -- ---- the lengths of the lists are kept, and the live runs have places
 
-pub record Kept (x y : Side) : Type 0 where
+pub record SideKept (x y : Side) : Type 0 where
   pub symbols : length (y .symbols) ≡ length (x .symbols)
   pub lengths : length (y .lengths) ≡ length (x .lengths)
   pub live : y .count ≤ placesOf (y .symbols) (y .lengths)
 
-pub kept-both : {x y z : Side} → Kept x y → Kept y z → Kept x z
-kept-both p q = record { symbols = q .symbols ∙ p .symbols; lengths = q .lengths ∙ p .lengths; live = q .live }
+pub side-both : {x y z : Side} → SideKept x y → SideKept y z → SideKept x z
+side-both p q = record { symbols = q .symbols ∙ p .symbols; lengths = q .lengths ∙ p .lengths; live = q .live }
 
 module _ (x : Side) (live : x .count ≤ placesOf (x .symbols) (x .lengths)) where
-  pub kept-same : Kept x x
-  kept-same = record { symbols = refl; lengths = refl; live = live }
+  pub side-same : SideKept x x
+  side-same = record { symbols = refl; lengths = refl; live = live }
 
   -- where only the lengths of runs are written
-  less-kept : (j v count : ℕ) → count ≤ x .count → Kept x (side (x .symbols) (set (x .lengths) j v) count)
+  less-kept : (j v count : ℕ) → count ≤ x .count → SideKept x (side (x .symbols) (set (x .lengths) j v) count)
   less-kept j v c l = record { symbols = refl; lengths = length-set (x .lengths) j v; live = omega (arith, length-set (x .lengths) j v) }
 
-  pub push-kept : (s n : ℕ) → Place s x → Kept x (pushOf s n x)
+  pub push-kept : (s n : ℕ) → Place s x → SideKept x (pushOf s n x)
   unfolding pushOf grownOf
-  push-kept s n p = pick-cases (eqb s (topOf x)) _ _ (Kept x)
-      (λ _. pick-cases (eqb (x .count) 0) _ _ (Kept x) (λ _. kept-same) (λ _. less-kept _ _ (x .count) (omega arith)))
+  push-kept s n p = pick-cases (eqb s (topOf x)) _ _ (SideKept x)
+      (λ _. pick-cases (eqb (x .count) 0) _ _ (SideKept x) (λ _. side-same) (λ _. less-kept _ _ (x .count) (omega arith)))
       (λ t. record {
         symbols = length-set (x .symbols) (x .count) s;
         lengths = length-set (x .lengths) (x .count) n;
         live = omega (arith, length-set (x .symbols) (x .count) s, length-set (x .lengths) (x .count) n, p (eqb-false _ _ t));
       })
 
-  pub take-kept : (n : ℕ) → Kept x (takeOf n x)
+  pub take-kept : (n : ℕ) → SideKept x (takeOf n x)
   unfolding takeOf
-  take-kept n = pick-cases (eqb (x .count) 0) _ _ (Kept x) (λ _. kept-same)
+  take-kept n = pick-cases (eqb (x .count) 0) _ _ (SideKept x) (λ _. side-same)
       (λ _. less-kept _ _ _ (pick-cases (eqb (getD (x .lengths) (x .count - 1) 0 - n) 0) (x .count - 1) (x .count) (λ c. c ≤ x .count) (λ _. omega arith) (λ _. omega arith)))
 
 -- ---- a macro step's two sides
@@ -139,8 +139,8 @@ pub record Carries (k w n later : ℕ) (b a : Side) (c : Carried) : Type 0 where
   pub read-top : c .cur ≡ top (take (n - 1) (stackOf a))
   pub ahead-cells : streamOf (c .ahead) ≡ tail (stream (take (n - 1) (stackOf a)))
   pub read-in : 0 < k → c .cur < k
-  pub behind-kept : Kept b (c .behind)
-  pub ahead-kept : Kept a (c .ahead)
+  pub behind-kept : SideKept b (c .behind)
+  pub ahead-kept : SideKept a (c .ahead)
   pub behind-fits : SideFits k later (c .behind)
   pub ahead-fits : SideFits k later (c .ahead)
   pub behind-sum : cellsOf (c .behind) ≤ cellsOf b + n
@@ -162,10 +162,10 @@ module _ (k w n most later : ℕ) (b a : Side) (some : 1 ≤ n) (grown : most + 
   free : Place w b
   free = place w b room
 
-  rest-kept : Kept a rest
+  rest-kept : SideKept a rest
   rest-kept = take-kept a (fa .live) (n - 1)
 
-  last-kept : Kept rest last
+  last-kept : SideKept rest last
   last-kept = take-kept rest (rest-kept .live) 1
 
   behind-is : stackOf (pushOf w n b) ≡ push w n (stackOf b)
@@ -201,7 +201,7 @@ module _ (k w n most later : ℕ) (b a : Side) (some : 1 ≤ n) (grown : most + 
     ahead-cells = ap stream last-is ∙ sym (other-cells k left-over rest-fits);
     read-in = λ h. rw top-read (top-below k left-over h rest-fits);
     behind-kept = push-kept b (fb .live) w n free;
-    ahead-kept = kept-both rest-kept last-kept;
+    ahead-kept = side-both rest-kept last-kept;
     behind-fits = record {
       live = push-kept b (fb .live) w n free .live;
       runs = subst (RunsFit k) (sym behind-is) (push-fits k w n (stackOf b) some w-in (fb .runs));

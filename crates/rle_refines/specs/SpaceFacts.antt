@@ -18,21 +18,16 @@ use Rattle.stacks.specs.Sides.{placesOf}
 use Rattle.rle.specs.Engine.{Conf, End, runOf}
 use Rattle.rle_refines.specs.Meaning.{configOf, ChainFits}
 use Rattle.rle_refines.specs.Full.{FullAt}
-use Rattle.rle_refines.specs.Statement.{tableIn, after, FullAfter, Kept, Answers, verdict, halted, spent, stopped, full, Refines}
-use Rattle.rle_refines.specs.Canonical.{full-exact}
+use Rattle.rle_refines.specs.Statement.{tableIn, after, FullAfter, FullWithin, Kept, Answers, verdict, halted, spent, stopped, full, Refines}
+use Rattle.rle_refines.specs.Canonical.{full-exact, full-same}
 use Rattle.rle_refines.specs.Refinement.{run-refines}
-
--- one of the next `fuel` steps is full
-pub record FullWithin (k : Task) (fuel : ℕ) (σ : Conf) : Type 0 where
-  pub at : ℕ
-  pub within : at < fuel
-  pub is : FullAfter k at σ
 
 module _ (k : Task) (quiet : k .proves ≡ false) (unruled : (q : State) → matches (k .rule) q ≡ false) (fuel : ℕ) (σ : Conf) where
   -- how such a run can end
   pub data Ends (e : End) : Type 0 where
     -- for lack of space
-    lacks-space : (made : ℕ) → made < fuel → e .outcome ≡ Full (e .at .sim .steps) → configOf (e .at) ≡ after k made σ → FullAfter k made σ → Ends e
+    lacks-space : (made : ℕ) → made < fuel → e .outcome ≡ Full (e .at .sim .steps) → configOf (e .at) ≡ after k made σ
+        → ((j : ℕ) → j < made → ¬ (FullAfter k j σ)) → FullAfter k made σ → Ends e
     -- with all the steps made, or at the halt
     goes-through : ((n : ℕ) → ¬ (e .outcome ≡ Full n)) → configOf (e .at) ≡ after k fuel σ → ((j : ℕ) → j < fuel → ¬ (FullAfter k j σ)) → Ends e
 
@@ -45,12 +40,8 @@ module _ (k : Task) (quiet : k .proves ≡ false) (unruled : (q : State) → mat
 
     -- the step from where the run ended, with the places of the start
     full-here : FullAt (k .machine) (tableIn k) (placesOf (τ .ls) (τ .ll)) (placesOf (τ .rs) (τ .rl)) (configOf (e .at)) → FullAfter k (r .made) σ
-    full-here g =
-        let l : placesOf (τ .ls) (τ .ll) ≡ placesOf (σ .ls) (σ .ll) = omega (arith, kept .same-ls, kept .same-ll) in
-        let h : placesOf (τ .rs) (τ .rl) ≡ placesOf (σ .rs) (σ .rl) = omega (arith, kept .same-rs, kept .same-rl) in
-        subst (FullAt (k .machine) (tableIn k) (placesOf (σ .ls) (σ .ll)) (placesOf (σ .rs) (σ .rl))) (r .went .holds)
-        (subst (λ x. FullAt (k .machine) (tableIn k) x (placesOf (σ .rs) (σ .rl)) (configOf (e .at))) l
-        (subst (λ y. FullAt (k .machine) (tableIn k) (placesOf (τ .ls) (τ .ll)) y (configOf (e .at))) h g))
+    full-here g = subst (FullAt (k .machine) (tableIn k) (placesOf (σ .ls) (σ .ll)) (placesOf (σ .rs) (σ .rl))) (r .went .holds)
+        (full-same (k .machine) (tableIn k) σ τ kept (configOf τ) .1 g)
 
     -- a halted configuration stays, and no step from it is full
     halted-stays : Halted (tableIn k) (configOf (e .at)) → (j : ℕ) → r .made ≤ j → after k j σ ≡ after k (r .made) σ
@@ -72,7 +63,7 @@ module _ (k : Task) (quiet : k .proves ≡ false) (unruled : (q : State) → mat
     ends-by q (halted t h) = halted-through h (λ n p. let z : _≡_ {A = ℕ} 0 1 = cc in omega arith)
     ends-by q (spent t h p) = spent-through p (λ n p. let z : _≡_ {A = ℕ} 0 1 = cc in omega arith)
     ends-by q (stopped a l h u p) = absurd (clash p (unruled _))
-    ends-by q (full a l h u p g) = lacks-space (r .made) l q (r .went .holds) (full-here (full-exact (k .machine) (tableIn k) τ (kept .fits) a h .0 g))
+    ends-by q (full a l h u p g) = lacks-space (r .made) l q (r .went .holds) (r .went .roomy) (full-here (full-exact (k .machine) (tableIn k) τ (kept .fits) a h .0 g))
 
   module _ (table : TableOf (k .machine) (tableIn k)) (single : k .machine .tapes ≡ 1) (f : ChainFits (k .machine) σ) (small : σ .sim .steps + fuel ≤ 2 ^ 62) where
     refined : Refines k fuel σ (runOf k fuel σ)
@@ -85,11 +76,11 @@ module _ (k : Task) (quiet : k .proves ≡ false) (unruled : (q : State) → mat
     full-iff = (to run-ends-so, back run-ends-so)
       where
         to : Ends (runOf k fuel σ) → (n : ℕ) × (runOf k fuel σ .outcome ≡ Full n) → FullWithin k fuel σ
-        to (lacks-space made l o h g) p = record { at = made; within = l; is = g }
+        to (lacks-space made l o h r g) p = record { at = made; within = l; is = g }
         to (goes-through n h g) p = absurd (n (p .0) (p .1))
 
         back : Ends (runOf k fuel σ) → FullWithin k fuel σ → (n : ℕ) × (runOf k fuel σ .outcome ≡ Full n)
-        back (lacks-space made l o h g) p = (runOf k fuel σ .at .sim .steps, o)
+        back (lacks-space made l o h r g) p = (runOf k fuel σ .at .sim .steps, o)
         back (goes-through n h g) p = absurd (g (p .at) (p .within) (p .is))
 
     -- where it does not end so, all the steps are made, or the machine has halted
@@ -97,5 +88,5 @@ module _ (k : Task) (quiet : k .proves ≡ false) (unruled : (q : State) → mat
     goes-all-the-way q = by run-ends-so
       where
         by : Ends (runOf k fuel σ) → configOf (runOf k fuel σ .at) ≡ after k fuel σ
-        by (lacks-space made l o h g) = absurd (q _ o)
+        by (lacks-space made l o h r g) = absurd (q _ o)
         by (goes-through n h g) = h

@@ -51,6 +51,12 @@ isFull σ a = fullFor (a .dir0) (a .write0 .0) (placesOf (σ .ls) (σ .ll)) (pla
 abbrev pub FullAfter : Task → ℕ → Conf → Type 0
 FullAfter k j σ = FullAt (k .machine) (tableIn k) (placesOf (σ .ls) (σ .ll)) (placesOf (σ .rs) (σ .rl)) (after k j σ)
 
+-- one of the next `fuel` steps is full
+pub record FullWithin (k : Task) (fuel : ℕ) (σ : Conf) : Type 0 where
+  pub at : ℕ
+  pub within : at < fuel
+  pub is : FullAfter k at σ
+
 -- ---- a run
 
 -- what a run keeps: e fits, and its lists are as long as those of σ
