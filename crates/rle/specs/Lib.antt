@@ -7,3 +7,4 @@ pub mod OperationCases
 pub mod EngineCases
 pub mod RunCases
 pub mod Operations
+pub mod Questions

@@ -1,3 +1,4 @@
 pub mod Sides
 pub mod SideCases
 pub mod SideFacts
+pub mod QuestionCases

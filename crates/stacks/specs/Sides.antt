@@ -72,3 +72,30 @@ sumOf ls (suc n) = sumOf ls n + getD ls n 0
 
 abbrev pub cellsOf : Side → ℕ
 cellsOf x = sumOf (x .lengths) (x .count)
+
+-- ---- questions
+
+-- the symbol at distance d from the head, where the next cell is at 0, among the first n runs, the last of these next to the head
+unfoldable pub symbolIn : (ss ls : List ℕ) → (n d : ℕ) → ℕ
+symbolIn ss ls zero d = 0
+symbolIn ss ls (suc n) d =
+    let further : ℕ = symbolIn ss ls n (d - getD ls n 0) in
+    pick (ltb d (getD ls n 0)) (getD ss n 0) further
+
+abbrev pub cellAt : Side → ℕ → ℕ
+cellAt x d = symbolIn (x .symbols) (x .lengths) (x .count) d
+
+-- how many cells of run i are not blank
+abbrev pub weightAt : (ss ls : List ℕ) → ℕ → ℕ
+weightAt ss ls i = pick (eqb (getD ss i 0) 0) 0 (getD ls i 0)
+
+unfoldable pub weightOf : (ss ls : List ℕ) → ℕ → ℕ
+weightOf ss ls zero = 0
+weightOf ss ls (suc n) = weightOf ss ls n + weightAt ss ls n
+
+abbrev pub writtenOf : Side → ℕ
+writtenOf x = weightOf (x .symbols) (x .lengths) (x .count)
+
+-- how far the nearest cell that is not blank lies, the next cell at 1, on a side with runs: a blank run on top lies over another
+unfoldable pub nearOf : Side → ℕ
+nearOf x = pick (eqb (topOf x) 0) (getD (x .lengths) (x .count - 1) 0 + 1) 1

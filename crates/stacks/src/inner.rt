@@ -3,8 +3,8 @@ ghost use mathlib.Core.Path.{_≡_};
 ghost use mathlib.Core.Bool.{false};
 ghost use mathlib.Core.List.{List};
 ghost use Prim.Native.Nat.{ℕ, _+_, _-_, _≤_, _<_, min};
-ghost use lib.ListN.{length};
-ghost use Rattle.stacks.specs.Sides.{side, placesOf, symbolUnder, aheadOf, pushOf, lacks, takeOf, runFits, runsFit, sumOf};
+ghost use lib.ListN.{length, getD};
+ghost use Rattle.stacks.specs.Sides.{side, placesOf, symbolUnder, aheadOf, pushOf, lacks, takeOf, runFits, runsFit, sumOf, symbolIn, weightAt, weightOf, nearOf};
 
 // The symbol next to the head; below the bottom run all is blank.
 pub fn top(symbols: &[u8], count: usize) -> u8
@@ -147,4 +147,60 @@ pub fn cells(lengths: &[u64], count: usize, most: u64) -> u64
         i += 1;
     }
     sum
+}
+
+// The symbol at a distance from the head, where the next cell is at 0.
+pub fn symbol_at(symbols: &[u8], lengths: &[u64], count: usize, distance: u64) -> u8
+    requires { ⌜ (count ≤ length (now symbols)) × (count ≤ length (now lengths)) ⌝ }
+    ensures { λ r. ⌜ r ≡ symbolIn (now (symbols .entry)) (now (lengths .entry)) count distance ⌝ }
+{
+    let mut n = count;
+    let mut d = distance;
+    while 0 < n {
+        let len = lengths[n - 1];
+        if d < len {
+            return symbols[n - 1];
+        }
+        d -= len;
+        n -= 1;
+    }
+    0
+}
+
+// How many cells of run i are not blank.
+fn weight(symbols: &[u8], lengths: &[u64], i: usize) -> u64
+    requires { ⌜ (i < length (now symbols)) × (i < length (now lengths)) ⌝ }
+    ensures { λ r. ⌜ (r ≡ weightAt (now (symbols .entry)) (now (lengths .entry)) i) × (r ≤ getD (now (lengths .entry)) i 0) ⌝ }
+{
+    if symbols[i] == 0 {
+        return 0;
+    }
+    lengths[i]
+}
+
+// How many cells of the live runs are not blank.
+pub fn written(symbols: &[u8], lengths: &[u64], count: usize) -> u64
+    requires { ⌜ (count ≤ length (now symbols)) × (count ≤ length (now lengths)) ⌝ }
+    requires { ⌜ sumOf (now lengths) count < 9223372036854775808 ⌝ }
+    ensures { λ r. ⌜ (r ≡ weightOf (now (symbols .entry)) (now (lengths .entry)) count) × (r ≤ sumOf (now (lengths .entry)) count) ⌝ }
+{
+    let mut i = 0;
+    let mut sum = 0;
+    while i < count {
+        sum += weight(symbols, lengths, i);
+        i += 1;
+    }
+    sum
+}
+
+// How far the nearest cell that is not blank lies on a side with runs, the next cell at 1.
+pub fn near(symbols: &[u8], lengths: &[u64], count: usize) -> u64
+    requires { ⌜ (0 < count) × (count ≤ length (now symbols)) × (count ≤ length (now lengths)) ⌝ }
+    requires { ⌜ sumOf (now lengths) count < 9223372036854775808 ⌝ }
+    ensures { λ r. ⌜ (r ≡ nearOf (side (now (symbols .entry)) (now (lengths .entry)) count)) × (r ≤ sumOf (now (lengths .entry)) count + 1) ⌝ }
+{
+    if top(symbols, count) == 0 {
+        return lengths[count - 1] + 1;
+    }
+    1
 }
