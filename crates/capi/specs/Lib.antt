@@ -1,4 +1,6 @@
 pub mod Numbers
 pub mod Calls
+pub mod Chains
 pub mod NumberFacts
 pub mod CallFacts
+pub mod ChainFacts

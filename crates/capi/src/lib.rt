@@ -1,4 +1,5 @@
 // The engines behind functions with C linkage, on numbers and slices. Each returns 0, or the number of its refusal.
+pub mod chain;
 mod numbers;
 pub mod plain;
 pub mod questions;

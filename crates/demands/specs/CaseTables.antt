@@ -33,3 +33,7 @@ writer = entry1 1 2 0 ++ none
 -- "Two tapes both moving R on blanks, same state": k 2, so four entries, of which the first is met
 abbrev pub pair : List ℕ
 pair = (1 ∷ 0 ∷ 0 ∷ 0 ∷ 0 ∷ 0 ∷ (1 + 3 * 1 + 9 * 2) ∷ 0 ∷ []) ++ (none ++ (none ++ none))
+
+-- "1 kept moving R, blank undefined", the state kept too
+abbrev pub keeper : List ℕ
+keeper = none ++ entry1 1 1 0

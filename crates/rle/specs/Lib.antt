@@ -4,6 +4,7 @@ pub mod Fits
 pub mod FitsCases
 pub mod FreshCases
 pub mod OperationCases
+pub mod QuestionCases
 pub mod EngineCases
 pub mod RunCases
 pub mod Operations

@@ -71,7 +71,7 @@ side-says k most ss ls n e =
     let a = both-split e in
     record { live = leb-true _ _ (a .0); symbols-in = omega arith; lengths-in = omega arith; cells-in = leb-true _ _ (both-split (a .1) .1) }
 
-fits-sides : (m : Machine) (σ : Conf) → chainFits m σ ≡ true → SidesOk σ
+pub fits-sides : (m : Machine) (σ : Conf) → chainFits m σ ≡ true → SidesOk σ
 unfolding chainFits
 fits-sides m σ e =
     let a = both-split (both-split e .1) in
@@ -81,7 +81,11 @@ fits-sides m σ e =
       right = side-says (m .symbols) (σ .sim .steps + 1048576) (σ .rs) (σ .rl) (σ .sim .tape .right) (both-split (b .1) .0);
     }
 
-fits-counts : (m : Machine) (σ : Conf) (fuel : ℕ) → chainFits m σ ≡ true → σ .sim .steps + fuel ≤ 4611686018427387904 → CountsOk (σ .sim) fuel
+pub fits-steps : (m : Machine) (σ : Conf) → chainFits m σ ≡ true → σ .sim .steps ≤ 4611686018427387904
+unfolding chainFits countsFit
+fits-steps m σ e = leb-true (σ .sim .steps) 4611686018427387904 (both-split (both-split (both-split e .0) .1) .0)
+
+pub fits-counts : (m : Machine) (σ : Conf) (fuel : ℕ) → chainFits m σ ≡ true → σ .sim .steps + fuel ≤ 4611686018427387904 → CountsOk (σ .sim) fuel
 unfolding chainFits countsFit headFits
 fits-counts m σ fuel e h =
     let c = both-split (both-split (both-split (both-split e .0) .1) .1) in

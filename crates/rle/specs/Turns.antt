@@ -6,7 +6,7 @@ use lib.ListN.{length}
 use Rattle.laws.specs.Choice.{pick}
 use Rattle.machine.specs.declared.Machine.{Machine}
 use Rattle.machine.specs.Layout.{strideOf}
-use Rattle.stacks.specs.Sides.{placesOf}
+use Rattle.stacks.specs.Sides.{placesOf, cellsOf}
 use Rattle.stacks.specs.SideFacts.{SideOk}
 use Rattle.rle.specs.declared.ChainSim.{ChainSim}
 use Rattle.rle.specs.declared.inner.Leap.{Leap}
@@ -63,3 +63,10 @@ pub record Going (k : Task) (stride lp rp : ℕ) (σ₀ : Conf) (fuel : ℕ) (σ
   pub rights : rp ≡ placesOf (σ .rs) (σ .rl)
   pub sizes : SameSizes σ₀ σ
   pub same : runOf k left σ ≡ runOf k fuel σ₀
+
+-- a question
+pub record AskOk (σ : Conf) : Type 0 where
+  pub sides : SidesOk σ
+  pub counts : CountsOk (σ .sim) 0
+  pub left-far : 9223372036854775808 + cellsOf (leftOf σ) ≤ σ .sim .tape .head + σ .sim .steps + 1048576
+  pub right-far : σ .sim .tape .head + cellsOf (rightOf σ) ≤ 9223372036854775808 + σ .sim .steps + 1048576

@@ -75,6 +75,10 @@ module _ (p : Bool) (tapes : ℕ) (q : State) (a : Action) (r0 r1 r2 : ℕ) (h :
   unfolding judgeOf loopOf
   go-sees st b = simp (st, b, both-end, pick-no, pick-same)
 
+  pub go-moves : staysAll a r0 r1 r2 ≡ false → (tapes ≡ 1 → ⊥) → Go a ≡ judgeOf p tapes q a r0 r1 r2 h
+  unfolding judgeOf loopOf
+  go-moves st n = simp (st, ne-eqb _ _ n, both-no, pick-no, pick-same)
+
 module _ (a : Action) (r0 r1 r2 : ℕ) where
   pub moves-left : a .dir0 ≡ L → staysAll a r0 r1 r2 ≡ false
   unfolding staysAll stays both

@@ -13,3 +13,4 @@ pub mod HotSteps
 pub mod Runs
 pub mod RunsCases
 pub mod AnswerCases
+pub mod WideSteps

@@ -4,6 +4,7 @@ use mathlib.Core.Bool.{Bool, true}
 use mathlib.Core.List.{List}
 use Prim.Native.Nat.{ℕ, _+_, _≤_, _<_}
 use lib.ListN.{length}
+use Rattle.symbol.specs.Kinds.{stateOf}
 use Rattle.machine.specs.declared.Machine.{Machine}
 use Rattle.machine.specs.declared.Checked.{Checked}
 use Rattle.machine.specs.declared.Checked.the-variants.{Accepted}
@@ -12,6 +13,7 @@ use Rattle.sim.specs.declared.Simulator.{Simulator}
 use Rattle.sim.specs.declared.StopRule.{StopRule}
 use Rattle.burst.specs.declared.hot.Hot.{Hot}
 use Rattle.burst.specs.Words.{WordsOk}
+use Rattle.several.specs.declared.Wide.{Wide}
 use Rattle.sim.specs.declared.Answer.{Answer}
 use Rattle.sim.specs.declared.Answer.the-variants as Ans
 use Rattle.sim.specs.declared.StepAnswer.{StepAnswer}
@@ -55,12 +57,47 @@ pub record SprintOk (m : Machine) (v : Simulator) (c : List ℕ) (left : ℕ) : 
 
 -- the run from v′ with cells c′ has the answer of the run from v with cells c, under every rule that has no state but stop and
 -- whatever the other buffers hold
-pub record Sped (m : Machine) (s : List ℕ) (proves : Bool) (stop : ℕ) (v : Simulator) (c : List ℕ) (left : ℕ) (v′ : Simulator) (c′ : List ℕ) (left′ : ℕ) : Type 0 where
+pub record SpedOne (m : Machine) (s : List ℕ) (proves : Bool) (stop : ℕ) (v : Simulator) (c : List ℕ) (left : ℕ) (v′ : Simulator) (c′ : List ℕ) (left′ : ℕ) : Type 0 where
   pub same : (rule : StopRule) → Misses rule stop → (c1 c2 : List ℕ)
       → runOf (task m s proves rule) left′ (conf v′ c′ c1 c2) ≡ runOf (task m s proves rule) left (conf v c c1 c2)
   pub okay : (stride : ℕ) (c1 c2 : List ℕ) → RunOk m stride v c c1 c2 left → RunOk m stride v′ c′ c1 c2 left′
   pub less : left′ ≤ left
   pub lens : length c′ ≡ length c
+
+-- ---- several tapes
+
+-- where a burst on the engine's value starts
+abbrev pub wideOf : Simulator → (left : ℕ) → Wide
+wideOf v left =
+    record {
+      t0 = v .t0;
+      t1 = v .t1;
+      t2 = v .t2;
+      state = v .state .0;
+      left = left;
+    }
+
+-- the engine that stands where a burst does
+abbrev pub intoWide : (steps : ℕ) → Wide → Simulator
+intoWide steps x =
+    record {
+      state = stateOf (x .state);
+      steps = steps;
+      t0 = x .t0;
+      t1 = x .t1;
+      t2 = x .t2;
+    }
+
+-- the run from v′ has the answer of the run from v, under every rule that has no state but stop
+pub record Sped (m : Machine) (s : List ℕ) (proves : Bool) (stop : ℕ) (v : Simulator) (c0 c1 c2 : List ℕ) (left : ℕ)
+    (v′ : Simulator) (d0 d1 d2 : List ℕ) (left′ : ℕ) : Type 0 where
+  pub same : (rule : StopRule) → Misses rule stop
+      → runOf (task m s proves rule) left′ (conf v′ d0 d1 d2) ≡ runOf (task m s proves rule) left (conf v c0 c1 c2)
+  pub okay : (stride : ℕ) → RunOk m stride v c0 c1 c2 left → RunOk m stride v′ d0 d1 d2 left′
+  pub less : left′ ≤ left
+  pub lens0 : length d0 ≡ length c0
+  pub lens1 : length d1 ≡ length c1
+  pub lens2 : length d2 ≡ length c2
 
 -- ---- the operations over a run
 

@@ -17,10 +17,11 @@ use Rattle.burst.specs.Burst.{HotOk, Reached}
 use Rattle.burst.specs.Words.{Packs}
 use Rattle.burst.specs.WordsFacts.{packs-of}
 use Rattle.sim.specs.Engine.{task, Conf, matches}
+use Rattle.sim.specs.Turns.{RunOk}
 use Rattle.sim.specs.TurnCases.{RunInv}
 use Rattle.sim.specs.Hot.{Misses, into}
 use Rattle.sim.specs.HotSteps.{walked}
-use Rattle.sim.specs.Runs.{hotOf, May, MayIf, WordsIf, SprintOk, Sped}
+use Rattle.sim.specs.Runs.{hotOf, May, MayIf, WordsIf, SprintOk, SpedOne, Sped}
 
 -- ---- the stop rule's state
 
@@ -75,7 +76,7 @@ module _ (m : Machine) (s : List ℕ) (p : Bool) (stop : ℕ) (v : Simulator) (c
     (start at : Hot) (c′ : List ℕ) (from : (start ≡ hotOf v left) × (start .state < 65536)) (v′ : Simulator) (left′ : ℕ)
     (after : (v′ ≡ into v (v .t0 .len) (v .steps + (left - at .left)) at) × (left′ ≡ at .left)) where
   sped : (Known : List ℕ → Type 0) → Known s → Reached Known p stop (m .symbols) (v .t0 .len) (hotOf v left) c at c′
-      → Sped m s p stop v c left (into v (v .t0 .len) (v .steps + (left - at .left)) at) c′ (at .left)
+      → SpedOne m s p stop v c left (into v (v .t0 .len) (v .steps + (left - at .left)) at) c′ (at .left)
   sped Known known r =
       let may : May (m .tapes) v = mays .may z in
       record {
@@ -104,32 +105,45 @@ module _ (m : Machine) (s : List ℕ) (p : Bool) (stop : ℕ) (v : Simulator) (c
             sized = λ h. o .cap;
           }
 
-  pub sped-burst : (Known : List ℕ → Type 0) → Known s → Reached Known p stop (m .symbols) (v .t0 .len) start c at c′ → Sped m s p stop v c left v′ c′ left′
+  pub sped-burst : (Known : List ℕ → Type 0) → Known s → Reached Known p stop (m .symbols) (v .t0 .len) start c at c′ → SpedOne m s p stop v c left v′ c′ left′
   sped-burst Known known r = rw (after .0, after .1) (sped Known known (rw (from .0) at r))
 
   pub sped-words : (words : List ℕ) (packed : Bool) → WordsIf packed m s words → packed ≡ true
-      → Reached (Packs words (m .symbols)) p stop (m .symbols) (v .t0 .len) start c at c′ → Sped m s p stop v c left v′ c′ left′
+      → Reached (Packs words (m .symbols)) p stop (m .symbols) (v .t0 .len) start c at c′ → SpedOne m s p stop v c left v′ c′ left′
   sped-words words packed w t r = sped-burst (Packs words (m .symbols)) (packs-of m s words (w .words-ok t)) r
 
--- ---- a burst in the loop of turns
+-- ---- a burst in the loop
 
-module _ (m : Machine) (s : List ℕ) (p : Bool) (rule : StopRule) (stride fuel : ℕ) (σ : Conf) (v : Simulator) (c0 c1 c2 : List ℕ) (left : ℕ)
-    (i : RunInv (task m s p rule) stride fuel σ v c0 c1 c2 left) where
-  pub sprint-asks : SprintOk m v c0 left
-  sprint-asks = record { symbols-in = i .now-ok .ok .symbols-in; safe0 = i .now-ok .ok .safe0; steps-in = i .now-ok .steps-in }
+pub sprint-asks : (m : Machine) (stride : ℕ) (v : Simulator) (c0 c1 c2 : List ℕ) (left : ℕ) → RunOk m stride v c0 c1 c2 left → SprintOk m v c0 left
+sprint-asks m stride v c0 c1 c2 left ok = record { symbols-in = ok .ok .symbols-in; safe0 = ok .ok .safe0; steps-in = ok .steps-in }
 
-  pub sped-inv : (stop : ℕ) (v′ : Simulator) (d0 : List ℕ) (left′ : ℕ) → Misses rule stop → Sped m s p stop v c0 left v′ d0 left′
-      → RunInv (task m s p rule) stride fuel σ v′ d0 c1 c2 left′
-  sped-inv stop v′ d0 left′ miss r =
-      record {
-        same = r .same rule miss c1 c2 ∙ i .same;
-        now-ok = r .okay stride c1 c2 (i .now-ok);
-        len0 = r .lens ∙ i .len0;
-        len1 = i .len1;
-        len2 = i .len2;
-      }
+pub sped-one : (m : Machine) (s : List ℕ) (p : Bool) (stop : ℕ) (v v′ : Simulator) (c0 c1 c2 d0 : List ℕ) (left left′ : ℕ)
+    → SpedOne m s p stop v c0 left v′ d0 left′ → Sped m s p stop v c0 c1 c2 left v′ d0 c1 c2 left′
+sped-one m s p stop v v′ c0 c1 c2 d0 left left′ r = record {
+  same = λ rule miss. r .same rule miss c1 c2;
+  okay = λ stride ok. r .okay stride c1 c2 ok;
+  less = r .less;
+  lens0 = r .lens;
+  lens1 = refl;
+  lens2 = refl;
+}
+
+pub sped-inv : (m : Machine) (s : List ℕ) (p : Bool) (rule : StopRule) (stride fuel : ℕ) (σ : Conf) (v : Simulator) (c0 c1 c2 : List ℕ) (left : ℕ)
+    → RunInv (task m s p rule) stride fuel σ v c0 c1 c2 left → (stop : ℕ) (v′ : Simulator) (d0 d1 d2 : List ℕ) (left′ : ℕ) → Misses rule stop
+    → Sped m s p stop v c0 c1 c2 left v′ d0 d1 d2 left′ → RunInv (task m s p rule) stride fuel σ v′ d0 d1 d2 left′
+sped-inv m s p rule stride fuel σ v c0 c1 c2 left i stop v′ d0 d1 d2 left′ miss r =
+    record {
+      same = r .same rule miss ∙ i .same;
+      now-ok = r .okay stride (i .now-ok);
+      len0 = r .lens0 ∙ i .len0;
+      len1 = r .lens1 ∙ i .len1;
+      len2 = r .lens2 ∙ i .len2;
+    }
 
 -- ---- where no words are given
 
 pub words-none : (m : Machine) (s words : List ℕ) → WordsIf false m s words
 words-none m s words = record { words-ok = λ z. absurd (clash z refl) }
+
+pub words-given : (b : Bool) (m : Machine) (s words : List ℕ) → WordsIf b m s words → b ≡ true → WordsIf true m s words
+words-given b m s words w e = record { words-ok = λ _. w .words-ok e }

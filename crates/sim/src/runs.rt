@@ -1,4 +1,4 @@
-// The run: bursts of ordinary steps where the machine has one tape, and a turn at each doubt, which decides.
+// The run: bursts of ordinary steps, and at each doubt one step that is decided.
 use super::Answer;
 use super::Answered;
 use super::Simulator;
@@ -11,6 +11,7 @@ use burst::table;
 use machine::Checked;
 use machine::Machine;
 use outcome::Outcome;
+use several::Wide;
 use symbol::State;
 use tape::Tape;
 ghost use mathlib.Core.Path.{_≡_};
@@ -21,7 +22,7 @@ ghost use Rattle.sim.specs.Engine.{task, conf, end, runOf};
 ghost use Rattle.sim.specs.Operations.{given};
 ghost use Rattle.sim.specs.Turns.{RunOk};
 ghost use Rattle.sim.specs.Hot.{Misses, into};
-ghost use Rattle.sim.specs.Runs.{hotOf, MayIf, SprintOk, WordsIf, Sped, Cleared, answerOf};
+ghost use Rattle.sim.specs.Runs.{hotOf, MayIf, SprintOk, WordsIf, SpedOne, wideOf, intoWide, Sped, Cleared, answerOf};
 
 // An engine after a run, and how the run ended.
 pub struct Ran {
@@ -131,8 +132,8 @@ impl Simulator {
         }
     }
 
-    // The ordinary steps from here, over the words where they are packed; none where no burst may run.
-    fn sprint(
+    // The ordinary steps on one tape, over the words where they are packed; none where no burst may run.
+    fn sprint_one(
         self,
         m: Machine,
         proves: bool,
@@ -145,7 +146,7 @@ impl Simulator {
     ) -> Ahead
         requires { ⌜ SprintOk m self (now c0) left ⌝ }
         requires { ⌜ WordsIf packed m (now table) (now words) ⌝ }
-        ensures { λ r. ⌜ Sped m (now (table .entry)) proves stop self (now (c0 .entry)) left (r .sim) (now (c0 .exit)) (r .left) ⌝ }
+        ensures { λ r. ⌜ SpedOne m (now (table .entry)) proves stop self (now (c0 .entry)) left (r .sim) (now (c0 .exit)) (r .left) ⌝ }
     {
         if !self.may(m.tapes) {
             return Ahead { sim: self, left };
@@ -159,6 +160,72 @@ impl Simulator {
         }
         let at = table::burst(table, c0, proves, stop, k, t0.len, start);
         self.after(at, left)
+    }
+
+    // Where a burst on several tapes starts on this value.
+    fn wide(self, left: u64) -> Wide
+        ensures { λ r. ⌜ r ≡ wideOf self left ⌝ }
+    {
+        let t0 = self.t0;
+        let t1 = self.t1;
+        let t2 = self.t2;
+        Wide {
+            t0,
+            t1,
+            t2,
+            state: self.state.0,
+            left,
+        }
+    }
+
+    // The value after a burst on several tapes, which had `left` fuel.
+    fn onward(self, at: Wide, left: u64) -> Ahead
+        requires { ⌜ (self .steps + left ≤ 4611686018427387904) × (at .left ≤ left) ⌝ }
+        ensures { λ r. ⌜ (r .sim ≡ intoWide (self .steps + (left - at .left)) at) × (r .left ≡ at .left) ⌝ }
+    {
+        let t0 = at.t0;
+        let t1 = at.t1;
+        let t2 = at.t2;
+        Ahead {
+            sim: Simulator {
+                state: State(at.state),
+                steps: self.steps + (left - at.left),
+                t0,
+                t1,
+                t2,
+            },
+            left: at.left,
+        }
+    }
+
+    // The ordinary steps from here.
+    fn sprint(
+        self,
+        m: Machine,
+        stride: u64,
+        proves: bool,
+        stop: usize,
+        table: &[u8],
+        packed: bool,
+        words: &[u64],
+        c0: &mut [u8],
+        c1: &mut [u8],
+        c2: &mut [u8],
+        left: u64,
+    ) -> Ahead
+        requires { ⌜ RunOk m stride self (now c0) (now c1) (now c2) left ⌝ }
+        requires { ⌜ WordsIf packed m (now table) (now words) ⌝ }
+        ensures { λ r. ⌜ Sped m (now (table .entry)) proves stop self (now (c0 .entry)) (now (c1 .entry)) (now (c2 .entry)) left (r .sim) (now (c0 .exit)) (now (c1 .exit)) (now (c2 .exit)) (r .left) ⌝ }
+    {
+        if packed {
+            return self.sprint_one(m, proves, stop, table, true, words, c0, left);
+        }
+        if m.tapes == 1 {
+            return self.sprint_one(m, proves, stop, table, false, words, c0, left);
+        }
+        let start = self.wide(left);
+        let at = several::burst_several(table, c0, c1, c2, stop, m.symbols, stride, start);
+        self.onward(at, left)
     }
 
     // The run over a table, or over its words where they are packed.
@@ -184,7 +251,19 @@ impl Simulator {
         let mut sim = self;
         let mut left = fuel;
         loop {
-            let ahead = sim.sprint(m, proves, stop, table, packed, words, c0, left);
+            let ahead = sim.sprint(
+                m,
+                stride,
+                proves,
+                stop,
+                table,
+                packed,
+                words,
+                c0,
+                c1,
+                c2,
+                left,
+            );
             let at = ahead.sim;
             let fuel_left = ahead.left;
             let choice = at.decide(m, stride, proves, table, c0, c1, c2, fuel_left);

@@ -1,0 +1,61 @@
+use Rattle.capi.specs.ChainFacts.{chain-made, chain-turned}
+use borrow.Author.Needs.{needs}
+use Rattle.capi.proofs.chain.tm_chain_new.Statement.{statement}
+use Rattle.capi.proofs.chain.tm_chain_new.Tie as tie
+
+machine-of-requires : tie.Need-machine-of-requires
+machine-of-requires c κs = search needs
+
+new-requires : tie.Need-new-requires
+new-requires c κs = search needs
+
+enum-known-fresh : tie.Need-enum-known-fresh
+enum-known-fresh c = search needs
+
+put-chain-requires : tie.Need-put-chain-requires
+put-chain-requires c κs = search needs
+
+same-length : tie.Need-same-length
+same-length c = search needs
+
+same-length-2 : tie.Need-same-length-2
+same-length-2 c = search needs
+
+returns : tie.Need-returns
+returns c =
+    rw (← c .before .before .before .before .before .before .before .before .before .before .before .before .machine-of .ensures)
+    (chain-made _ _ _ _ _ _ _ _ _ _ _ _ (c .put-chain .ensures) (c .before .before .before .before .before .before .before .before .before .new .ensures) (c .before .before .before .fresh .given .1))
+
+enum-known-fresh-2 : tie.Need-enum-known-fresh-2
+enum-known-fresh-2 c = search needs
+
+refuse-requires : tie.Need-refuse-requires
+refuse-requires c κs = search needs
+
+same-length-3 : tie.Need-same-length-3
+same-length-3 c = search needs
+
+same-length-4 : tie.Need-same-length-4
+same-length-4 c = search needs
+
+returns-2 : tie.Need-returns-2
+returns-2 c =
+    rw (← c .before .before .before .before .before .before .before .before .before .before .before .before .machine-of .ensures)
+    (chain-turned _ _ _ _ _ _ _ _ _ _ _ _ _ (c .before .before .before .before .before .before .before .before .before .new .ensures) (c .before .before .before .fresh2 .given .1) (c .refuse .ensures .0) (c .refuse .ensures .1))
+
+pub tm-chain-new-spec : {M : Type 1} → statement M
+tm-chain-new-spec =
+    tie.close
+    (tie.spec
+    machine-of-requires
+    new-requires
+    enum-known-fresh
+    put-chain-requires
+    same-length
+    same-length-2
+    returns
+    enum-known-fresh-2
+    refuse-requires
+    same-length-3
+    same-length-4
+    returns-2)

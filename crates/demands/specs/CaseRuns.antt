@@ -1,0 +1,69 @@
+-- How document 01's cases are asked of the two engines: by the models that the contracts of `new` and `run` cite. Definitions only.
+use mathlib.Core.List.{List, [], _∷_}
+use Prim.Native.Nat.{ℕ}
+use lib.ListN.{replicate}
+use Rattle.outcome.specs.declared.Refusal.{Refusal}
+use Rattle.machine.specs.declared.Machine.{Machine}
+use Rattle.sim.specs.declared.StopRule.the-variants.{Never}
+use Rattle.sim.specs.declared.Answer.{Answer}
+use Rattle.sim.specs.declared.Answer.the-variants.{Refused}
+use Rattle.sim.specs.declared.Fresh.{Fresh}
+use Rattle.sim.specs.declared.Fresh.the-variants as New
+use Rattle.sim.specs.Engine.{conf}
+use Rattle.sim.specs.Operations.{runAnswer, Made, newAnswer}
+use Rattle.rle.specs.declared.ChainSim.{ChainSim}
+use Rattle.rle.specs.declared.Fresh.{Fresh as ChainFresh}
+use Rattle.rle.specs.declared.Fresh.the-variants as NewChain
+use Rattle.rle.specs.Engine as Chain
+use Rattle.rle.specs.Operations as Chains
+use Rattle.rle_refines.specs.Meaning.{Stack, stackOf}
+
+-- ---- the plain engine: a fresh one with 64 cells a tape, and a run of it
+
+abbrev pub runFresh : Machine → List ℕ → ℕ → Made → Fresh → Answer
+runFresh m s fuel a (New.Refused why) = Refused why
+runFresh m s fuel a (New.Made v) = runAnswer m s Never fuel (conf v (a .c0) (a .c1) (a .c2)) .answer
+
+abbrev pub cells : List ℕ
+cells = replicate 64 7
+
+abbrev pub plain : Machine → List ℕ → (word : List ℕ) (fuel : ℕ) → Answer
+plain m s w fuel =
+    let a : Made = newAnswer m s w cells cells cells in
+    runFresh m s fuel a (a .answer)
+
+-- ---- the run-length engine: a fresh one with so many places on the left, and 8 on the right
+
+abbrev pub places : ℕ → List ℕ
+places n = replicate n 7
+
+abbrev pub onFresh : {A : Type 0} → ChainFresh → (Refusal → A) → (ChainSim → A) → A
+onFresh (NewChain.Refused why) refused made = refused why
+onFresh (NewChain.Made v) refused made = made v
+
+abbrev pub fromFresh : {A : Type 0} → (lefts : ℕ) → Machine → (table word : List ℕ) → (Refusal → A) → (Chain.Conf → A) → A
+fromFresh n m s w refused made =
+    let a : Chains.Made = Chains.newAnswer m s w (places n) (places n) (places 8) (places 8) in
+    onFresh (a .answer) refused (λ v. made (Chain.conf v (places n) (places n) (a .rs) (a .rl)))
+
+-- runs of it, one after the other: the last answer, and how many macro steps it has made by then
+abbrev pub runs : Machine → List ℕ → (fuel : ℕ) (later : List ℕ) → Chain.Conf → Answer × ℕ
+runs m s fuel [] σ =
+    let g : Chains.Given = Chains.runAnswer m s Never fuel σ in
+    (g .answer, g .at .sim .macros)
+runs m s fuel (next ∷ later) σ = runs m s next later (Chains.runAnswer m s Never fuel σ .at)
+
+abbrev pub chainWith : (lefts : ℕ) → Machine → (table word : List ℕ) → (fuel : ℕ) (later : List ℕ) → Answer × ℕ
+chainWith n m s w fuel later = fromFresh n m s w (λ why. (Refused why, 0)) (runs m s fuel later)
+
+-- one run's answer
+abbrev pub chain : Machine → (table word : List ℕ) → (fuel : ℕ) → Answer
+chain m s w fuel = chainWith 8 m s w fuel [] .0
+
+-- its two stacks
+pub data Stacks : Type 0 where
+  none : Refusal → Stacks
+  stacks : (left right : Stack) → Stacks
+
+abbrev pub stacksOf : Machine → (table word : List ℕ) → Stacks
+stacksOf m s w = fromFresh 8 m s w none (λ σ. stacks (stackOf (Chain.leftOf σ)) (stackOf (Chain.rightOf σ)))

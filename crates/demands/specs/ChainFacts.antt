@@ -1,0 +1,193 @@
+-- What SecondChain says of a run-length engine's run, drawn from rle_refines. Assumes nothing.
+use mathlib.Core.Path.{_≡_, refl, sym, ap, _∙_, subst}
+use mathlib.Core.Logic.{_↔_}
+use mathlib.Core.Bool.{Bool, true, false}
+use mathlib.Core.List.{List}
+use Prim.Native.Nat.{ℕ, zero, suc, _+_, _≤_, _<_, _^_, min}
+use native.Mathlib.Omega.{arith}
+use borrow.Author.Tests.{eqb-true, eqb-false}
+use lib.Dec.{eqb}
+use Rattle.laws.specs.Tests.{pick-cases, clash}
+use Rattle.symbol.specs.declared.Dir.{Dir}
+use Rattle.symbol.specs.declared.Dir.the-variants.{L, R, N}
+use Rattle.outcome.specs.declared.Outcome.{Outcome}
+use Rattle.outcome.specs.declared.Outcome.the-variants.{OutOfFuel, Full}
+use Rattle.machine.specs.declared.Machine.{Machine}
+use Rattle.machine.specs.declared.Action.{Action}
+use Rattle.machine.specs.declared.Entry.the-variants.{Defined}
+use Rattle.machine.specs.declared.Checked.the-variants.{Accepted}
+use Rattle.tables.specs.WellFormed.{Bytes}
+use Rattle.turing.specs.TableMachine.{Table, Config, entry, Sideways, Verdict, halts, stays, walks, goes}
+use Rattle.turing.specs.Tables.{tableOf, TableOf}
+use Rattle.turing.specs.TableFacts.{accepted-table}
+use Rattle.turing.specs.RunFacts.{not-defined}
+use Rattle.turing.specs.VerdictFacts.{verdict-unique}
+use Rattle.sim.specs.declared.StopRule.{StopRule}
+use Rattle.sim.specs.declared.StopRule.the-variants.{Never}
+use Rattle.sim.specs.declared.Answer.the-variants as Ans
+use Rattle.sim.specs.Engine.{Task, task, entryOf, matches}
+use Rattle.stacks.specs.Sides.{aheadOf}
+use Rattle.rle.specs.declared.inner.Sure.{Sure}
+use Rattle.rle.specs.declared.inner.Sure.the-variants.{Open, Loops}
+use Rattle.rle.specs.declared.inner.Leap.{Leap}
+use Rattle.rle.specs.declared.inner.Plan.{Plan}
+use Rattle.rle.specs.declared.inner.Plan.the-variants.{Stop, Go}
+use Rattle.rle.specs.Engine.{Conf, leftOf, rightOf, sureOf, chainFor, repeatsOf, leap, spaceOf, fuelOf, neverOf, planOn, planOf, leapOf, End, end, runOf}
+use Rattle.rle.specs.Fits.{runCheck}
+use Rattle.rle.specs.Operations.{given, runOn, runAnswer}
+use Rattle.rle_refines.specs.Meaning.{configOf, Alike}
+use Rattle.rle_refines.specs.Statement.{FullWithin, Went, Answers, verdict, halted, spent, stopped, full, Refines}
+use Rattle.rle_refines.specs.Canonical.{full-exact, not-full}
+use Rattle.rle_refines.specs.PlanFacts as P
+use Rattle.rle_refines.specs.LeapFacts.{aheadOn, entry-at}
+use Rattle.rle_refines.specs.PlanFacts.{Sees, unsure, stay, walk, sure-sees, Plans, plan-right}
+use Rattle.rle_refines.specs.MidFacts.{leapt-macros}
+use Rattle.rle_refines.specs.Refinement.{leap-went, refines-later}
+use Rattle.rle_refines.specs.RunFacts.{run-ends, run-goes}
+use Rattle.rle_refines.specs.SpaceFacts.{full-iff}
+use Rattle.rle_refines.specs.CutFacts.{one-run}
+use Rattle.rle_refines.specs.OperationFacts.{Passed, run-says, run-holds}
+use Rattle.demands.specs.ChainClaims.{GoesOn, Lasts, one, ahead, loop, MacroStep, FullHere}
+
+-- a verdict is not that there is no space
+not-full-verdict : (t : ℕ) (d : Table) (c : Config) (o : Outcome) → Verdict t d c o → (n : ℕ) → ¬ (o ≡ Full n)
+not-full-verdict t d c o (halts h) n e = let z : _≡_ {A = ℕ} 0 1 = cc in omega arith
+not-full-verdict t d c o (stays a h s) n e = let z : _≡_ {A = ℕ} 0 1 = cc in omega arith
+not-full-verdict t d c o (walks a x h w) n e = let z : _≡_ {A = ℕ} 0 1 = cc in omega arith
+not-full-verdict t d c o (goes a h s w) n e = let z : _≡_ {A = ℕ} 0 1 = cc in omega arith
+
+-- ---- a plan that goes on is the entry's, so often
+
+module _ (a : Action) (fuel : ℕ) (σ : Conf) (j : Leap) where
+  abbrev times : Sure → ℕ
+  times p = repeatsOf p (σ .sim .state) a (σ .sim .tape .cur) fuel (leftOf σ) (rightOf σ)
+
+  not-stop : (o : Outcome) (n : ℕ) → Stop o ≡ Go j → j .repeats ≡ n
+  not-stop o n e = let z : _≡_ {A = ℕ} 0 1 = cc in absurd (omega arith)
+
+  fuel-goes : (p : Sure) (rule : StopRule) → fuelOf p rule a fuel σ ≡ Go j → j .repeats ≡ times p
+  unfolding fuelOf spaceOf
+  fuel-goes p rule = pick-cases _ _ _ (λ x. x ≡ Go j → j .repeats ≡ times p) (λ _ e. not-stop _ _ e)
+      (λ _. pick-cases _ _ _ (λ x. x ≡ Go j → j .repeats ≡ times p) (λ _ e. not-stop _ _ e)
+      (λ _. pick-cases _ _ _ (λ x. x ≡ Go j → j .repeats ≡ times p) (λ _ e. not-stop _ _ e) (λ _ e. let q : leap a (times p) ≡ j = cc in ap (λ (i : Leap). i .repeats) (sym q))))
+
+  never-goes : (proves : Bool) (p : Sure) (rule : StopRule) → neverOf proves p rule a fuel σ ≡ Go j → j .repeats ≡ times p
+  unfolding neverOf
+  never-goes proves Open rule = fuel-goes Open rule
+  never-goes proves (Loops p) rule = pick-cases proves _ _ (λ x. x ≡ Go j → j .repeats ≡ times (Loops p)) (λ _ e. not-stop _ _ e) (λ _ e. fuel-goes (Loops p) rule e)
+
+module _ (m : Machine) (s : List ℕ) (bytes : Bytes s) (fuel : ℕ) (σ : Conf) (accepted : runCheck m s fuel σ ≡ Accepted) where
+  passed : Passed m s σ × (σ .sim .steps + fuel ≤ 2 ^ 62)
+  passed = run-says m s σ fuel accepted
+
+  table : TableOf m (tableOf m s)
+  table = accepted-table m s bytes (passed .0 .table)
+
+  -- ---- a macro step
+
+  module _ (proves : Bool) (rule : StopRule) (j : Leap) (planned : planOf (task m s proves rule) fuel σ ≡ Go j) where
+    abbrev k : Task
+    k = task m s proves rule
+
+    by-plan : (i : Leap) → Plans k fuel σ (Go i) → Went k (i .repeats) σ (leapOf i σ) × (1 ≤ i .repeats) × (i .repeats ≤ fuel)
+    by-plan i (P.leaps a zero e u g h r) = absurd (omega (arith, r .some))
+    by-plan i (P.leaps a (suc n) e u g h r) = (leap-went k table (passed .0 .single) σ (passed .0 .fits) a e u g h fuel n r (passed .1), r .some, r .within)
+
+    went-so : Went k (j .repeats) σ (leapOf j σ) × (1 ≤ j .repeats) × (j .repeats ≤ fuel)
+    went-so = by-plan j (subst (Plans k fuel σ) planned (plan-right k table (passed .0 .single) fuel σ (passed .0 .fits)))
+
+    module _ (a : Action) (has : entry (tableOf m s) (configOf σ) ≡ Defined a) where
+      abbrev sure : Sure
+      sure = sureOf (σ .sim .state) a (σ .sim .tape .cur) (σ .sim .tape .left) (σ .sim .tape .right)
+
+      so-often : j .repeats ≡ times a fuel σ j sure
+      unfolding planOf planOn tableOf entryOf
+      so-often =
+          let q : entryOf m s (σ .sim .state) (σ .sim .tape .cur) 0 0 ≡ Defined a = sym (entry-at (tableOf m s) σ) ∙ has in
+          never-goes a fuel σ j proves sure rule (ap (λ x. planOn x proves rule fuel σ) (sym q) ∙ planned)
+
+      lasts : (p : Sure) → Sees k σ a p → Lasts m s fuel σ a (times a fuel σ j p)
+      unfolding repeatsOf chainFor
+      lasts Open (unsure h g) = pick-cases (eqb (a .next .0) (σ .sim .state .0)) _ _ (Lasts m s fuel σ a)
+          (λ t. by (eqb-true _ _ t) (a .dir0) refl)
+          (λ t. one (goes a has h g) (λ r. eqb-false _ _ t (r .0)))
+        where
+          by : a .next .0 ≡ σ .sim .state .0 → (x : Dir) → a .dir0 ≡ x → Lasts m s fuel σ a (chainFor x (σ .sim .tape .cur) fuel (leftOf σ) (rightOf σ))
+          by q L e = subst (λ x. Lasts m s fuel σ a (min (aheadOf (σ .sim .tape .cur) (aheadOn x σ) + 1) fuel)) e (ahead (goes a has h g) (q, subst Sideways (sym e) tt))
+          by q R e = subst (λ x. Lasts m s fuel σ a (min (aheadOf (σ .sim .tape .cur) (aheadOn x σ) + 1) fuel)) e (ahead (goes a has h g) (q, subst Sideways (sym e) tt))
+          by q N e = one (goes a has h g) (λ r. subst Sideways e (r .1))
+      lasts (Loops p) (stay h) = loop _ (stays a has h)
+      lasts (Loops p) (walk x w) = loop _ (walks a x has w)
+
+      lasts-so : Lasts m s fuel σ a (j .repeats)
+      lasts-so = subst (Lasts m s fuel σ a) (sym so-often) (lasts sure (sure-sees k (passed .0 .single) σ (passed .0 .fits) a (table _ _ _ _ a has)))
+
+    pub macro-step : MacroStep k fuel σ j
+    macro-step = record {
+      went = went-so .0;
+      some = went-so .1;
+      within = went-so .2;
+      lasts = lasts-so;
+      counted = leapt-macros j σ (j .dir);
+      runs-on = run-goes k table (passed .0 .single) fuel σ (passed .0 .fits) (passed .1) j planned;
+    }
+
+  -- ---- the next step is full
+
+  module _ (rule : StopRule) (more : 0 < fuel) (unproved : GoesOn m s σ) (unruled : matches rule (σ .sim .state) ≡ false) where
+    full-ends : FullHere m s σ → runOf (task m s true rule) fuel σ ≡ end σ (Full (σ .sim .steps))
+    full-ends g = by refl (plan-right (task m s true rule) table (passed .0 .single) fuel σ (passed .0 .fits))
+      where
+        by : {p : Plan} → planOf (task m s true rule) fuel σ ≡ p → Plans (task m s true rule) fuel σ p → runOf (task m s true rule) fuel σ ≡ end σ (Full (σ .sim .steps))
+        by q (P.no-entry h) = absurd (not-defined _ (g .act) h (g .has))
+        by q (P.loops p t v) = let e = verdict-unique _ _ _ _ _ v unproved in let z : _≡_ {A = ℕ} 0 1 = cc in absurd (omega arith)
+        by q (P.spent a e u z) = absurd (omega arith)
+        by q (P.stops a e u l r) = absurd (clash r unruled)
+        by q (P.lacks-place a e u l r h) = run-ends (task m s true rule) table (passed .0 .single) fuel σ _ q
+        by q (P.leaps a n e u r h x) = absurd (not-full m (tableOf m s) σ (passed .0 .fits) a e h g)
+
+    pub full-stands : FullHere m s σ → runAnswer m s rule fuel σ ≡ given σ (Ans.Done (Full (σ .sim .steps)))
+    unfolding runAnswer
+    full-stands g = ap (λ c. runOn c σ (runOf (task m s true rule) fuel σ)) accepted ∙ ap (λ (e : End). given (e .at) (Ans.Done (e .outcome))) (full-ends g)
+
+  -- ---- without the never test and a stop rule
+
+  pub space-exact : ((n : ℕ) × (runOf (task m s false Never) fuel σ .outcome ≡ Full n)) ↔ FullWithin (task m s false Never) fuel σ
+  unfolding matches
+  space-exact = full-iff (task m s false Never) refl (λ q. refl) fuel σ table (passed .0 .single) (passed .0 .fits) (passed .1)
+
+-- ---- full only there
+
+module _ (m : Machine) (s : List ℕ) (bytes : Bytes s) (rule : StopRule) (fuel : ℕ) (σ τ : Conf) (n : ℕ) (done : runAnswer m s rule fuel σ ≡ given τ (Ans.Done (Full n))) where
+  abbrev ran : Refines (task m s true rule) fuel σ (end τ (Full n))
+  ran = run-holds m s bytes rule fuel σ τ (Full n) done .refines
+
+  full-by : {o : Outcome} → o ≡ Full n → Answers (task m s true rule) fuel (ran .made) τ o → FullHere m s τ
+  full-by q (verdict o t v g) = absurd (not-full-verdict _ _ _ o v n q)
+  full-by q (halted t h) = absurd (clash refl t)
+  full-by q (spent t h e) = absurd (clash refl t)
+  full-by q (stopped a l h u r) = let z : _≡_ {A = ℕ} 0 1 = cc in absurd (omega arith)
+  full-by q (full a l h u r g) = full-exact m (tableOf m s) τ (ran .went .kept .fits) a h .0 g
+
+  pub full-there : FullHere m s τ
+  full-there = full-by refl (ran .answers)
+
+-- ---- fuel a and then b, or a + b at once
+
+all-made : {k : Task} {fuel made n : ℕ} {e : Conf} → Answers k fuel made e (OutOfFuel n) → made ≡ fuel
+all-made (verdict _ t v g) = g _ refl
+all-made (spent t h q) = q
+
+module _ (m : Machine) (s : List ℕ) (bytes : Bytes s) (rule : StopRule) (a b : ℕ) (σ τ υ ω : Conf) (n : ℕ) (o p : Outcome)
+    (first : runAnswer m s rule a σ ≡ given τ (Ans.Done (OutOfFuel n))) (second : runAnswer m s rule b τ ≡ given υ (Ans.Done o))
+    (once : runAnswer m s rule (a + b) σ ≡ given ω (Ans.Done p)) where
+  began : Refines (task m s true rule) a σ (end τ (OutOfFuel n))
+  began = run-holds m s bytes rule a σ τ (OutOfFuel n) first .refines
+
+  went : Went (task m s true rule) a σ τ
+  went = subst (λ j. Went (task m s true rule) j σ τ) (all-made (began .answers)) (began .went)
+
+  pub cut-same : (o ≡ p) × Alike υ ω
+  cut-same = one-run (task m s true rule) (a + b) σ (end υ o) (end ω p)
+      (refines-later (task m s true rule) a b σ τ (end υ o) went (run-holds m s bytes rule b τ υ o second .refines))
+      (run-holds m s bytes rule (a + b) σ ω p once .refines)

@@ -1,0 +1,85 @@
+-- THE SECOND DEMAND of the run-length engine. Each part is about the definitions that the contracts of its operations cite.
+use mathlib.Core.Path.{_≡_, refl}
+use mathlib.Core.Logic.{_↔_}
+use mathlib.Core.Bool.{Bool, false}
+use mathlib.Core.List.{List}
+use Prim.Native.Nat.{ℕ, _+_, _<_}
+use lib.IntN.{ℤ}
+use lib.Signed.{_<ℤ_}
+use Rattle.symbol.specs.declared.Dir.the-variants.{L, R}
+use Rattle.outcome.specs.declared.NonHaltProof.{NonHaltProof}
+use Rattle.outcome.specs.declared.Outcome.{Outcome}
+use Rattle.outcome.specs.declared.Outcome.the-variants.{NeverHalts, OutOfFuel, Full}
+use Rattle.machine.specs.declared.Machine.{Machine}
+use Rattle.machine.specs.declared.Checked.the-variants.{Accepted}
+use Rattle.tables.specs.WellFormed.{Bytes}
+use Rattle.turing.specs.TableMachine.{run, start, Halted}
+use Rattle.turing.specs.Tables.{tableOf}
+use Rattle.sim.specs.declared.StopRule.{StopRule}
+use Rattle.sim.specs.declared.StopRule.the-variants as Rule
+use Rattle.sim.specs.declared.Answer.the-variants as Ans
+use Rattle.sim.specs.Engine.{task, matches}
+use Rattle.rle.specs.declared.ChainSim.{ChainSim}
+use Rattle.rle.specs.declared.Fresh.the-variants as New
+use Rattle.rle.specs.declared.inner.Leap.{Leap}
+use Rattle.rle.specs.declared.inner.Plan.the-variants.{Go}
+use Rattle.rle.specs.Engine.{Conf, conf, planOf, runOf}
+use Rattle.rle.specs.Fits.{engineCheck, runCheck}
+use Rattle.rle.specs.Operations.{given, runAnswer, made, newAnswer}
+use Rattle.rle_refines.specs.Meaning.{tapeOf, configOf, Alike}
+use Rattle.rle_refines.specs.Statement.{FullWithin}
+use Rattle.rle_refines.specs.Operations.{RunHolds}
+use Rattle.rle_refines.specs.PlanFacts.{empty-exact}
+use Rattle.rle_refines.specs.OperationFacts.{engine-says, run-holds, run-never-halts, new-holds}
+use Rattle.demands.specs.ChainClaims.{GoesOn, MacroStep, FullHere}
+use Rattle.demands.specs.ChainFacts.{macro-step, space-exact, full-stands, full-there, cut-same}
+
+pub record ChainEngine : Type 0 where
+  -- a fresh engine holds the start configuration, with the word on tape 0, and is accepted
+  pub fresh : (m : Machine) (s w ls ll rs rl : List ℕ) (v : ChainSim) (rs′ rl′ : List ℕ) → newAnswer m s w ls ll rs rl ≡ made (New.Made v) rs′ rl′
+      → (configOf (conf v ls ll rs′ rl′) ≡ start (m .start) w) × (engineCheck m s (conf v ls ll rs′ rl′) ≡ Accepted)
+  -- an accepted run is a run of the table machine: configuration, step count, answer, stop rule, space; the engine handed back is accepted (RunHolds, Refines)
+  pub runs : (m : Machine) (s : List ℕ) → Bytes s → (rule : StopRule) (fuel : ℕ) (σ τ : Conf) (o : Outcome)
+      → runAnswer m s rule fuel σ ≡ given τ (Ans.Done o) → RunHolds m s rule fuel σ τ o
+  -- where the answer is never, the table machine halts at no step
+  pub never : (m : Machine) (s : List ℕ) → Bytes s → (rule : StopRule) (fuel : ℕ) (σ τ : Conf) (n : ℕ) (p : NonHaltProof)
+      → runAnswer m s rule fuel σ ≡ given τ (Ans.Done (NeverHalts n p)) → (j : ℕ) → ¬ (Halted (tableOf m s) (run (tableOf m s) j (configOf σ)))
+  -- a macro step of n repeats is n steps of the table machine, head, lowest and highest included; n as document 01 says; one more macro step (MacroStep)
+  pub macro-steps : (m : Machine) (s : List ℕ) → Bytes s → (fuel : ℕ) (σ : Conf) → runCheck m s fuel σ ≡ Accepted → (proves : Bool) (rule : StopRule) (j : Leap)
+      → planOf (task m s proves rule) fuel σ ≡ Go j → MacroStep (task m s proves rule) fuel σ j
+  -- "`macro_steps` .. depends on how fuel was cut": fuel a and then b, or a + b at once, is the same answer, and the same engine but for the macro steps and what
+  -- lies past the live runs (Alike)
+  pub cuts : (m : Machine) (s : List ℕ) → Bytes s → (rule : StopRule) (a b : ℕ) (σ τ υ ω : Conf) (n : ℕ) (o p : Outcome)
+      → runAnswer m s rule a σ ≡ given τ (Ans.Done (OutOfFuel n)) → runAnswer m s rule b τ ≡ given υ (Ans.Done o) → runAnswer m s rule (a + b) σ ≡ given ω (Ans.Done p)
+      → (o ≡ p) × Alike υ ω
+  -- "Full exactly when the step's push needs a new run on a side whose live runs fill its lent places" (FullAt): with fuel, no proved loop and no stop ahead,
+  -- the run says so and leaves the engine and every place as they were exactly there
+  pub full : (m : Machine) (s : List ℕ) → Bytes s → (rule : StopRule) (fuel : ℕ) (σ : Conf) → runCheck m s fuel σ ≡ Accepted → 0 < fuel
+      → GoesOn m s σ → matches rule (σ .sim .state) ≡ false
+      → (runAnswer m s rule fuel σ ≡ given σ (Ans.Done (Full (σ .sim .steps)))) ↔ FullHere m s σ
+  -- and a run that says so, whatever it has made before, ends before such a step
+  pub full-only : (m : Machine) (s : List ℕ) → Bytes s → (rule : StopRule) (fuel : ℕ) (σ τ : Conf) (n : ℕ)
+      → runAnswer m s rule fuel σ ≡ given τ (Ans.Done (Full n)) → FullHere m s τ
+  -- without the never test and a stop rule, as the timeline runs: full exactly where one of the next `fuel` steps is
+  pub space : (m : Machine) (s : List ℕ) → Bytes s → (fuel : ℕ) (σ : Conf) → runCheck m s fuel σ ≡ Accepted
+      → ((n : ℕ) × (runOf (task m s false Rule.Never) fuel σ .outcome ≡ Full n)) ↔ FullWithin (task m s false Rule.Never) fuel σ
+  -- a side has no runs exactly where every cell strictly beyond the head that way is blank
+  pub empty-left : (m : Machine) (s : List ℕ) (σ : Conf) → engineCheck m s σ ≡ Accepted
+      → (σ .sim .tape .left ≡ 0) ↔ ((z : ℤ) → z <ℤ tapeOf σ .head → tapeOf σ .cell z ≡ 0)
+  pub empty-right : (m : Machine) (s : List ℕ) (σ : Conf) → engineCheck m s σ ≡ Accepted
+      → (σ .sim .tape .right ≡ 0) ↔ ((z : ℤ) → tapeOf σ .head <ℤ z → tapeOf σ .cell z ≡ 0)
+  -- the questions come with their models, under the plain engine's names: `spans` and `counts`, of `tapeOf σ .cell`
+
+pub chain-engine : ChainEngine
+chain-engine = record {
+  fresh = λ m s w ls ll rs rl v rs′ rl′ e. let h = new-holds m s w ls ll rs rl v rs′ rl′ e in (h .holds, h .accepted);
+  runs = run-holds;
+  never = λ m s b rule fuel σ τ n p e. run-never-halts m s b rule fuel σ τ (NeverHalts n p) e n p refl;
+  macro-steps = macro-step;
+  cuts = cut-same;
+  full = λ m s b rule fuel σ c l v r. (full-there m s b rule fuel σ σ (σ .sim .steps), full-stands m s b fuel σ c rule l v r);
+  full-only = full-there;
+  space = space-exact;
+  empty-left = λ m s σ c. empty-exact m σ (engine-says m s σ c .fits) L tt;
+  empty-right = λ m s σ c. empty-exact m σ (engine-says m s σ c .fits) R tt;
+}

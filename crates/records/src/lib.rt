@@ -1,0 +1,17 @@
+// The runs of one side of a tape as records, symbol and length together, in a slice that the caller lends.
+use outcome::Refusal;
+use symbol::Symbol;
+
+pub mod inner;
+
+// A run: a symbol, and how many cells in a row hold it.
+pub struct Run {
+    pub symbol: Symbol,
+    pub len: u64,
+}
+
+// How many runs the side has, each in its place of the slice; or why the slice is as it was.
+pub enum Listed {
+    Filled(u64),
+    Refused(Refusal),
+}

@@ -1,0 +1,235 @@
+// Questions on an engine's tape. Each tests the table and the value first: the table check, 8, 11, 12.
+use super::ChainSim;
+use machine::Checked;
+use machine::Machine;
+use sim::questions::Counted;
+use sim::questions::Extent;
+use sim::questions::Got;
+use stacks::inner as stack;
+use symbol::Symbol;
+use symbol::position;
+use tape::Span;
+ghost use mathlib.Core.Path.{_≡_};
+ghost use mathlib.Core.Bool.{false};
+ghost use mathlib.Core.List.{List};
+ghost use Prim.Native.Nat.{ℕ};
+ghost use Rattle.rle.specs.Engine.{conf};
+ghost use Rattle.rle.specs.Turns.{SidesOk, AskOk};
+ghost use Rattle.rle.specs.Fits.{engineCheck};
+ghost use Rattle.rle.specs.Questions.{raisedCell, windowCell, windowFrom, lowestOf, highestOf, blankTape, spanOf, countOf, getAnswer, extentAnswer, countAnswer, windowInto};
+
+impl ChainSim {
+    // The symbol at a raised position.
+    fn cell(self, ls: &[u8], ll: &[u64], rs: &[u8], rl: &[u64], raised: u64) -> u8
+        requires { ⌜ SidesOk (conf self (now ls) (now ll) (now rs) (now rl)) ⌝ }
+        ensures { λ r. ⌜ r ≡ raisedCell (conf self (now (ls .entry)) (now (ll .entry)) (now (rs .entry)) (now (rl .entry))) raised ⌝ }
+    {
+        let tape = self.tape;
+        if raised == tape.head {
+            return tape.cur;
+        }
+        if raised < tape.head {
+            return stack::symbol_at(ls, ll, tape.left, tape.head - raised - 1);
+        }
+        stack::symbol_at(rs, rl, tape.right, raised - tape.head - 1)
+    }
+
+    // The symbol j places above a raised position; positions past i64 are blank.
+    fn window_cell(self, ls: &[u8], ll: &[u64], rs: &[u8], rl: &[u64], raised: u64, j: usize) -> u8
+        requires { ⌜ SidesOk (conf self (now ls) (now ll) (now rs) (now rl)) ⌝ }
+        ensures { λ r. ⌜ r ≡ windowCell (conf self (now (ls .entry)) (now (ll .entry)) (now (rs .entry)) (now (rl .entry))) raised j ⌝ }
+    {
+        let above = j as u64;
+        if 18446744073709551615 - raised < above {
+            return 0;
+        }
+        self.cell(ls, ll, rs, rl, raised + above)
+    }
+
+    // The symbols from a raised position on, into the whole of `out`.
+    fn fill_window(
+        self,
+        ls: &[u8],
+        ll: &[u64],
+        rs: &[u8],
+        rl: &[u64],
+        raised: u64,
+        out: &mut [u8],
+    )
+        requires { ⌜ SidesOk (conf self (now ls) (now ll) (now rs) (now rl)) ⌝ }
+        ensures { λ _. ⌜ now (out .exit) ≡ windowFrom (conf self (now (ls .entry)) (now (ll .entry)) (now (rs .entry)) (now (rl .entry))) raised (now (out .entry)) ⌝ }
+    {
+        let n = out.len();
+        let mut j = 0;
+        while j < n {
+            let x = self.window_cell(ls, ll, rs, rl, raised, j);
+            out[j] = x;
+            j += 1;
+        }
+    }
+
+    // Whether every cell is blank.
+    fn blank(self) -> bool
+        ensures { λ r. ⌜ ((ls ll rs rl : List ℕ) → r ≡ blankTape (conf self ls ll rs rl)) ⌝ }
+    {
+        let tape = self.tape;
+        if tape.cur != 0 {
+            return false;
+        }
+        if tape.left != 0 {
+            return false;
+        }
+        tape.right == 0
+    }
+
+    // The raised position of the lowest cell that is not blank.
+    fn lowest_cell(self, ls: &[u8], ll: &[u64], rs: &[u8], rl: &[u64]) -> u64
+        requires { ⌜ (AskOk (conf self (now ls) (now ll) (now rs) (now rl))) × (blankTape (conf self (now ls) (now ll) (now rs) (now rl)) ≡ false) ⌝ }
+        ensures { λ r. ⌜ r ≡ lowestOf (conf self (now (ls .entry)) (now (ll .entry)) (now (rs .entry)) (now (rl .entry))) ⌝ }
+    {
+        let tape = self.tape;
+        if tape.left != 0 {
+            return tape.head - stack::cells(ll, tape.left, self.steps + 1048576);
+        }
+        if tape.cur != 0 {
+            return tape.head;
+        }
+        tape.head + stack::near(rs, rl, tape.right)
+    }
+
+    // The raised position of the highest cell that is not blank.
+    fn highest_cell(self, ls: &[u8], ll: &[u64], rs: &[u8], rl: &[u64]) -> u64
+        requires { ⌜ (AskOk (conf self (now ls) (now ll) (now rs) (now rl))) × (blankTape (conf self (now ls) (now ll) (now rs) (now rl)) ≡ false) ⌝ }
+        ensures { λ r. ⌜ r ≡ highestOf (conf self (now (ls .entry)) (now (ll .entry)) (now (rs .entry)) (now (rl .entry))) ⌝ }
+    {
+        let tape = self.tape;
+        if tape.right != 0 {
+            return tape.head + stack::cells(rl, tape.right, self.steps + 1048576);
+        }
+        if tape.cur != 0 {
+            return tape.head;
+        }
+        tape.head - stack::near(ls, ll, tape.left)
+    }
+
+    fn span(self, ls: &[u8], ll: &[u64], rs: &[u8], rl: &[u64]) -> Span
+        requires { ⌜ AskOk (conf self (now ls) (now ll) (now rs) (now rl)) ⌝ }
+        ensures { λ r. ⌜ r ≡ spanOf (conf self (now (ls .entry)) (now (ll .entry)) (now (rs .entry)) (now (rl .entry))) ⌝ }
+    {
+        if self.blank() {
+            return Span::Empty;
+        }
+        let from = position::signed(self.lowest_cell(ls, ll, rs, rl));
+        let to = position::signed(self.highest_cell(ls, ll, rs, rl));
+        Span::Cells { from, to }
+    }
+
+    fn count(self, ls: &[u8], ll: &[u64], rs: &[u8], rl: &[u64]) -> u64
+        requires { ⌜ AskOk (conf self (now ls) (now ll) (now rs) (now rl)) ⌝ }
+        ensures { λ r. ⌜ r ≡ countOf (conf self (now (ls .entry)) (now (ll .entry)) (now (rs .entry)) (now (rl .entry))) ⌝ }
+    {
+        let tape = self.tape;
+        let lefts = stack::written(ls, ll, tape.left);
+        let rights = stack::written(rs, rl, tape.right);
+        if tape.cur == 0 {
+            return lefts + rights;
+        }
+        lefts + 1 + rights
+    }
+
+    // The symbol at a position; a cell past the stacks is blank.
+    pub fn get(
+        self,
+        m: Machine,
+        table: &[u8],
+        ls: &[u8],
+        ll: &[u64],
+        rs: &[u8],
+        rl: &[u64],
+        at: i64,
+    ) -> Got
+        ensures { λ r. ⌜ r ≡ getAnswer m (now (table .entry)) at (conf self (now (ls .entry)) (now (ll .entry)) (now (rs .entry)) (now (rl .entry))) ⌝ }
+    {
+        let checked = self.engine_check(m, table, ls, ll, rs, rl);
+        match checked {
+            Checked::Refused(why) => {
+                return Got::Refused(why);
+            }
+            Checked::Accepted => {
+                return Got::Found(Symbol(self.cell(ls, ll, rs, rl, position::raised(at))));
+            }
+        }
+    }
+
+    // The positions of the lowest and the highest non-blank cell.
+    pub fn non_blank(
+        self,
+        m: Machine,
+        table: &[u8],
+        ls: &[u8],
+        ll: &[u64],
+        rs: &[u8],
+        rl: &[u64],
+    ) -> Extent
+        ensures { λ r. ⌜ r ≡ extentAnswer m (now (table .entry)) (conf self (now (ls .entry)) (now (ll .entry)) (now (rs .entry)) (now (rl .entry))) ⌝ }
+    {
+        let checked = self.engine_check(m, table, ls, ll, rs, rl);
+        match checked {
+            Checked::Refused(why) => {
+                return Extent::Refused(why);
+            }
+            Checked::Accepted => {
+                return Extent::Found(self.span(ls, ll, rs, rl));
+            }
+        }
+    }
+
+    // How many cells are not blank.
+    pub fn count_non_blank(
+        self,
+        m: Machine,
+        table: &[u8],
+        ls: &[u8],
+        ll: &[u64],
+        rs: &[u8],
+        rl: &[u64],
+    ) -> Counted
+        ensures { λ r. ⌜ r ≡ countAnswer m (now (table .entry)) (conf self (now (ls .entry)) (now (ll .entry)) (now (rs .entry)) (now (rl .entry))) ⌝ }
+    {
+        let checked = self.engine_check(m, table, ls, ll, rs, rl);
+        match checked {
+            Checked::Refused(why) => {
+                return Counted::Refused(why);
+            }
+            Checked::Accepted => {
+                return Counted::Found(self.count(ls, ll, rs, rl));
+            }
+        }
+    }
+
+    // The symbols from a position on, into the whole of `out`; positions past i64 are blank.
+    pub fn window(
+        self,
+        m: Machine,
+        table: &[u8],
+        ls: &[u8],
+        ll: &[u64],
+        rs: &[u8],
+        rl: &[u64],
+        from: i64,
+        out: &mut [u8],
+    ) -> Checked
+        ensures { λ r. ⌜ (r ≡ engineCheck m (now (table .entry)) (conf self (now (ls .entry)) (now (ll .entry)) (now (rs .entry)) (now (rl .entry)))) × (now (out .exit) ≡ windowInto m (now (table .entry)) from (conf self (now (ls .entry)) (now (ll .entry)) (now (rs .entry)) (now (rl .entry))) (now (out .entry))) ⌝ }
+    {
+        let checked = self.engine_check(m, table, ls, ll, rs, rl);
+        match checked {
+            Checked::Refused(why) => {
+                return Checked::Refused(why);
+            }
+            Checked::Accepted => {
+                self.fill_window(ls, ll, rs, rl, position::raised(from), out);
+                return Checked::Accepted;
+            }
+        }
+    }
+}
