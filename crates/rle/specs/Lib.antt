@@ -5,7 +5,9 @@ pub mod FitsCases
 pub mod FreshCases
 pub mod OperationCases
 pub mod QuestionCases
+pub mod RecordCases
 pub mod EngineCases
 pub mod RunCases
 pub mod Operations
 pub mod Questions
+pub mod Records

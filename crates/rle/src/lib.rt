@@ -13,6 +13,7 @@ ghost use Rattle.rle.specs.Operations.{given, runAnswer, made, newAnswer
 mod checks;
 pub mod inner;
 mod questions;
+mod sides;
 mod word;
 
 // The tape. The runs of each side stand in lent places, of which so many are live. The head's position is raised by

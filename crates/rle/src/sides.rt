@@ -1,0 +1,108 @@
+// The tape questions `left` and `right`: the runs of a side as records in a lent slice. These two hold the slice, and are
+// proved by hand; what is decided is in the checks.
+use super::ChainSim;
+use machine::Checked;
+use machine::Machine;
+use records::Listed;
+use records::Run;
+ghost use mathlib.Core.Path.{_≡_};
+ghost use lib.ListN.{length};
+ghost use Rattle.rle.specs.Engine.{conf};
+ghost use Rattle.rle.specs.Records.{sideAnswer, leftAnswer, leftInto, rightAnswer, rightInto};
+
+impl ChainSim {
+    // The table check, 8, 11, 12, then 18 where `room` records are too few for `count` runs.
+    fn list_check(
+        self,
+        m: Machine,
+        table: &[u8],
+        ls: &[u8],
+        ll: &[u64],
+        rs: &[u8],
+        rl: &[u64],
+        count: usize,
+        room: usize,
+    ) -> Listed
+        ensures { λ r. ⌜ r ≡ sideAnswer m (now (table .entry)) count room (conf self (now (ls .entry)) (now (ll .entry)) (now (rs .entry)) (now (rl .entry))) ⌝ }
+    {
+        let checked = self.engine_check(m, table, ls, ll, rs, rl);
+        match checked {
+            Checked::Refused(why) => {
+                return Listed::Refused(why);
+            }
+            Checked::Accepted => {
+                return records::inner::room_for(count, room);
+            }
+        }
+    }
+
+    fn left_check<'a>(
+        self,
+        m: Machine,
+        table: &'a [u8],
+        ls: &'a [u8],
+        ll: &'a [u64],
+        rs: &'a [u8],
+        rl: &'a [u64],
+        room: usize,
+    ) -> Listed
+        ensures { λ r. ⌜ r ≡ leftAnswer m (now (table .entry)) room (conf self (now (ls .entry)) (now (ll .entry)) (now (rs .entry)) (now (rl .entry))) ⌝ }
+    {
+        let tape = self.tape;
+        self.list_check(m, table, ls, ll, rs, rl, tape.left, room)
+    }
+
+    fn right_check<'a>(
+        self,
+        m: Machine,
+        table: &'a [u8],
+        ls: &'a [u8],
+        ll: &'a [u64],
+        rs: &'a [u8],
+        rl: &'a [u64],
+        room: usize,
+    ) -> Listed
+        ensures { λ r. ⌜ r ≡ rightAnswer m (now (table .entry)) room (conf self (now (ls .entry)) (now (ll .entry)) (now (rs .entry)) (now (rl .entry))) ⌝ }
+    {
+        let tape = self.tape;
+        self.list_check(m, table, ls, ll, rs, rl, tape.right, room)
+    }
+
+    // The runs of the left side, the topmost last, into the first places of `out`; how many they are.
+    pub fn left<'a, 'b>(
+        self,
+        m: Machine,
+        table: &'a [u8],
+        ls: &'a [u8],
+        ll: &'a [u64],
+        rs: &'a [u8],
+        rl: &'a [u64],
+        out: &'b mut [Run],
+    ) -> Listed
+        ensures { λ r. ⌜ (r ≡ leftAnswer m (now (table .entry)) (length (now (out .entry))) (conf self (now (ls .entry)) (now (ll .entry)) (now (rs .entry)) (now (rl .entry)))) × (now (out .exit) ≡ leftInto m (now (table .entry)) (conf self (now (ls .entry)) (now (ll .entry)) (now (rs .entry)) (now (rl .entry))) (now (out .entry))) ⌝ }
+    {
+        let listed = self.left_check(m, table, ls, ll, rs, rl, out.len());
+        let count = records::inner::written(listed);
+        records::inner::fill(ls, ll, count, out);
+        listed
+    }
+
+    // The same of the right side.
+    pub fn right<'a, 'b>(
+        self,
+        m: Machine,
+        table: &'a [u8],
+        ls: &'a [u8],
+        ll: &'a [u64],
+        rs: &'a [u8],
+        rl: &'a [u64],
+        out: &'b mut [Run],
+    ) -> Listed
+        ensures { λ r. ⌜ (r ≡ rightAnswer m (now (table .entry)) (length (now (out .entry))) (conf self (now (ls .entry)) (now (ll .entry)) (now (rs .entry)) (now (rl .entry)))) × (now (out .exit) ≡ rightInto m (now (table .entry)) (conf self (now (ls .entry)) (now (ll .entry)) (now (rs .entry)) (now (rl .entry))) (now (out .entry))) ⌝ }
+    {
+        let listed = self.right_check(m, table, ls, ll, rs, rl, out.len());
+        let count = records::inner::written(listed);
+        records::inner::fill(rs, rl, count, out);
+        listed
+    }
+}
