@@ -21,10 +21,10 @@ use Rattle.tape.specs.declared.Tape.{Tape}
 use Rattle.tape.specs.Moves.{Held, readOf, roomFor}
 use Rattle.tape.specs.Fits.{TapeSafe}
 use Rattle.tape.specs.Questions.{blankBeyond}
-use Rattle.before.specs.declared.look.Look.{Look}
-use Rattle.before.specs.declared.look.Look.the-variants.{Halt, Never, Go}
-use Rattle.before.specs.declared.look.Choice.{Choice}
-use Rattle.before.specs.declared.look.Choice.the-variants as Choice
+use Rattle.before.specs.declared.inner.look.Look.{Look}
+use Rattle.before.specs.declared.inner.look.Look.the-variants.{Halt, Never, Go}
+use Rattle.before.specs.declared.inner.look.Choice.{Choice}
+use Rattle.before.specs.declared.inner.look.Choice.the-variants as Choice
 
 -- ---- what is seen: no entry; else, where asked, a proved loop; else the entry
 

@@ -18,10 +18,10 @@ use Rattle.machine.specs.Layout.{strideOf, entryNumber, entryAt}
 use Rattle.tape.specs.declared.Tape.{Tape}
 use Rattle.tape.specs.Moves.{Held, readOf}
 use Rattle.tape.specs.Questions.{blankBeyond}
-use Rattle.before.specs.declared.look.Look.{Look}
-use Rattle.before.specs.declared.look.Look.the-variants.{Halt, Never, Go}
-use Rattle.before.specs.declared.look.Choice.{Choice}
-use Rattle.before.specs.declared.look.Choice.the-variants as Choice
+use Rattle.before.specs.declared.inner.look.Look.{Look}
+use Rattle.before.specs.declared.inner.look.Look.the-variants.{Halt, Never, Go}
+use Rattle.before.specs.declared.inner.look.Choice.{Choice}
+use Rattle.before.specs.declared.inner.look.Choice.the-variants as Choice
 use Rattle.before.specs.Look.{staysAll, loopOf, judgeOf, lookOn, entryOf, lookAt, roomsOf, goOf, choiceAt, Within, AtOk}
 
 pub entry-is : (m : Machine) (s : List ℕ) (q : State) (r0 r1 r2 number stride : ℕ) (e : Entry) → e ≡ entryAt s number

@@ -1,4 +1,2 @@
 // What the plain engine asks before it begins, and before each step of a run, over tapes and their cells.
-pub mod look;
-pub mod sizes;
-pub mod words;
+pub mod inner;

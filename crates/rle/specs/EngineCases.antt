@@ -12,14 +12,12 @@ use Rattle.symbol.specs.declared.Dir.{Dir}
 use Rattle.symbol.specs.declared.Dir.the-variants.{L, R, N}
 use Rattle.outcome.specs.declared.NonHaltProof.{NonHaltProof}
 use Rattle.outcome.specs.declared.NonHaltProof.the-variants.{StayLoop, ChainToInfinity}
-use Rattle.outcome.specs.declared.Outcome.{Outcome}
 use Rattle.outcome.specs.declared.Outcome.the-variants.{Halted, OutOfFuel, NeverHalts, Stopped, Full}
-use Rattle.machine.specs.declared.Machine.{Machine}
 use Rattle.machine.specs.declared.Action.{Action}
 use Rattle.machine.specs.declared.Entry.{Entry}
 use Rattle.machine.specs.declared.Entry.the-variants.{Undefined, Defined}
 use Rattle.sim.specs.declared.StopRule.{StopRule}
-use Rattle.sim.specs.Engine.{Task, task, entryOf, matches}
+use Rattle.sim.specs.Engine.{Task, entryOf, matches}
 use Rattle.stacks.specs.Sides.{Side, side, placesOf, topOf, aheadOf, pushOf, lacks, takeOf, sumOf}
 use Rattle.rle.specs.declared.ChainSim.{ChainSim}
 use Rattle.rle.specs.declared.inner.Sure.{Sure}
@@ -27,7 +25,7 @@ use Rattle.rle.specs.declared.inner.Sure.the-variants.{Open, Loops}
 use Rattle.rle.specs.declared.inner.Leap.{Leap}
 use Rattle.rle.specs.declared.inner.Plan.{Plan}
 use Rattle.rle.specs.declared.inner.Plan.the-variants.{Stop, Go}
-use Rattle.rle.specs.Engine.{Conf, conf, leftOf, rightOf, walkOf, patternOf, sureOf, chainFor, repeatsOf, fullFor, leap, spaceOf, fuelOf, neverOf, planOn, planOf, Carried, carried, carryOf, landed, leftward, rightward, leapTo, leapOf, End, end, onPlan, runWithin, runOf}
+use Rattle.rle.specs.Engine.{Conf, conf, leftOf, rightOf, walkOf, patternOf, sureOf, chainFor, repeatsOf, fullFor, leap, spaceOf, fuelOf, neverOf, planOn, planOf, Carried, carried, carryOf, landed, leftward, rightward, leapTo, leapOf}
 use Rattle.stacks.specs.SideFacts.{SideOk}
 use Rattle.rle.specs.Turns.{LeapOk, askedOf}
 
@@ -239,11 +237,16 @@ CarryOk b a w n =
 
 carry-ok : (p p′ most w n : ℕ) (b a : Side) → SideOk p most b → SideOk p′ most a → p ≡ placesOf (b .symbols) (b .lengths) → lacks p w b ≡ false
     → most + n < 18446744073709551616 → 1 ≤ n → CarryOk b a w n
-carry-ok p p′ most w n b a x y e l h o =
-    ((omega (arith, x .live, x .symbols-in), omega (arith, x .live, x .lengths-in)),
-    (sym (ap (λ (p : ℕ). lacks p w b) e) ∙ l,
-    (omega (arith, x .cells-in),
-    (omega (arith, y .live, y .symbols-in), omega (arith, y .live, y .lengths-in), o))))
+carry-ok p p′ most w n b a x y e l h o = (
+  (omega (arith, x .live, x .symbols-in), omega (arith, x .live, x .lengths-in)),
+  (
+    sym (ap (λ (p : ℕ). lacks p w b) e) ∙ l,
+    (
+      omega (arith, x .cells-in),
+      (omega (arith, y .live, y .symbols-in), omega (arith, y .live, y .lengths-in), o),
+    ),
+  ),
+)
 
 module _ (j : Leap) (v : ChainSim) (ls ll rs rl : List ℕ) (h : LeapOk j (conf v ls ll rs rl)) where
   pub left-ok : j .dir ≡ L → CarryOk (side rs rl (v .tape .right)) (side ls ll (v .tape .left)) (j .write) (j .repeats)

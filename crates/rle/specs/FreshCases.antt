@@ -4,7 +4,7 @@ use mathlib.Core.Bool.{Bool, true, false}
 use mathlib.Core.List.{List, [], _∷_}
 use Prim.Native.Nat.{ℕ, zero, suc, _+_, _-_, _≤_, _<_, min}
 use native.Mathlib.Omega.{arith}
-use borrow.Author.Tests.{leb-true, le-leb, lt-leb, eq-eqb, ne-eqb, eqb-true, eqb-false}
+use borrow.Author.Tests.{le-leb, lt-leb, eq-eqb, ne-eqb, eqb-true, eqb-false}
 use lib.Dec.{eqb, leb}
 use lib.ListN.{length, getD, set}
 use lib.Seq.{getD-set-same}
@@ -173,10 +173,13 @@ module _ (w : List ℕ) (p : ℕ) (x₀ x : Side) (i : ℕ) (g : Laying w p x₀
 -- what the push asks for
 pub laying-asks : (w ss ls : List ℕ) (p n i : ℕ) (x₀ : Side) → Laying w p x₀ (side ss ls n) i → 1 < i → length w ≤ 1048576
     → ((n ≤ length ss) × (n ≤ length ls)) × ((lacks (placesOf ss ls) (getD w (i - 1) 0) (side ss ls n) ≡ false) × (sumOf ls n + 1 < 18446744073709551616))
-laying-asks w ss ls p n i x₀ g h b =
-    ((omega (arith, g .ok .live, g .ok .symbols-in), omega (arith, g .ok .live, g .ok .lengths-in)),
-    (sym (ap (λ (p : ℕ). lacks p (getD w (i - 1) 0) (side ss ls n)) (g .places)) ∙ laying-place w p x₀ (side ss ls n) i g h,
-    omega (arith, g .ok .cells-in)))
+laying-asks w ss ls p n i x₀ g h b = (
+  (omega (arith, g .ok .live, g .ok .symbols-in), omega (arith, g .ok .live, g .ok .lengths-in)),
+  (
+    sym (ap (λ (p : ℕ). lacks p (getD w (i - 1) 0) (side ss ls n)) (g .places)) ∙ laying-place w p x₀ (side ss ls n) i g h,
+    omega (arith, g .ok .cells-in),
+  ),
+)
 
 pub laying-end : (w : List ℕ) (p : ℕ) (x₀ x : Side) (i : ℕ) → Laying w p x₀ x i → i ≤ 1 → x ≡ laidOf w (length w - 1) x₀
 laying-end w p x₀ x i g h =

@@ -1,6 +1,6 @@
 -- The operations' answers, and what the checks give where they pass. Assumes nothing.
-use mathlib.Core.Path.{_≡_, refl, sym, _∙_, ap}
-use mathlib.Core.Bool.{Bool, true}
+use mathlib.Core.Path.{_≡_, sym, _∙_}
+use mathlib.Core.Bool.{true}
 use mathlib.Core.List.{List}
 use Prim.Native.Nat.{ℕ, _+_, _-_, _≤_, _<_}
 use native.Mathlib.Omega.{arith}
@@ -21,16 +21,14 @@ use Rattle.machine.specs.WordFacts.{word-says}
 use Rattle.sim.specs.declared.StopRule.{StopRule}
 use Rattle.sim.specs.declared.Answer.the-variants as Ans
 use Rattle.sim.specs.Engine.{task}
-use Rattle.sim.specs.Operations.{stepsMost, fuelFits}
-use Rattle.sim.specs.OperationCases.{on-says}
-use Rattle.stacks.specs.Sides.{Side, side, placesOf, cellsOf}
+use Rattle.sim.specs.OperationCases.{on-says, fuel-says}
+use Rattle.stacks.specs.Sides.{Side, side, placesOf}
 use Rattle.stacks.specs.SideFacts.{SideOk}
-use Rattle.rle.specs.declared.ChainSim.{ChainSim}
 use Rattle.rle.specs.declared.Fresh.the-variants as New
-use Rattle.rle.specs.Engine.{Conf, conf, leftOf, rightOf, end, runOf}
-use Rattle.rle.specs.Turns.{TableOk, SidesOk, CountsOk, RunOk}
+use Rattle.rle.specs.Engine.{Conf, end, runOf}
+use Rattle.rle.specs.Turns.{SidesOk, CountsOk, RunOk}
 use Rattle.rle.specs.Fits.{zeroAt, sideFits, headFits, countsFit, chainFits, placesFit, valueCheck, engineCheck, runCheck}
-use Rattle.rle.specs.Operations.{given, runOn, runAnswer, runsOf, laidOf, freshSizes, freshCheck, Made, made, newAnswer}
+use Rattle.rle.specs.Operations.{given, runAnswer, runsOf, laidOf, freshSizes, freshCheck, Made, made, newAnswer}
 
 -- ---- a value that passed
 
@@ -50,12 +48,6 @@ value-says m s σ t e =
 pub engine-says : (m : Machine) (s : List ℕ) (σ : Conf) → engineCheck m s σ ≡ Accepted → Passed m s σ
 unfolding engineCheck
 engine-says m s σ e = let t = on-says _ _ e in value-says m s σ (t .0) (t .1)
-
-fuel-says : (steps fuel : ℕ) → fuelFits steps fuel ≡ true → steps + fuel ≤ 4611686018427387904
-unfolding fuelFits
-fuel-says steps fuel e =
-    let p = both-split e in
-    omega (arith, leb-true fuel stepsMost (p .0), leb-true steps (stepsMost - fuel) (p .1))
 
 pub run-says : (m : Machine) (s : List ℕ) (fuel : ℕ) (σ : Conf) → runCheck m s fuel σ ≡ Accepted → Passed m s σ × (σ .sim .steps + fuel ≤ 4611686018427387904)
 unfolding runCheck

@@ -20,7 +20,7 @@ use Rattle.stacks.specs.Sides.{Side, side, placesOf, pushOf}
 use Rattle.rle.specs.declared.ChainSim.{ChainSim}
 use Rattle.rle.specs.declared.Fresh.{Fresh}
 use Rattle.rle.specs.declared.Fresh.the-variants as New
-use Rattle.rle.specs.Engine.{Conf, conf, End, runOf}
+use Rattle.rle.specs.Engine.{Conf, End, runOf}
 use Rattle.rle.specs.Fits.{zeroAt, slack, runCheck}
 
 -- ---- the run: an answer, with the engine and the places as they are left

@@ -1,13 +1,10 @@
 -- A run: what a macro step that was decided keeps, and the loop's arms. Assumes nothing.
 use mathlib.Core.Path.{_≡_, refl, sym, _∙_, ap, subst}
-use mathlib.Core.Bool.{Bool, true, false}
-use mathlib.Core.List.{List}
-use Prim.Native.Nat.{ℕ, zero, suc, _+_, _-_, _≤_, _<_, min, max}
+use mathlib.Core.Bool.{Bool, false}
+use Prim.Native.Nat.{ℕ, zero, suc, _+_, _-_, _≤_, _<_, min}
 use native.Mathlib.Omega.{arith}
 use lib.Dec.{eqb}
-use lib.ListN.{length}
 use borrow.Author.Tests.{eqb-false}
-use Rattle.laws.specs.Choice.{pick}
 use Rattle.laws.specs.Tests.{pick-cases}
 use Rattle.symbol.specs.declared.State.{State}
 use Rattle.symbol.specs.declared.Dir.{Dir}
@@ -18,16 +15,15 @@ use Rattle.machine.specs.declared.Action.{Action}
 use Rattle.machine.specs.declared.Entry.{Entry}
 use Rattle.machine.specs.declared.Entry.the-variants.{Undefined, Defined}
 use Rattle.sim.specs.declared.StopRule.{StopRule}
-use Rattle.sim.specs.Engine.{Task, task, entryOf, matches}
-use Rattle.stacks.specs.Sides.{Side, side, placesOf, aheadOf, pushOf, lacks, takeOf}
+use Rattle.sim.specs.Engine.{Task, entryOf, matches}
+use Rattle.stacks.specs.Sides.{Side, placesOf, pushOf, lacks, takeOf}
 use Rattle.stacks.specs.SideFacts.{SideOk, SameLengths, push-ok, push-same, take-ok, take-same}
-use Rattle.rle.specs.declared.ChainSim.{ChainSim}
 use Rattle.rle.specs.declared.inner.Sure.{Sure}
 use Rattle.rle.specs.declared.inner.Sure.the-variants.{Open, Loops}
 use Rattle.rle.specs.declared.inner.Leap.{Leap}
 use Rattle.rle.specs.declared.inner.Plan.{Plan}
 use Rattle.rle.specs.declared.inner.Plan.the-variants.{Stop, Go}
-use Rattle.rle.specs.Engine.{Conf, conf, leftOf, rightOf, sureOf, chainFor, repeatsOf, fullFor, leap, spaceOf, fuelOf, neverOf, planOn, planOf, carryOf, landed, leapTo, leapOf, End, end, onPlan, runWithin, runOf}
+use Rattle.rle.specs.Engine.{Conf, leftOf, rightOf, sureOf, chainFor, repeatsOf, fullFor, spaceOf, fuelOf, neverOf, planOn, planOf, carryOf, landed, leapTo, leapOf, end, onPlan, runWithin, runOf}
 use Rattle.rle.specs.Turns.{SidesOk, CountsOk, LeapOk, RunOk, SameSizes, Going}
 
 -- ---- a macro step that was decided

@@ -1,5 +1,6 @@
 // What every operation on an engine tests before it begins: refusals 8, 11, 12 and 13 after the table check.
 use super::ChainSim;
+use before::inner::sizes;
 use machine::Checked;
 use machine::Machine;
 use outcome::Refusal;
@@ -8,29 +9,12 @@ ghost use mathlib.Core.Path.{_≡_};
 ghost use Prim.Native.Nat.{_+_, _≤_, _<_};
 ghost use lib.ListN.{length};
 ghost use Rattle.laws.specs.Choice.{pick};
-ghost use Rattle.sim.specs.Operations.{fuelFits};
 ghost use Rattle.stacks.specs.Sides.{side, placesOf, cellsOf};
 ghost use Rattle.rle.specs.Engine.{conf};
 ghost use Rattle.rle.specs.Fits.{sideFits, headFits, reachFits, countsFit, chainFits, placesFit, valueCheck, engineCheck, runCheck};
 
-fn fuel_fits(steps: u64, fuel: u64) -> bool
-    ensures { λ r. ⌜ r ≡ fuelFits steps fuel ⌝ }
-{
-    if 4611686018427387904 < fuel {
-        return false;
-    }
-    steps <= 4611686018427387904 - fuel
-}
-
 // How many cells a side has, at most `most`; `most + 1` where it does not fit.
-fn measure(
-    symbols: &[u8],
-    lengths: &[u64],
-    count: usize,
-    places: usize,
-    k: u64,
-    most: u64,
-) -> u64
+fn measure(symbols: &[u8], lengths: &[u64], count: usize, places: usize, k: u64, most: u64) -> u64
     requires { ⌜ (places ≤ length (now symbols)) × (places ≤ length (now lengths)) × (most < 9223372036854775808) ⌝ }
     ensures { λ r. ⌜ r ≡ pick (sideFits k places most (side (now (symbols .entry)) (now (lengths .entry)) count)) (cellsOf (side (now (symbols .entry)) (now (lengths .entry)) count)) (most + 1) ⌝ }
 {
@@ -177,7 +161,7 @@ impl ChainSim {
                 return Checked::Refused(why);
             }
             Checked::Accepted => {
-                if !fuel_fits(self.steps, fuel) {
+                if !sizes::fuel_fits(self.steps, fuel) {
                     return Checked::Refused(Refusal::StepLimit);
                 }
                 return Checked::Accepted;

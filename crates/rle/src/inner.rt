@@ -377,14 +377,7 @@ impl ChainSim {
     }
 
     // Makes a macro step; the caller has decided it.
-    fn leap(
-        self,
-        j: Leap,
-        ls: &mut [u8],
-        ll: &mut [u64],
-        rs: &mut [u8],
-        rl: &mut [u64],
-    ) -> ChainSim
+    fn leap(self, j: Leap, ls: &mut [u8], ll: &mut [u64], rs: &mut [u8], rl: &mut [u64]) -> ChainSim
         requires { ⌜ LeapOk j (conf self (now ls) (now ll) (now rs) (now rl)) ⌝ }
         ensures { λ r. ⌜ conf r (now (ls .exit)) (now (ll .exit)) (now (rs .exit)) (now (rl .exit)) ≡ leapOf j (conf self (now (ls .entry)) (now (ll .entry)) (now (rs .entry)) (now (rl .entry))) ⌝ }
     {

@@ -47,15 +47,7 @@ impl ChainSim {
     }
 
     // The symbols from a raised position on, into the whole of `out`.
-    fn fill_window(
-        self,
-        ls: &[u8],
-        ll: &[u64],
-        rs: &[u8],
-        rl: &[u64],
-        raised: u64,
-        out: &mut [u8],
-    )
+    fn fill_window(self, ls: &[u8], ll: &[u64], rs: &[u8], rl: &[u64], raised: u64, out: &mut [u8])
         requires { ⌜ SidesOk (conf self (now ls) (now ll) (now rs) (now rl)) ⌝ }
         ensures { λ _. ⌜ now (out .exit) ≡ windowFrom (conf self (now (ls .entry)) (now (ll .entry)) (now (rs .entry)) (now (rl .entry))) raised (now (out .entry)) ⌝ }
     {

@@ -15,10 +15,10 @@ use Rattle.machine.specs.Layout.{entryNumber, dirOf, entryAt}
 use Rattle.tape.specs.declared.Tape.{Tape}
 use Rattle.tape.specs.Fits.{TapeSafe}
 use Rattle.tape.specs.Moves.{held, readOf, leaves, actOf}
-use Rattle.several.specs.declared.Wide.{Wide}
-use Rattle.several.specs.declared.Orders.{Orders}
-use Rattle.several.specs.declared.Slid.{Slid}
-use Rattle.several.specs.declared.Next.{Next}
+use Rattle.several.specs.declared.inner.Wide.{Wide}
+use Rattle.several.specs.declared.inner.Orders.{Orders}
+use Rattle.several.specs.declared.inner.Slid.{Slid}
+use Rattle.several.specs.declared.inner.Next.{Next}
 
 -- ---- what the functions that are asked before a step say
 

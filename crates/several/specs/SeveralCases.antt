@@ -20,10 +20,10 @@ use Rattle.tape.specs.Fits.{TapeSafe}
 use Rattle.tape.specs.Moves.{Held, held, readOf, leaves, shiftOf, actOf}
 use Rattle.tape.specs.MoveCases.{act-none, act-inside, shift-left, shift-right, shift-none}
 use Rattle.tape.specs.MoveFacts.{act-safe}
-use Rattle.several.specs.declared.Wide.{Wide}
-use Rattle.several.specs.declared.Orders.{Orders}
-use Rattle.several.specs.declared.Slid.{Slid}
-use Rattle.several.specs.declared.Next.{Next}
+use Rattle.several.specs.declared.inner.Wide.{Wide}
+use Rattle.several.specs.declared.inner.Orders.{Orders}
+use Rattle.several.specs.declared.inner.Slid.{Slid}
+use Rattle.several.specs.declared.inner.Next.{Next}
 use Rattle.several.specs.Several.{followed, Moving, FreeIf, OrdersIf, wrote, Slides, SlidIf, Steps, NextIf, HeadsIn, SafeAll, Beat, here, more, Carried}
 
 -- ---- what an entry says

@@ -18,7 +18,7 @@ use Rattle.tape.specs.Moves.{Held, held, readOf, roomFor, actOf}
 use Rattle.sim.specs.declared.Simulator.{Simulator}
 use Rattle.sim.specs.declared.StopRule.{StopRule}
 use Rattle.sim.specs.declared.StopRule.the-variants as Rule
-use Rattle.before.specs.declared.look.Look.{Look}
+use Rattle.before.specs.declared.inner.look.Look.{Look}
 pub use Rattle.before.specs.Look.{onLook}
 unfoldable pub use Rattle.before.specs.Look.{stays, staysAll, loopOf, judgeOf, lookOn, entryOf}
 

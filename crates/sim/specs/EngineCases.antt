@@ -23,8 +23,8 @@ use Rattle.tape.specs.Questions.{blankBeyond}
 use Rattle.sim.specs.declared.Simulator.{Simulator}
 use Rattle.sim.specs.declared.StopRule.the-variants as Rule
 pub use Rattle.before.specs.LookCases.{entry-is}
-use Rattle.before.specs.declared.look.Look.{Look}
-use Rattle.before.specs.declared.look.Look.the-variants.{Halt, Never, Go}
+use Rattle.before.specs.declared.inner.look.Look.{Look}
+use Rattle.before.specs.declared.inner.look.Look.the-variants.{Halt, Never, Go}
 use Rattle.sim.specs.Engine.{Task, Conf, conf, staysAll, loopOf, judgeOf, lookOn, entryOf, lookWith, lookOf, roomsFor, roomyOf, stepOf, matches, End, end, haltedEnd, neverEnd, fuelEnd, fullEnd, stoppedEnd, task, runOf, Once, once, onceOf, statusOf}
 
 -- ---- the step

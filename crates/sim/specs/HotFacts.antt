@@ -21,7 +21,7 @@ use Rattle.machine.specs.CheckCases.{stride-one}
 use Rattle.tape.specs.declared.Tape.{Tape}
 use Rattle.tape.specs.Moves.{Held, held, readOf}
 use Rattle.tape.specs.Questions.{blankAt, blankBeyond}
-use Rattle.before.specs.declared.look.Look.the-variants.{Go}
+use Rattle.before.specs.declared.inner.look.Look.the-variants.{Go}
 use Rattle.sim.specs.Engine.{stays, staysAll, loopOf, judgeOf, entryOf}
 
 -- ---- one cell that is not blank: not all are

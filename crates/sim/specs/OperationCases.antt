@@ -125,7 +125,7 @@ bare-look m s σ stride p e l =
       safe2 = bare-safe (has2 m) (m .symbols) (σ .sim .t2) (σ .c2) (f2 .1) (z1 .1);
     }
 
-fuel-says : (steps fuel : ℕ) → fuelFits steps fuel ≡ true → steps + fuel ≤ 4611686018427387904
+pub fuel-says : (steps fuel : ℕ) → fuelFits steps fuel ≡ true → steps + fuel ≤ 4611686018427387904
 unfolding fuelFits
 fuel-says steps fuel e =
     let p = both-split e in

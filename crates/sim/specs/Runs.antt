@@ -13,7 +13,7 @@ use Rattle.sim.specs.declared.Simulator.{Simulator}
 use Rattle.sim.specs.declared.StopRule.{StopRule}
 use Rattle.burst.specs.declared.hot.Hot.{Hot}
 use Rattle.burst.specs.Words.{WordsOk}
-use Rattle.several.specs.declared.Wide.{Wide}
+use Rattle.several.specs.declared.inner.Wide.{Wide}
 use Rattle.sim.specs.declared.Answer.{Answer}
 use Rattle.sim.specs.declared.Answer.the-variants as Ans
 use Rattle.sim.specs.declared.StepAnswer.{StepAnswer}

@@ -14,10 +14,10 @@ use Rattle.machine.specs.declared.Machine.{Machine}
 use Rattle.machine.specs.declared.Action.{Action}
 use Rattle.tape.specs.MoveFacts.{act-safe}
 use Rattle.sim.specs.declared.Simulator.{Simulator}
-use Rattle.before.specs.declared.look.Look.{Look}
-use Rattle.before.specs.declared.look.Look.the-variants as Look
-use Rattle.before.specs.declared.look.Choice.{Choice}
-use Rattle.before.specs.declared.look.Choice.the-variants.{Stop, Go}
+use Rattle.before.specs.declared.inner.look.Look.{Look}
+use Rattle.before.specs.declared.inner.look.Look.the-variants as Look
+use Rattle.before.specs.declared.inner.look.Choice.{Choice}
+use Rattle.before.specs.declared.inner.look.Choice.the-variants.{Stop, Go}
 use Rattle.before.specs.Look.{roomsOf, goOf, AtOk}
 use Rattle.before.specs.LookCases.{go-fuel, go-on, go-full, choice-halt, choice-never, choice-go}
 use Rattle.sim.specs.Engine.{Task, Conf, conf, tape0, tape1, tape2, lookWith, lookOf, roomsFor, roomyOf, stepOf, matches, End, end, runOf}

@@ -9,7 +9,7 @@ use Rattle.machine.specs.declared.Action.{Action}
 use Rattle.machine.specs.Layout.{strideOf}
 use Rattle.tape.specs.Fits.{TapeSafe}
 use Rattle.sim.specs.declared.Simulator.{Simulator}
-use Rattle.before.specs.declared.look.Choice.{Choice}
+use Rattle.before.specs.declared.inner.look.Choice.{Choice}
 use Rattle.before.specs.Look.{choiceAt}
 use Rattle.sim.specs.Engine.{Conf, tape0, tape1, tape2, roomsFor}
 

@@ -16,10 +16,10 @@ use Rattle.machine.specs.declared.Action.{Action}
 use Rattle.machine.specs.declared.Entry.the-variants.{Defined}
 use Rattle.machine.specs.Layout.{strideOf, entryAt}
 use Rattle.tape.specs.Moves.{Held, readOf, leaves, roomFor}
-use Rattle.before.specs.declared.look.Look.the-variants.{Go}
+use Rattle.before.specs.declared.inner.look.Look.the-variants.{Go}
 use Rattle.before.specs.Look.{stays, staysAll, judgeOf, loopOf, entryOf}
 use Rattle.before.specs.LookCases.{look-judged}
-use Rattle.several.specs.declared.Wide.{Wide}
+use Rattle.several.specs.declared.inner.Wide.{Wide}
 use Rattle.several.specs.Several.{Moving, SafeAll, Beat, Walk, here, more, Carried}
 use Rattle.sim.specs.declared.Simulator.{Simulator}
 use Rattle.sim.specs.declared.StopRule.{StopRule}

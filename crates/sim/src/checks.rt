@@ -1,6 +1,6 @@
 // What every operation on an engine tests before it begins: refusals 11, 12 and 13 after the table check.
 use super::Simulator;
-use before::sizes;
+use before::inner::sizes;
 use machine::Checked;
 use machine::Machine;
 use outcome::Refusal;

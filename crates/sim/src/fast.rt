@@ -1,6 +1,6 @@
 // The check of a fast run.
 use super::Simulator;
-use before::words;
+use before::inner::words;
 use machine::Checked;
 use machine::Machine;
 use outcome::Refusal;

@@ -1,8 +1,8 @@
 // What is decided before a step of a run, and the step. Both ask that the engine's numbers lie inside its cells.
 use super::Simulator;
 use super::StopRule;
-use before::look;
-use before::look::Choice;
+use before::inner::look;
+use before::inner::look::Choice;
 use machine::Action;
 use machine::Machine;
 use symbol::State;

@@ -1,5 +1,5 @@
 // The plain engine: one step at a time on dense tapes, one to three of them.
-use before::sizes;
+use before::inner::sizes;
 use machine::Checked;
 use machine::Machine;
 use outcome::Outcome;

@@ -4,14 +4,14 @@ use super::Answered;
 use super::Simulator;
 use super::StopRule;
 use super::inner;
-use before::look::Choice;
+use before::inner::look::Choice;
 use burst::hot::Hot;
 use burst::packed;
 use burst::table;
 use machine::Checked;
 use machine::Machine;
 use outcome::Outcome;
-use several::Wide;
+use several::inner::Wide;
 use symbol::State;
 use tape::Tape;
 ghost use mathlib.Core.Path.{_≡_};
@@ -224,7 +224,7 @@ impl Simulator {
             return self.sprint_one(m, proves, stop, table, false, words, c0, left);
         }
         let start = self.wide(left);
-        let at = several::burst_several(table, c0, c1, c2, stop, m.symbols, stride, start);
+        let at = several::inner::burst_several(table, c0, c1, c2, stop, m.symbols, stride, start);
         self.onward(at, left)
     }
 

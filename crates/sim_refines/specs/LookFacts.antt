@@ -15,7 +15,7 @@ use Rattle.machine.specs.declared.Entry.the-variants.{Undefined, Defined}
 use Rattle.turing.specs.TableMachine.{readT, entry, Stays, Walks, stays, walks, goes}
 use Rattle.tape.specs.Moves.{readOf}
 use Rattle.tape.specs.Questions.{blankBeyond}
-use Rattle.before.specs.declared.look.Look.the-variants.{Never}
+use Rattle.before.specs.declared.inner.look.Look.the-variants.{Never}
 use Rattle.sim.specs.Engine.{Task, Conf, tape0, tape1, tape2, staysAll, loopOf, judgeOf, lookOn, entryOf, lookWith, lookOf}
 use Rattle.sim.specs.Engine as engine
 use Rattle.sim_refines.specs.Meaning.{has, configOf, EngineFits}

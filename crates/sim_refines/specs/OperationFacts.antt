@@ -37,8 +37,8 @@ use Rattle.sim.specs.declared.StopRule.the-variants as Rule
 use Rattle.sim.specs.declared.Answer.the-variants as Ans
 use Rattle.sim.specs.declared.StepAnswer.the-variants as StepAns
 use Rattle.sim.specs.declared.Fresh.the-variants as New
-use Rattle.before.specs.declared.look.Look.{Look}
-use Rattle.before.specs.declared.look.Look.the-variants.{Never}
+use Rattle.before.specs.declared.inner.look.Look.{Look}
+use Rattle.before.specs.declared.inner.look.Look.the-variants.{Never}
 use Rattle.sim.specs.Engine.{task, Conf, conf, tape0, tape1, tape2, End, end, onLook, lookWith, roomyOf, stepOf, runOf, Once, once, onceOf}
 use Rattle.sim.specs.Operations.{has1, has2, ifHas, bareSim, bareOf, handBack, backOf, simFits, runCheck, wordsRight, fastCheck, Given, given, ranBack, runOn, runAnswer, fastAnswer, StepGiven, stepGiven, stepBack, stepOn, stepAnswer, freshCheck, blankTape, made, madeWith, freshOn, Made, newAnswer}
 use Rattle.sim.specs.FastCases.{fast-right}

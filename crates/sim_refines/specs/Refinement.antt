@@ -15,7 +15,7 @@ use Rattle.turing.specs.TableMachine.{Config, entry, run, Halted, halts}
 use Rattle.turing.specs.Tables.{TableOf}
 use Rattle.turing.specs.RunFacts.{not-defined, step-act}
 use Rattle.turing.specs.TableFacts.{accepted-table}
-use Rattle.before.specs.declared.look.Look.{Look}
+use Rattle.before.specs.declared.inner.look.Look.{Look}
 use Rattle.sim.specs.Engine.{Task, task, Conf, End, end, onLook, matches, haltedEnd, neverEnd, fuelEnd, fullEnd, stoppedEnd, roomyOf, stepOf, runOf}
 use Rattle.sim_refines.specs.Meaning.{EngineFits}
 use Rattle.sim_refines.specs.Statement.{tableIn, heldBy, after, Judged, Unproved, leavesRule, Sees, no-entry, loops, goes-on, Kept, Went, Answers, verdict, halted, spent, stopped, full, Refines, PlainRefines}

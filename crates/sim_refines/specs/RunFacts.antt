@@ -23,8 +23,8 @@ use Rattle.turing.specs.VerdictFacts.{verdict-unique}
 use Rattle.turing.specs.NeverFacts.{never-sound-bare}
 use Rattle.turing.specs.TableFacts.{accepted-table}
 use Rattle.sim.specs.declared.StopRule.{StopRule}
-use Rattle.before.specs.declared.look.Look.{Look}
-use Rattle.before.specs.declared.look.Look.the-variants.{Halt, Never, Go}
+use Rattle.before.specs.declared.inner.look.Look.{Look}
+use Rattle.before.specs.declared.inner.look.Look.the-variants.{Halt, Never, Go}
 use Rattle.sim.specs.Engine.{Task, task, Conf, End, onLook, matches, haltedEnd, neverEnd, fuelEnd, fullEnd, stoppedEnd, roomyOf, lookOf, stepOf, runOf}
 use Rattle.sim_refines.specs.Meaning.{configOf, EngineFits}
 use Rattle.sim_refines.specs.Statement.{heldBy, Judged, Sees, no-entry, loops, goes-on, Answers, verdict, Refines}

@@ -1,15 +1,14 @@
 -- The loops of the questions on one side. Assumes nothing.
 use mathlib.Core.Path.{_≡_, refl, sym, _∙_, ap}
-use mathlib.Core.Bool.{Bool, true, false}
 use mathlib.Core.List.{List}
 use Prim.Native.Nat.{ℕ, zero, suc, _+_, _-_, _≤_, _<_}
 use native.Mathlib.Omega.{arith}
 use borrow.Author.Tests.{lt-ltb, le-ltb, eq-eqb, ne-eqb}
-use lib.Dec.{eqb, ltb}
-use lib.ListN.{length, getD}
+use lib.Dec.{ltb}
+use lib.ListN.{getD}
 use Rattle.laws.specs.Choice.{pick}
 use Rattle.laws.specs.Tests.{pick-true, pick-false}
-use Rattle.stacks.specs.Sides.{Side, side, symbolUnder, sumOf, symbolIn, weightAt, weightOf, nearOf}
+use Rattle.stacks.specs.Sides.{side, symbolUnder, sumOf, symbolIn, weightAt, weightOf, nearOf}
 use Rattle.stacks.specs.SideFacts.{sum-last, sum-more, sum-next}
 
 -- ---- the symbol at a distance

@@ -6,9 +6,9 @@ use Prim.Native.Nat.{ℕ, zero, suc, _+_, _-_, _≤_, _<_}
 use native.Mathlib.Omega.{arith}
 use borrow.Author.Tests.{leb-false, lt-ltb, le-ltb, eq-eqb, ne-eqb}
 use lib.Dec.{eqb, leb}
-use lib.ListN.{length, getD, set}
+use lib.ListN.{getD, set}
 use Rattle.laws.specs.Choice.{pick, both}
-use Rattle.stacks.specs.Sides.{Side, side, symbolUnder, topOf, grownOf, pushOf, lacks, resized, takeOf, runFits}
+use Rattle.stacks.specs.Sides.{side, symbolUnder, grownOf, pushOf, lacks, takeOf, runFits}
 
 -- ---- a push
 

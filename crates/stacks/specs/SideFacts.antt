@@ -1,17 +1,16 @@
 -- What the operations of one side keep: the number of places, live runs within them, and how many cells there are. Assumes nothing.
 use mathlib.Core.Path.{_≡_, refl, sym, _∙_, ap, ap₂}
 use mathlib.Core.Logic.{_⊎_, inl, inr}
-use mathlib.Core.Bool.{Bool, true, false}
+use mathlib.Core.Bool.{false}
 use mathlib.Core.List.{List}
 use Prim.Native.Nat.{ℕ, zero, suc, _+_, _-_, _≤_, _<_, min}
 use native.Mathlib.Omega.{arith}
-use borrow.Author.Tests.{leb-false, eqb-true, eqb-false, eq-eqb, ne-eqb}
-use lib.Dec.{eqb, leb}
+use borrow.Author.Tests.{eqb-false}
+use lib.Dec.{eqb}
 use lib.ListN.{length, getD, set, length-set}
 use lib.Seq.{getD-set-same, getD-set-other}
-use Rattle.laws.specs.Choice.{pick}
-use Rattle.laws.specs.Tests.{by-test, pick-cases, pick-true, pick-false}
-use Rattle.stacks.specs.Sides.{Side, side, placesOf, symbolUnder, topOf, aheadOf, grownOf, pushOf, lacks, resized, takeOf, sumOf, cellsOf}
+use Rattle.laws.specs.Tests.{pick-cases}
+use Rattle.stacks.specs.Sides.{Side, side, topOf, aheadOf, grownOf, pushOf, lacks, takeOf, sumOf, cellsOf}
 use Rattle.stacks.specs.SideCases.{has-place}
 
 -- ---- sums

@@ -1,18 +1,13 @@
 use Rattle.rle.specs.QuestionCases.{blank-cur, blank-left, blank-right}
 use Rattle.rle.proofs.ChainSim.blank.Statement.{statement}
 use Rattle.rle.proofs.ChainSim.blank.Tie as tie
-use Rattle.rle.proofs.ChainSim.blank.Reads as reads
-use Rattle.rle.proofs.ChainSim.blank.Lts as lts
 
--- src/questions.rt:77:13
 returns : tie.Need-returns
 returns c = λ ls ll rs rl. blank-cur _ _ _ _ _ (c .if1 .taken)
 
--- src/questions.rt:80:13
 returns-2 : tie.Need-returns-2
 returns-2 c = λ ls ll rs rl. blank-left _ _ _ _ _ (c .before .before .if1 .left) (c .if2 .taken)
 
--- src/questions.rt:72:5
 returns-3 : tie.Need-returns-3
 returns-3 c = λ ls ll rs rl. blank-right _ _ _ _ _ (c .before .before .before .if1 .left) (c .before .if2 .left)
 

@@ -3,33 +3,25 @@ use Rattle.rle.specs.Fits.{countsFit}
 use borrow.Author.Needs.{needs}
 use Rattle.rle.proofs.ChainSim.counts_fit.Statement.{statement}
 use Rattle.rle.proofs.ChainSim.counts_fit.Tie as tie
-use Rattle.rle.proofs.ChainSim.counts_fit.Reads as reads
-use Rattle.rle.proofs.ChainSim.counts_fit.Lts as lts
 
--- src/checks.rt:51:21
 cast-state : tie.Need-cast-state
 cast-state c = search needs
 
--- src/checks.rt:52:19
 cast-cur : tie.Need-cast-cur
 cast-cur c = search needs
 
--- src/checks.rt:54:13
 returns : tie.Need-returns
 unfolding countsFit
 returns c = search tests
 
--- src/checks.rt:57:13
 returns-2 : tie.Need-returns-2
 unfolding countsFit
 returns-2 c = search tests
 
--- src/checks.rt:60:13
 returns-3 : tie.Need-returns-3
 unfolding countsFit
 returns-3 c = search tests
 
--- src/checks.rt:47:5
 returns-4 : tie.Need-returns-4
 unfolding countsFit
 returns-4 c = search tests

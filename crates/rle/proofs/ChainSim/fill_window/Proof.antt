@@ -10,9 +10,6 @@ use Rattle.laws.specs.FillFacts.{fill-next, fill-end}
 use Rattle.rle.specs.Questions.{windowCell, windowFrom}
 use Rattle.rle.proofs.ChainSim.fill_window.Statement.{statement}
 use Rattle.rle.proofs.ChainSim.fill_window.Tie as tie
-use Rattle.rle.proofs.ChainSim.fill_window.Reads as reads
-use Rattle.rle.proofs.ChainSim.fill_window.Lts as lts
-use Rattle.rle.proofs.ChainSim.window_cell.Reads as window-cell-reads
 
 abbrev Inv-loop : tie.InvT-loop
 Inv-loop self ls ll rs rl raised out₀ n j₀ out j =
@@ -21,36 +18,28 @@ Inv-loop self ls ll rs rl raised out₀ n j₀ out j =
 abbrev μ-loop : tie.MeasureT-loop
 μ-loop self ls ll rs rl raised out₀ n j₀ out j = n - j
 
--- src/questions.rt:64:9
 loop-holds : tie.Need-loop-holds Inv-loop μ-loop
 unfolding windowFrom
 loop-holds c = (refl, refl, rw sub-zero)
 
--- src/questions.rt:65:17
 window-cell-requires : tie.Need-window-cell-requires Inv-loop μ-loop
 window-cell-requires c κs = search needs
 
--- src/questions.rt:66:13
 slice-write-out : tie.Need-slice-write-out Inv-loop μ-loop
 slice-write-out c = search needs
 
--- src/questions.rt:67:13
 add-j : tie.Need-add-j Inv-loop μ-loop
 add-j c = search needs
 
--- src/questions.rt:64:9
 loop-less : tie.Need-loop-less Inv-loop μ-loop
 loop-less c = search needs
 
--- src/questions.rt:64:9
 loop-again : tie.Need-loop-again Inv-loop μ-loop
 loop-again c = (search needs, simp length-set (omega arith), search fill-next)
 
--- src/questions.rt:50:5
 same-length : tie.Need-same-length Inv-loop μ-loop
 same-length c = search needs
 
--- src/questions.rt:50:5
 returns : tie.Need-returns Inv-loop μ-loop
 returns c = search fill-end
 

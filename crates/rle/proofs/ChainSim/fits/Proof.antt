@@ -4,63 +4,43 @@ use Rattle.rle.specs.FitsCases.{fits-counts, fits-head, fits-left, fits-
 use borrow.Author.Needs.{needs}
 use Rattle.rle.proofs.ChainSim.fits.Statement.{statement}
 use Rattle.rle.proofs.ChainSim.fits.Tie as tie
-use Rattle.rle.proofs.ChainSim.fits.Reads as reads
-use Rattle.rle.proofs.ChainSim.fits.Lts as lts
-use Rattle.rle.proofs.ChainSim.counts_fit.Reads as counts-fit-reads
-use Rattle.rle.proofs.ChainSim.head_fits.Reads as head-fits-reads
-use Rattle.rle.proofs.ChainSim.reach_fits.Reads as reach-fits-reads
-use Rattle.rle.proofs.checks.measure.Reads as measure-reads
-use Rattle.stacks.proofs.inner.places.Reads as places-reads
 
--- src/checks.rt:98:13
 counts-fit-requires : tie.Need-counts-fit-requires
 counts-fit-requires c κs = search needs
 
--- src/checks.rt:99:13
 returns : tie.Need-returns
 returns c = fits-counts _ _ _ _ _ _ _ (c .before .counts-fit .ensures) (not-true _ (c .if1 .taken))
 
--- src/checks.rt:101:13
 head-fits-requires : tie.Need-head-fits-requires
 head-fits-requires c κs = counts-steps _ _ _ (c .before .counts-fit .ensures) (not-false _ (c .if1 .left))
 
--- src/checks.rt:102:13
 returns-2 : tie.Need-returns-2
 returns-2 c = fits-head _ _ _ _ _ _ _ (c .before .before .before .counts-fit .ensures) (not-false _ (c .before .before .if1 .left)) _ (c .before .head-fits .ensures) (not-true _ (c .if2 .taken))
 
--- src/checks.rt:105:20
 add-most : tie.Need-add-most
 add-most c = omega (arith, counts-steps _ _ _ (c .before .before .before .before .before .counts-fit .ensures) (not-false _ (c .before .before .before .before .if1 .left)))
 
--- src/checks.rt:106:13
 places-requires : tie.Need-places-requires
 places-requires c κs = search needs
 
--- src/checks.rt:107:13
 measure-requires : tie.Need-measure-requires
 measure-requires c κs = (omega (arith, c .places .ensures), omega (arith, c .places .ensures), omega (arith, counts-steps _ _ _ (c .before .before .before .before .before .before .counts-fit .ensures) (not-false _ (c .before .before .before .before .before .if1 .left))))
 
--- src/checks.rt:109:13
 returns-3 : tie.Need-returns-3
 returns-3 c = fits-left _ _ _ _ _ _ _ (c .before .before .before .before .before .before .before .before .counts-fit .ensures) (not-false _ (c .before .before .before .before .before .before .before .if1 .left)) _ (c .before .before .before .before .before .before .head-fits .ensures) (not-false _ (c .before .before .before .before .before .if2 .left)) _ (c .before .before .places .ensures) _ (c .before .measure .ensures) (c .if3 .taken)
 
--- src/checks.rt:111:13
 places-requires-2 : tie.Need-places-requires-2
 places-requires-2 c κs = search needs
 
--- src/checks.rt:112:13
 measure-requires-2 : tie.Need-measure-requires-2
 measure-requires-2 c κs = (omega (arith, c .places2 .ensures), omega (arith, c .places2 .ensures), omega (arith, counts-steps _ _ _ (c .before .before .before .before .before .before .before .before .before .counts-fit .ensures) (not-false _ (c .before .before .before .before .before .before .before .before .if1 .left))))
 
--- src/checks.rt:114:13
 returns-4 : tie.Need-returns-4
 returns-4 c = fits-right _ _ _ _ _ _ _ (c .before .before .before .before .before .before .before .before .before .before .before .counts-fit .ensures) (not-false _ (c .before .before .before .before .before .before .before .before .before .before .if1 .left)) _ (c .before .before .before .before .before .before .before .before .before .head-fits .ensures) (not-false _ (c .before .before .before .before .before .before .before .before .if2 .left)) _ (c .before .before .before .before .before .places .ensures) _ (c .before .before .before .before .measure .ensures) (c .before .before .before .if3 .left) _ (c .before .before .places2 .ensures) _ (c .before .measure2 .ensures) (c .if4 .taken)
 
--- src/checks.rt:116:9
 reach-fits-requires : tie.Need-reach-fits-requires
 reach-fits-requires c κs = (counts-steps _ _ _ (c .before .before .before .before .before .before .before .before .before .before .before .counts-fit .ensures) (not-false _ (c .before .before .before .before .before .before .before .before .before .before .if1 .left)), (c .before .before .before .if3 .left, c .if4 .left))
 
--- src/checks.rt:95:5
 returns-5 : tie.Need-returns-5
 returns-5 c = fits-reach _ _ _ _ _ _ _ (c .before .before .before .before .before .before .before .before .before .before .before .before .counts-fit .ensures) (not-false _ (c .before .before .before .before .before .before .before .before .before .before .before .if1 .left)) _ (c .before .before .before .before .before .before .before .before .before .before .head-fits .ensures) (not-false _ (c .before .before .before .before .before .before .before .before .before .if2 .left)) _ (c .before .before .before .before .before .before .places .ensures) _ (c .before .before .before .before .before .measure .ensures) (c .before .before .before .before .if3 .left) _ (c .before .before .before .places2 .ensures) _ (c .before .before .measure2 .ensures) (c .before .if4 .left) _ (c .reach-fits .ensures)
 

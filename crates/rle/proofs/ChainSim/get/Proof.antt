@@ -4,37 +4,25 @@ use Rattle.rle.specs.QuestionCases.{asked-ok, get-refused, get-done}
 use borrow.Author.Needs.{needs}
 use Rattle.rle.proofs.ChainSim.get.Statement.{statement}
 use Rattle.rle.proofs.ChainSim.get.Tie as tie
-use Rattle.rle.proofs.ChainSim.get.Reads as reads
-use Rattle.rle.proofs.ChainSim.get.Lts as lts
-use Rattle.rle.proofs.ChainSim.cell.Reads as cell-reads
-use Rattle.rle.proofs.ChainSim.engine_check.Reads as engine-check-reads
-use Rattle.symbol.proofs.position.raised.Reads as raised-reads
 
--- src/questions.rt:153:13
 engine-check-requires : tie.Need-engine-check-requires
 engine-check-requires c κs = search needs
 
--- src/questions.rt:155:30
 enum-known-checked : tie.Need-enum-known-checked
 enum-known-checked c = search needs
 
--- src/questions.rt:156:17
 returns : tie.Need-returns
 returns c = get-refused _ _ _ _ (c .before .before .before .engine-check .ensures) _ _ (c .before .checked .given .1)
 
--- src/questions.rt:159:68
 enum-told : tie.Need-enum-told
 enum-told c = search needs
 
--- src/questions.rt:159:68
 raised-requires : tie.Need-raised-requires
 raised-requires c κs = search needs
 
--- src/questions.rt:159:42
 cell-requires : tie.Need-cell-requires
 cell-requires c κs = asked-ok _ _ _ _ (c .before .before .before .engine-check .ensures) (c .before .enum-told .given .1) .sides
 
--- src/questions.rt:159:17
 returns-2 : tie.Need-returns-2
 returns-2 c = get-done _ _ _ _ (c .before .before .before .before .engine-check .ensures) (c .before .before .enum-told .given .1) _ _ _ _ (c .before .raised .ensures .0) (toZ-ofZ w64 _ (c .before .before .before .before .before .before .before .before .before .before .fits .at)) (c .cell .ensures)
 

@@ -3,33 +3,25 @@ use Rattle.rle.specs.Fits.{headFits}
 use borrow.Author.Needs.{needs}
 use Rattle.rle.proofs.ChainSim.head_fits.Statement.{statement}
 use Rattle.rle.proofs.ChainSim.head_fits.Tie as tie
-use Rattle.rle.proofs.ChainSim.head_fits.Reads as reads
-use Rattle.rle.proofs.ChainSim.head_fits.Lts as lts
 
--- src/checks.rt:71:13
 returns : tie.Need-returns
 unfolding headFits
 returns c = search tests
 
--- src/checks.rt:74:13
 returns-2 : tie.Need-returns-2
 unfolding headFits
 returns-2 c = search tests
 
--- src/checks.rt:76:26
 sub-if3 : tie.Need-sub-if3
 sub-if3 c = search needs
 
--- src/checks.rt:77:13
 returns-3 : tie.Need-returns-3
 unfolding headFits
 returns-3 c = search tests
 
--- src/checks.rt:79:25
 add-result : tie.Need-add-result
 add-result c = search needs
 
--- src/checks.rt:65:5
 returns-4 : tie.Need-returns-4
 unfolding headFits
 returns-4 c = search tests

@@ -4,40 +4,28 @@ use Rattle.rle.specs.QuestionCases.{highest-right, highest-head, highest
 use borrow.Author.Needs.{needs}
 use Rattle.rle.proofs.ChainSim.highest_cell.Statement.{statement}
 use Rattle.rle.proofs.ChainSim.highest_cell.Tie as tie
-use Rattle.rle.proofs.ChainSim.highest_cell.Reads as reads
-use Rattle.rle.proofs.ChainSim.highest_cell.Lts as lts
-use Rattle.stacks.proofs.inner.cells.Reads as cells-reads
-use Rattle.stacks.proofs.inner.near.Reads as near-reads
 
--- src/questions.rt:107:61
 add-cells : tie.Need-add-cells
 add-cells c = search needs
 
--- src/questions.rt:107:32
 cells-requires : tie.Need-cells-requires
 cells-requires c κs = search needs
 
--- src/questions.rt:107:20
 add-result : tie.Need-add-result
 add-result c = search needs
 
--- src/questions.rt:107:13
 returns : tie.Need-returns
 returns c = highest-right (conf (c .before .before .before .before .before .before .before .before .before .before .args .self) (c .before .before .before .before .before .before .before .before .before .before .args .ls .now) (c .before .before .before .before .before .before .before .before .before .before .args .ll .now) (c .before .before .before .before .before .before .before .before .before .before .args .rs .now) (c .before .before .before .before .before .before .before .before .before .before .args .rl .now)) (c .before .before .before .before .before .before .before .before .before .before .pre .0) (c .before .before .before .before .before .before .before .before .before .before .pre .1) (c .before .before .before .if1 .taken) _ (c .before .cells .ensures)
 
--- src/questions.rt:110:13
 returns-2 : tie.Need-returns-2
 returns-2 c = highest-head (conf (c .before .before .before .before .before .before .before .before .before .args .self) (c .before .before .before .before .before .before .before .before .before .args .ls .now) (c .before .before .before .before .before .before .before .before .before .args .ll .now) (c .before .before .before .before .before .before .before .before .before .args .rs .now) (c .before .before .before .before .before .before .before .before .before .args .rl .now)) (c .before .before .before .before .before .before .before .before .before .pre .0) (c .before .before .before .before .before .before .before .before .before .pre .1) (c .before .before .if1 .left) (c .if2 .taken)
 
--- src/questions.rt:112:21
 near-requires : tie.Need-near-requires
 near-requires c κs = ((some-on-left (conf (c .before .before .before .before .before .before .before .before .before .args .self) (c .before .before .before .before .before .before .before .before .before .args .ls .now) (c .before .before .before .before .before .before .before .before .before .args .ll .now) (c .before .before .before .before .before .before .before .before .before .args .rs .now) (c .before .before .before .before .before .before .before .before .before .args .rl .now)) (c .before .before .before .before .before .before .before .before .before .pre .0) (c .before .before .before .before .before .before .before .before .before .pre .1) (c .before .before .if1 .left) (c .if2 .left), omega (arith, c .before .before .before .before .before .before .before .before .before .pre .0 .sides .left .live, c .before .before .before .before .before .before .before .before .before .pre .0 .sides .left .symbols-in), omega (arith, c .before .before .before .before .before .before .before .before .before .pre .0 .sides .left .live, c .before .before .before .before .before .before .before .before .before .pre .0 .sides .left .lengths-in)), omega (arith, c .before .before .before .before .before .before .before .before .before .pre .0 .sides .left .cells-in, c .before .before .before .before .before .before .before .before .before .pre .0 .counts .steps-in))
 
--- src/questions.rt:112:9
 sub-result : tie.Need-sub-result
 sub-result c = omega (arith, c .before .near .ensures .1, c .before .before .before .before .before .before .before .before .before .before .before .pre .0 .sides .left .cells-in, c .before .before .before .before .before .before .before .before .before .before .before .pre .0 .counts .steps-in, c .before .before .before .before .before .before .before .before .before .before .before .pre .0 .left-far)
 
--- src/questions.rt:101:5
 returns-3 : tie.Need-returns-3
 returns-3 c = highest-left (conf (c .before .before .before .before .before .before .before .before .before .before .before .args .self) (c .before .before .before .before .before .before .before .before .before .before .before .args .ls .now) (c .before .before .before .before .before .before .before .before .before .before .before .args .ll .now) (c .before .before .before .before .before .before .before .before .before .before .before .args .rs .now) (c .before .before .before .before .before .before .before .before .before .before .before .args .rl .now)) (c .before .before .before .before .before .before .before .before .before .before .before .pre .0) (c .before .before .before .before .before .before .before .before .before .before .before .pre .1) (c .before .before .before .before .if1 .left) (c .before .before .if2 .left) _ (c .before .near .ensures .0)
 

@@ -2,32 +2,22 @@ use Rattle.rle.specs.RecordCases.{list-refused, list-room}
 use borrow.Author.Needs.{needs}
 use Rattle.rle.proofs.ChainSim.list_check.Statement.{statement}
 use Rattle.rle.proofs.ChainSim.list_check.Tie as tie
-use Rattle.rle.proofs.ChainSim.list_check.Reads as reads
-use Rattle.rle.proofs.ChainSim.list_check.Lts as lts
-use Rattle.records.proofs.inner.room_for.Reads as room-for-reads
-use Rattle.rle.proofs.ChainSim.engine_check.Reads as engine-check-reads
 
--- src/sides.rt:27:13
 engine-check-requires : tie.Need-engine-check-requires
 engine-check-requires c κs = search needs
 
--- src/sides.rt:29:30
 enum-known-checked : tie.Need-enum-known-checked
 enum-known-checked c = search needs
 
--- src/sides.rt:30:17
 returns : tie.Need-returns
 returns c = list-refused _ _ _ _ _ _ (c .before .before .before .engine-check .ensures) _ (c .before .checked .given .1)
 
--- src/sides.rt:33:17
 enum-told : tie.Need-enum-told
 enum-told c = search needs
 
--- src/sides.rt:33:17
 room-for-requires : tie.Need-room-for-requires
 room-for-requires c κs = search needs
 
--- src/sides.rt:33:17
 returns-2 : tie.Need-returns-2
 returns-2 c = list-room _ _ _ _ _ _ (c .before .before .before .engine-check .ensures) _ (c .before .enum-told .given .1) (c .room-for .ensures)
 

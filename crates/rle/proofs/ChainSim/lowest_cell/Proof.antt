@@ -4,40 +4,28 @@ use Rattle.rle.specs.QuestionCases.{left-sum, lowest-left, lowest-head, 
 use borrow.Author.Needs.{needs}
 use Rattle.rle.proofs.ChainSim.lowest_cell.Statement.{statement}
 use Rattle.rle.proofs.ChainSim.lowest_cell.Tie as tie
-use Rattle.rle.proofs.ChainSim.lowest_cell.Reads as reads
-use Rattle.rle.proofs.ChainSim.lowest_cell.Lts as lts
-use Rattle.stacks.proofs.inner.cells.Reads as cells-reads
-use Rattle.stacks.proofs.inner.near.Reads as near-reads
 
--- src/questions.rt:92:60
 add-cells : tie.Need-add-cells
 add-cells c = search needs
 
--- src/questions.rt:92:32
 cells-requires : tie.Need-cells-requires
 cells-requires c κs = search needs
 
--- src/questions.rt:92:20
 sub-result : tie.Need-sub-result
 sub-result c = left-sum (conf (c .before .before .before .before .before .before .before .before .before .before .args .self) (c .before .before .before .before .before .before .before .before .before .before .args .ls .now) (c .before .before .before .before .before .before .before .before .before .before .args .ll .now) (c .before .before .before .before .before .before .before .before .before .before .args .rs .now) (c .before .before .before .before .before .before .before .before .before .before .args .rl .now)) (c .before .before .before .before .before .before .before .before .before .before .pre .0) (c .before .before .before .before .before .before .before .before .before .before .pre .1) _ (c .before .cells .ensures) .1
 
--- src/questions.rt:92:13
 returns : tie.Need-returns
 returns c = lowest-left (conf (c .before .before .before .before .before .before .before .before .before .before .args .self) (c .before .before .before .before .before .before .before .before .before .before .args .ls .now) (c .before .before .before .before .before .before .before .before .before .before .args .ll .now) (c .before .before .before .before .before .before .before .before .before .before .args .rs .now) (c .before .before .before .before .before .before .before .before .before .before .args .rl .now)) (c .before .before .before .before .before .before .before .before .before .before .pre .0) (c .before .before .before .before .before .before .before .before .before .before .pre .1) (c .before .before .before .if1 .taken) _ (c .before .cells .ensures)
 
--- src/questions.rt:95:13
 returns-2 : tie.Need-returns-2
 returns-2 c = lowest-head (conf (c .before .before .before .before .before .before .before .before .before .args .self) (c .before .before .before .before .before .before .before .before .before .args .ls .now) (c .before .before .before .before .before .before .before .before .before .args .ll .now) (c .before .before .before .before .before .before .before .before .before .args .rs .now) (c .before .before .before .before .before .before .before .before .before .args .rl .now)) (c .before .before .before .before .before .before .before .before .before .pre .0) (c .before .before .before .before .before .before .before .before .before .pre .1) (c .before .before .if1 .left) (c .if2 .taken)
 
--- src/questions.rt:97:21
 near-requires : tie.Need-near-requires
 near-requires c κs = ((some-on-right (conf (c .before .before .before .before .before .before .before .before .before .args .self) (c .before .before .before .before .before .before .before .before .before .args .ls .now) (c .before .before .before .before .before .before .before .before .before .args .ll .now) (c .before .before .before .before .before .before .before .before .before .args .rs .now) (c .before .before .before .before .before .before .before .before .before .args .rl .now)) (c .before .before .before .before .before .before .before .before .before .pre .0) (c .before .before .before .before .before .before .before .before .before .pre .1) (c .before .before .if1 .left) (c .if2 .left), omega (arith, c .before .before .before .before .before .before .before .before .before .pre .0 .sides .right .live, c .before .before .before .before .before .before .before .before .before .pre .0 .sides .right .symbols-in), omega (arith, c .before .before .before .before .before .before .before .before .before .pre .0 .sides .right .live, c .before .before .before .before .before .before .before .before .before .pre .0 .sides .right .lengths-in)), omega (arith, c .before .before .before .before .before .before .before .before .before .pre .0 .sides .right .cells-in, c .before .before .before .before .before .before .before .before .before .pre .0 .counts .steps-in))
 
--- src/questions.rt:97:9
 add-result : tie.Need-add-result
 add-result c = search needs
 
--- src/questions.rt:86:5
 returns-3 : tie.Need-returns-3
 returns-3 c = lowest-right (conf (c .before .before .before .before .before .before .before .before .before .before .before .args .self) (c .before .before .before .before .before .before .before .before .before .before .before .args .ls .now) (c .before .before .before .before .before .before .before .before .before .before .before .args .ll .now) (c .before .before .before .before .before .before .before .before .before .before .before .args .rs .now) (c .before .before .before .before .before .before .before .before .before .before .before .args .rl .now)) (c .before .before .before .before .before .before .before .before .before .before .before .pre .0) (c .before .before .before .before .before .before .before .before .before .before .before .pre .1) (c .before .before .before .before .if1 .left) (c .before .before .if2 .left) _ (c .before .near .ensures .0)
 

@@ -2,34 +2,25 @@ use Rattle.rle.specs.FitsCases.{reach-left, reach-right}
 use borrow.Author.Needs.{needs}
 use Rattle.rle.proofs.ChainSim.reach_fits.Statement.{statement}
 use Rattle.rle.proofs.ChainSim.reach_fits.Tie as tie
-use Rattle.rle.proofs.ChainSim.reach_fits.Reads as reads
-use Rattle.rle.proofs.ChainSim.reach_fits.Lts as lts
 
--- src/checks.rt:89:20
 add-most : tie.Need-add-most
 add-most c = search needs
 
--- src/checks.rt:90:47
 sub-if1 : tie.Need-sub-if1
 sub-if1 c = search needs
 
--- src/checks.rt:90:24
 sub-if1-2 : tie.Need-sub-if1-2
 sub-if1-2 c = search needs
 
--- src/checks.rt:91:13
 returns : tie.Need-returns
 returns c = reach-left _ _ _ (c .before .before .before .before .pre .1 .0) (c .if1 .taken)
 
--- src/checks.rt:93:45
 sub-result : tie.Need-sub-result
 sub-result c = search needs
 
--- src/checks.rt:93:22
 add-result : tie.Need-add-result
 add-result c = search needs
 
--- src/checks.rt:83:5
 returns-2 : tie.Need-returns-2
 returns-2 c = reach-right _ _ _ (c .before .before .before .before .before .pre .1 .0) (c .before .before .before .before .before .pre .1 .1) (c .before .if1 .left)
 

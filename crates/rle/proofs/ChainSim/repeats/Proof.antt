@@ -2,31 +2,22 @@ use Rattle.rle.specs.EngineCases.{repeats-all, repeats-one, repeats-chai
 use borrow.Author.Needs.{needs}
 use Rattle.rle.proofs.ChainSim.repeats.Statement.{statement}
 use Rattle.rle.proofs.ChainSim.repeats.Tie as tie
-use Rattle.rle.proofs.ChainSim.repeats.Reads as reads
-use Rattle.rle.proofs.ChainSim.repeats.Lts as lts
-use Rattle.rle.proofs.ChainSim.chain.Reads as chain-reads
 
--- src/inner.rt:238:17
 enum-told : tie.Need-enum-told
 enum-told c = search needs
 
--- src/inner.rt:238:17
 returns : tie.Need-returns
 returns c = repeats-all _ _ _ _ _ _ _ _ (c .enum-told .given .1)
 
--- src/inner.rt:241:20
 enum-told-2 : tie.Need-enum-told-2
 enum-told-2 c = search needs
 
--- src/inner.rt:242:21
 returns-2 : tie.Need-returns-2
 returns-2 c = repeats-one _ _ _ _ _ _ _ (c .before .before .before .enum-told2 .given .1) (c .if1 .taken)
 
--- src/inner.rt:245:17
 chain-requires : tie.Need-chain-requires
 chain-requires c κs = search needs
 
--- src/inner.rt:245:17
 returns-3 : tie.Need-returns-3
 returns-3 c = repeats-chain _ _ _ _ _ _ _ (c .before .before .before .before .enum-told2 .given .1) (c .before .if1 .left) _ (c .chain .ensures)
 

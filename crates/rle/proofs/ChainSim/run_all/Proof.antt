@@ -6,11 +6,6 @@ use Rattle.rle.specs.RunCases.{going-start, going-ends, going-fine, goin
 use borrow.Author.Needs.{needs}
 use Rattle.rle.proofs.ChainSim.run_all.Statement.{statement}
 use Rattle.rle.proofs.ChainSim.run_all.Tie as tie
-use Rattle.rle.proofs.ChainSim.run_all.Reads as reads
-use Rattle.rle.proofs.ChainSim.run_all.Lts as lts
-use Rattle.rle.proofs.ChainSim.decide.Reads as decide-reads
-use Rattle.rle.proofs.ChainSim.leap.Reads as leap-reads
-use Rattle.stacks.proofs.inner.places.Reads as places-reads
 
 abbrev Inv-loop : tie.InvT-loop
 Inv-loop m stride proves rule table ls₀ ll₀ rs₀ rl₀ fuel lp rp sim₀ left₀ ls ll rs rl sim left =
@@ -19,63 +14,48 @@ Inv-loop m stride proves rule table ls₀ ll₀ rs₀ rl₀ fuel lp rp sim₀ le
 abbrev μ-loop : tie.MeasureT-loop
 μ-loop m stride proves rule table ls₀ ll₀ rs₀ rl₀ fuel lp rp sim₀ left₀ ls ll rs rl sim left = left
 
--- src/inner.rt:427:13
 places-requires : tie.Need-places-requires Inv-loop μ-loop
 places-requires c κs = search needs
 
--- src/inner.rt:428:13
 places-requires-2 : tie.Need-places-requires-2 Inv-loop μ-loop
 places-requires-2 c κs = search needs
 
--- src/inner.rt:431:9
 loop-holds : tie.Need-loop-holds Inv-loop μ-loop
 loop-holds c = going-start _ _ _ _ _ _ (c .before .before .before .before .before .before .before .before .before .before .before .pre) (c .before .before .before .places .ensures) (c .places2 .ensures)
 
--- src/inner.rt:432:17
 decide-requires : tie.Need-decide-requires Inv-loop μ-loop
 decide-requires c κs = (c .before .before .before .before .loop .inv .ok, (c .before .before .before .before .loop .inv .lefts, c .before .before .before .before .loop .inv .rights))
 
--- src/inner.rt:434:28
 enum-known-plan : tie.Need-enum-known-plan Inv-loop μ-loop
 enum-known-plan c = search needs
 
--- src/inner.rt:435:21
 same-length : tie.Need-same-length Inv-loop μ-loop
 same-length c = omega (arith, c .before .before .before .before .before .before .before .before .loop .inv .sizes .ls)
 
--- src/inner.rt:435:21
 same-length-2 : tie.Need-same-length-2 Inv-loop μ-loop
 same-length-2 c = omega (arith, c .before .before .before .before .before .before .before .before .loop .inv .sizes .ll)
 
--- src/inner.rt:435:21
 same-length-3 : tie.Need-same-length-3 Inv-loop μ-loop
 same-length-3 c = omega (arith, c .before .before .before .before .before .before .before .before .loop .inv .sizes .rs)
 
--- src/inner.rt:435:21
 same-length-4 : tie.Need-same-length-4 Inv-loop μ-loop
 same-length-4 c = omega (arith, c .before .before .before .before .before .before .before .before .loop .inv .sizes .rl)
 
--- src/inner.rt:435:21
 returns : tie.Need-returns Inv-loop μ-loop
 returns c = going-ends _ _ _ _ _ _ _ _ (c .before .before .before .before .before .before .before .before .loop .inv) _ (c .before .before .before .decide .ensures) _ (c .before .plan .given .1)
 
--- src/inner.rt:437:26
 enum-known-plan-2 : tie.Need-enum-known-plan-2 Inv-loop μ-loop
 enum-known-plan-2 c = search needs
 
--- src/inner.rt:438:21
 leap-requires : tie.Need-leap-requires Inv-loop μ-loop
 leap-requires c κs = going-leap _ _ _ _ _ _ _ _ (c .before .before .before .before .before .before .before .before .before .before .before .before .loop .inv) _ (c .before .before .before .before .before .before .before .decide .ensures) _ (c .before .before .before .before .before .plan2 .given .1)
 
--- src/inner.rt:439:28
 sub-left : tie.Need-sub-left Inv-loop μ-loop
 sub-left c = going-fine _ _ _ _ _ _ _ _ (c .before .before .before .before .before .before .before .before .before .before .before .before .before .before .before .before .before .before .before .before .before .before .loop .inv) _ (c .before .before .before .before .before .before .before .before .before .before .before .before .before .before .before .before .before .decide .ensures) _ (c .before .before .before .before .before .before .before .before .before .before .before .before .before .before .before .plan2 .given .1) .no-more
 
--- src/inner.rt:431:9
 loop-less : tie.Need-loop-less Inv-loop μ-loop
 loop-less c = omega (arith, going-fine _ _ _ _ _ _ _ _ (c .before .before .before .before .before .before .before .before .before .before .before .before .before .before .before .before .before .before .before .before .before .before .loop .inv) _ (c .before .before .before .before .before .before .before .before .before .before .before .before .before .before .before .before .before .decide .ensures) _ (c .before .before .before .before .before .before .before .before .before .before .before .before .before .before .before .plan2 .given .1) .some-steps, going-fine _ _ _ _ _ _ _ _ (c .before .before .before .before .before .before .before .before .before .before .before .before .before .before .before .before .before .before .before .before .before .before .loop .inv) _ (c .before .before .before .before .before .before .before .before .before .before .before .before .before .before .before .before .before .decide .ensures) _ (c .before .before .before .before .before .before .before .before .before .before .before .before .before .before .before .plan2 .given .1) .no-more)
 
--- src/inner.rt:431:9
 loop-again : tie.Need-loop-again Inv-loop μ-loop
 loop-again c = going-on _ _ _ _ _ _ _ _ (c .before .before .before .before .before .before .before .before .before .before .before .before .before .before .before .before .before .before .before .before .before .before .loop .inv) _ (c .before .before .before .before .before .before .before .before .before .before .before .before .before .before .before .before .before .decide .ensures) _ (c .before .before .before .before .before .before .before .before .before .before .before .before .before .before .before .plan2 .given .1) _ (c .before .before .before .before .before .before .before .before .before .leap .ensures)
 

@@ -3,36 +3,25 @@ use Rattle.rle.specs.FitsCases.{run-refused, run-over, run-passed}
 use borrow.Author.Needs.{needs}
 use Rattle.rle.proofs.ChainSim.run_check.Statement.{statement}
 use Rattle.rle.proofs.ChainSim.run_check.Tie as tie
-use Rattle.rle.proofs.ChainSim.run_check.Reads as reads
-use Rattle.rle.proofs.ChainSim.run_check.Lts as lts
-use Rattle.rle.proofs.ChainSim.engine_check.Reads as engine-check-reads
-use Rattle.rle.proofs.checks.fuel_fits.Reads as fuel-fits-reads
 
--- src/checks.rt:173:13
 engine-check-requires : tie.Need-engine-check-requires
 engine-check-requires c κs = search needs
 
--- src/checks.rt:175:30
 enum-known-checked : tie.Need-enum-known-checked
 enum-known-checked c = search needs
 
--- src/checks.rt:176:17
 returns : tie.Need-returns
 returns c = run-refused _ _ _ _ _ _ _ _ _ (c .before .before .before .engine-check .ensures) _ (c .before .checked .given .1)
 
--- src/checks.rt:179:21
 enum-told : tie.Need-enum-told
 enum-told c = search needs
 
--- src/checks.rt:179:21
 fuel-fits-requires : tie.Need-fuel-fits-requires
 fuel-fits-requires c κs = search needs
 
--- src/checks.rt:180:21
 returns-2 : tie.Need-returns-2
 returns-2 c = run-over _ _ _ _ _ _ _ _ _ (c .before .before .before .before .engine-check .ensures) (c .before .before .enum-told .given .1) _ (c .before .fuel-fits .ensures) (not-true _ (c .if1 .taken))
 
--- src/checks.rt:182:17
 returns-3 : tie.Need-returns-3
 returns-3 c = run-passed _ _ _ _ _ _ _ _ _ (c .before .before .before .before .engine-check .ensures) (c .before .before .enum-told .given .1) _ (c .before .fuel-fits .ensures) (not-false _ (c .if1 .left))
 

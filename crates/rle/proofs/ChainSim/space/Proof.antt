@@ -2,24 +2,16 @@ use Rattle.rle.specs.EngineCases.{space-full, space-goes}
 use borrow.Author.Needs.{needs}
 use Rattle.rle.proofs.ChainSim.space.Statement.{statement}
 use Rattle.rle.proofs.ChainSim.space.Tie as tie
-use Rattle.rle.proofs.ChainSim.space.Reads as reads
-use Rattle.rle.proofs.ChainSim.space.Lts as lts
-use Rattle.rle.proofs.ChainSim.repeats.Reads as repeats-reads
-use Rattle.rle.proofs.inner.full.Reads as full-reads
 
--- src/inner.rt:272:12
 full-requires : tie.Need-full-requires
 full-requires c κs = search needs
 
--- src/inner.rt:273:13
 returns : tie.Need-returns
 returns c = space-full _ _ _ _ _ _ (c .before .before .before .before .before .before .before .before .pre .1 .0) (c .before .before .before .before .before .before .before .before .pre .1 .1) _ (c .before .full .ensures (c .before .before .before .before .before .before .before .before .args .ll .now) (c .before .before .before .before .before .before .before .before .args .rl .now)) (c .if1 .taken)
 
--- src/inner.rt:275:13
 repeats-requires : tie.Need-repeats-requires
 repeats-requires c κs = search needs
 
--- src/inner.rt:251:5
 returns-2 : tie.Need-returns-2
 returns-2 c = space-goes _ _ _ _ _ _ (c .before .before .before .before .before .before .before .before .before .pre .1 .0) (c .before .before .before .before .before .before .before .before .before .pre .1 .1) _ (c .before .before .full .ensures (c .before .before .before .before .before .before .before .before .before .args .ll .now) (c .before .before .before .before .before .before .before .before .before .args .rl .now)) (c .before .if1 .left) _ (c .repeats .ensures)
 

@@ -5,38 +5,25 @@ use Rattle.rle.specs.QuestionCases.{span-empty, span-cells}
 use borrow.Author.Needs.{needs}
 use Rattle.rle.proofs.ChainSim.span.Statement.{statement}
 use Rattle.rle.proofs.ChainSim.span.Tie as tie
-use Rattle.rle.proofs.ChainSim.span.Reads as reads
-use Rattle.rle.proofs.ChainSim.span.Lts as lts
-use Rattle.rle.proofs.ChainSim.blank.Reads as blank-reads
-use Rattle.rle.proofs.ChainSim.highest_cell.Reads as highest-cell-reads
-use Rattle.rle.proofs.ChainSim.lowest_cell.Reads as lowest-cell-reads
-use Rattle.symbol.proofs.position.signed.Reads as signed-reads
 
--- src/questions.rt:119:12
 blank-requires : tie.Need-blank-requires
 blank-requires c κs = search needs
 
--- src/questions.rt:120:13
 returns : tie.Need-returns
 returns c = span-empty _ _ (c .before .blank .ensures (c .before .before .before .before .before .before .args .ls .now) (c .before .before .before .before .before .before .args .ll .now) (c .before .before .before .before .before .before .args .rs .now) (c .before .before .before .before .before .before .args .rl .now)) (c .if1 .taken)
 
--- src/questions.rt:122:37
 lowest-cell-requires : tie.Need-lowest-cell-requires
 lowest-cell-requires c κs = (c .before .before .before .before .before .before .pre, sym (c .before .blank .ensures (c .before .before .before .before .before .before .args .ls .now) (c .before .before .before .before .before .before .args .ll .now) (c .before .before .before .before .before .before .args .rs .now) (c .before .before .before .before .before .before .args .rl .now)) ∙ c .if1 .left)
 
--- src/questions.rt:122:13
 signed-requires : tie.Need-signed-requires
 signed-requires c κs = search needs
 
--- src/questions.rt:123:35
 highest-cell-requires : tie.Need-highest-cell-requires
 highest-cell-requires c κs = (c .before .before .before .before .before .before .before .before .pre, sym (c .before .before .before .blank .ensures (c .before .before .before .before .before .before .before .before .args .ls .now) (c .before .before .before .before .before .before .before .before .args .ll .now) (c .before .before .before .before .before .before .before .before .args .rs .now) (c .before .before .before .before .before .before .before .before .args .rl .now)) ∙ c .before .before .if1 .left)
 
--- src/questions.rt:123:13
 signed-requires-2 : tie.Need-signed-requires-2
 signed-requires-2 c κs = search needs
 
--- src/questions.rt:115:5
 returns-2 : tie.Need-returns-2
 returns-2 c = rw (toZ-ofZ w64 (c .before .before .signed .result) (record { sfits = c .before .before .signed .ok }), toZ-ofZ w64 (c .signed2 .result) (record { sfits = c .signed2 .ok })) (span-cells _ _ (c .before .before .before .before .before .blank .ensures (c .before .before .before .before .before .before .before .before .before .before .args .ls .now) (c .before .before .before .before .before .before .before .before .before .before .args .ll .now) (c .before .before .before .before .before .before .before .before .before .before .args .rs .now) (c .before .before .before .before .before .before .before .before .before .before .args .rl .now)) (c .before .before .before .before .if1 .left) _ _ _ _ (c .before .before .before .lowest-cell .ensures) (c .before .highest-cell .ensures) (c .before .before .signed .ensures) (c .signed2 .ensures))
 

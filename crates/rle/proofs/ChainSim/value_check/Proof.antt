@@ -3,40 +3,28 @@ use Rattle.rle.specs.FitsCases.{value-tapes, value-lefts, value-rights, 
 use borrow.Author.Needs.{needs}
 use Rattle.rle.proofs.ChainSim.value_check.Statement.{statement}
 use Rattle.rle.proofs.ChainSim.value_check.Tie as tie
-use Rattle.rle.proofs.ChainSim.value_check.Reads as reads
-use Rattle.rle.proofs.ChainSim.value_check.Lts as lts
-use Rattle.rle.proofs.ChainSim.fits.Reads as fits-reads
-use Rattle.stacks.proofs.inner.places.Reads as places-reads
 
--- src/checks.rt:123:13
 returns : tie.Need-returns
 returns c = value-tapes _ _ _ _ _ _ (c .if1 .taken)
 
--- src/checks.rt:125:22
 places-requires : tie.Need-places-requires
 places-requires c κs = search needs
 
--- src/checks.rt:126:13
 returns-2 : tie.Need-returns-2
 returns-2 c = value-lefts _ _ _ _ _ _ (c .before .before .if1 .left) _ (c .before .places .ensures) (c .if2 .taken)
 
--- src/checks.rt:128:22
 places-requires-2 : tie.Need-places-requires-2
 places-requires-2 c κs = search needs
 
--- src/checks.rt:129:13
 returns-3 : tie.Need-returns-3
 returns-3 c = value-rights _ _ _ _ _ _ (c .before .before .before .before .if1 .left) _ (c .before .before .before .places .ensures) (c .before .before .if2 .left) _ (c .before .places2 .ensures) (c .if3 .taken)
 
--- src/checks.rt:131:13
 fits-requires : tie.Need-fits-requires
 fits-requires c κs = search needs
 
--- src/checks.rt:132:13
 returns-4 : tie.Need-returns-4
 returns-4 c = value-misfit _ _ _ _ _ _ (c .before .before .before .before .before .before .if1 .left) _ (c .before .before .before .before .before .places .ensures) (c .before .before .before .before .if2 .left) _ (c .before .before .before .places2 .ensures) (c .before .before .if3 .left) _ (c .before .fits2 .ensures) (not-true _ (c .if4 .taken))
 
--- src/checks.rt:119:5
 returns-5 : tie.Need-returns-5
 returns-5 c = value-passed _ _ _ _ _ _ (c .before .before .before .before .before .before .if1 .left) _ (c .before .before .before .before .before .places .ensures) (c .before .before .before .before .if2 .left) _ (c .before .before .before .places2 .ensures) (c .before .before .if3 .left) _ (c .before .fits2 .ensures) (not-false _ (c .if4 .left))
 

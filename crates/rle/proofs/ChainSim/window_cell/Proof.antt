@@ -3,27 +3,19 @@ use Rattle.rle.specs.QuestionCases.{window-past, window-cell}
 use borrow.Author.Needs.{needs}
 use Rattle.rle.proofs.ChainSim.window_cell.Statement.{statement}
 use Rattle.rle.proofs.ChainSim.window_cell.Tie as tie
-use Rattle.rle.proofs.ChainSim.window_cell.Reads as reads
-use Rattle.rle.proofs.ChainSim.window_cell.Lts as lts
-use Rattle.rle.proofs.ChainSim.cell.Reads as cell-reads
 
--- src/questions.rt:43:12
 sub-if1 : tie.Need-sub-if1
 sub-if1 c = search needs
 
--- src/questions.rt:44:13
 returns : tie.Need-returns
 returns c = window-past _ _ _ (omega arith) (c .if1 .taken)
 
--- src/questions.rt:46:35
 add-cell : tie.Need-add-cell
 add-cell c = search needs
 
--- src/questions.rt:46:9
 cell-requires : tie.Need-cell-requires
 cell-requires c κs = search needs
 
--- src/questions.rt:38:5
 returns-2 : tie.Need-returns-2
 returns-2 c = window-cell _ _ _ (omega arith) (c .before .if1 .left) _ (c .cell .ensures)
 

@@ -4,45 +4,31 @@ use Rattle.rle.specs.EngineCases.{carry-made}
 use borrow.Author.Needs.{needs}
 use Rattle.rle.proofs.inner.carry.Statement.{statement}
 use Rattle.rle.proofs.inner.carry.Tie as tie
-use Rattle.rle.proofs.inner.carry.Reads as reads
-use Rattle.rle.proofs.inner.carry.Lts as lts
-use Rattle.stacks.proofs.inner.push.Reads as push-reads
-use Rattle.stacks.proofs.inner.take.Reads as take-reads
-use Rattle.stacks.proofs.inner.top.Reads as top-reads
 
--- src/inner.rt:92:9
 push-requires : tie.Need-push-requires
 push-requires c κs = (c .before .before .before .before .before .before .pre .0, (c .before .before .before .before .before .before .pre .1 .0, c .before .before .before .before .before .before .pre .1 .1 .0))
 
--- src/inner.rt:93:39
 sub-take : tie.Need-sub-take
 sub-take c = search needs
 
--- src/inner.rt:93:9
 take-requires : tie.Need-take-requires
 take-requires c κs = search needs
 
--- src/inner.rt:94:9
 top-requires : tie.Need-top-requires
 top-requires c κs = omega (arith, c .before .before .before .before .before .before .before .before .before .before .before .before .before .before .before .pre .1 .1 .1, take-fewer _ _ _ (c .before .before .take .ensures (c .before .before .before .before .before .before .before .before .before .before .before .before .before .before .before .args .fs .now)))
 
--- src/inner.rt:95:9
 take-requires-2 : tie.Need-take-requires-2
 take-requires-2 c κs = omega (arith, c .before .before .before .before .before .before .before .before .before .before .before .before .before .before .before .before .before .pre .1 .1 .1, c .before .before .before .before .take .kept, take-fewer _ _ _ (c .before .before .before .before .take .ensures (c .before .before .before .before .before .before .before .before .before .before .before .before .before .before .before .before .before .args .fs .now)))
 
--- src/inner.rt:76:1
 same-length : tie.Need-same-length
 same-length c = search needs
 
--- src/inner.rt:76:1
 same-length-2 : tie.Need-same-length-2
 same-length-2 c = search needs
 
--- src/inner.rt:76:1
 same-length-3 : tie.Need-same-length-3
 same-length-3 c = search needs
 
--- src/inner.rt:76:1
 returns : tie.Need-returns
 returns c = carry-made _ _ _ _ _ _ _ _ (c .before .before .before .before .before .before .before .before .before .before .before .before .before .push .ensures) (c .before .before .before .before .before .before .before .take .ensures (c .before .before .before .before .before .before .before .before .before .before .before .before .before .before .before .before .before .before .before .before .args .fs .now)) (c .before .before .before .before .top .ensures) (c .before .before .take2 .ensures (c .before .before .before .before .before .before .before .before .before .before .before .before .before .before .before .before .before .before .before .before .args .fs .now))
 

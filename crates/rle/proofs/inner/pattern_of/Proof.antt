@@ -2,43 +2,31 @@ use Rattle.rle.specs.EngineCases.{pattern-left, pattern-right, pattern-w
 use borrow.Author.Needs.{needs}
 use Rattle.rle.proofs.inner.pattern_of.Statement.{statement}
 use Rattle.rle.proofs.inner.pattern_of.Tie as tie
-use Rattle.rle.proofs.inner.pattern_of.Reads as reads
-use Rattle.rle.proofs.inner.pattern_of.Lts as lts
-use Rattle.rle.proofs.inner.walk_of.Reads as walk-of-reads
 
--- src/inner.rt:121:31
 enum-told : tie.Need-enum-told
 enum-told c = search needs
 
--- src/inner.rt:121:13
 walk-of-requires : tie.Need-walk-of-requires
 walk-of-requires c κs = search needs
 
--- src/inner.rt:121:13
 returns : tie.Need-returns
 returns c = pattern-left _ _ _ _ _ _ _ (c .walk-of .ensures) (c .before .enum-told .given .1)
 
--- src/inner.rt:124:31
 enum-told-2 : tie.Need-enum-told-2
 enum-told-2 c = search needs
 
--- src/inner.rt:124:13
 walk-of-requires-2 : tie.Need-walk-of-requires-2
 walk-of-requires-2 c κs = search needs
 
--- src/inner.rt:124:13
 returns-2 : tie.Need-returns-2
 returns-2 c = pattern-right _ _ _ _ _ _ _ (c .walk-of2 .ensures) (c .before .enum-told2 .given .1)
 
--- src/inner.rt:127:16
 enum-told-3 : tie.Need-enum-told-3
 enum-told-3 c = search needs
 
--- src/inner.rt:128:17
 returns-3 : tie.Need-returns-3
 returns-3 c = search pattern-writes
 
--- src/inner.rt:130:13
 returns-4 : tie.Need-returns-4
 returns-4 c = search pattern-stays
 

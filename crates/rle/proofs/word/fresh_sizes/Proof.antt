@@ -2,23 +2,16 @@ use Rattle.rle.specs.FreshCases.{sizes-left, sizes-right, sizes-runs}
 use borrow.Author.Needs.{needs}
 use Rattle.rle.proofs.word.fresh_sizes.Statement.{statement}
 use Rattle.rle.proofs.word.fresh_sizes.Tie as tie
-use Rattle.rle.proofs.word.fresh_sizes.Reads as reads
-use Rattle.rle.proofs.word.fresh_sizes.Lts as lts
-use Rattle.rle.proofs.word.runs_in.Reads as runs-in-reads
 
--- src/word.rt:61:9
 returns : tie.Need-returns
 returns c = sizes-left _ _ _ (c .if1 .taken)
 
--- src/word.rt:64:9
 returns-2 : tie.Need-returns-2
 returns-2 c = sizes-right _ _ _ (c .before .if1 .left) (c .if2 .taken)
 
--- src/word.rt:66:5
 runs-in-requires : tie.Need-runs-in-requires
 runs-in-requires c κs = search needs
 
--- src/word.rt:56:1
 returns-3 : tie.Need-returns-3
 returns-3 c = sizes-runs _ _ _ (c .before .before .if1 .left) (c .before .if2 .left) _ (c .runs-in .ensures)
 

@@ -4,9 +4,6 @@ use Rattle.stacks.specs.Sides.{side, placesOf}
 use Rattle.rle.specs.FreshCases.{Laying, laying-start, laying-asks, laying-on, laying-end}
 use Rattle.rle.proofs.word.lay.Statement.{statement}
 use Rattle.rle.proofs.word.lay.Tie as tie
-use Rattle.rle.proofs.word.lay.Reads as reads
-use Rattle.rle.proofs.word.lay.Lts as lts
-use Rattle.stacks.proofs.inner.push.Reads as push-reads
 
 abbrev Inv-loop : tie.InvT-loop
 Inv-loop symbols₀ lengths₀ word i₀ count₀ symbols lengths i count =
@@ -15,39 +12,30 @@ Inv-loop symbols₀ lengths₀ word i₀ count₀ symbols lengths i count =
 abbrev μ-loop : tie.MeasureT-loop
 μ-loop symbols₀ lengths₀ word i₀ count₀ symbols lengths i count = i
 
--- src/word.rt:48:5
 loop-holds : tie.Need-loop-holds Inv-loop μ-loop
 loop-holds c = laying-start _ _ _ (c .before .before .before .pre .1)
 
--- src/word.rt:49:9
 sub-i : tie.Need-sub-i Inv-loop μ-loop
 sub-i c = search needs
 
--- src/word.rt:50:54
 shared-slice-read-push : tie.Need-shared-slice-read-push Inv-loop μ-loop
 shared-slice-read-push c = omega (arith, c .before .before .before .before .loop .inv .within, c .before .before .before .loop-test .taken)
 
--- src/word.rt:50:9
 push-requires : tie.Need-push-requires Inv-loop μ-loop
 push-requires c κs = laying-asks _ _ _ _ _ _ _ (c .before .before .before .before .loop .inv) (c .before .before .before .loop-test .taken) (c .before .before .before .before .before .before .before .before .pre .0)
 
--- src/word.rt:48:5
 loop-less : tie.Need-loop-less Inv-loop μ-loop
 loop-less c = search needs
 
--- src/word.rt:48:5
 loop-again : tie.Need-loop-again Inv-loop μ-loop
 loop-again c = laying-on _ _ _ _ _ (c .before .before .before .before .before .before .before .before .before .loop .inv) (c .before .before .before .before .before .before .before .before .loop-test .taken) _ (c .before .before .before .before .push .ensures)
 
--- src/word.rt:41:1
 same-length : tie.Need-same-length Inv-loop μ-loop
 same-length c = omega (arith, c .before .loop .inv .sizes .symbols)
 
--- src/word.rt:41:1
 same-length-2 : tie.Need-same-length-2 Inv-loop μ-loop
 same-length-2 c = omega (arith, c .before .loop .inv .sizes .lengths)
 
--- src/word.rt:41:1
 returns : tie.Need-returns Inv-loop μ-loop
 returns c = laying-end _ _ _ _ _ (c .before .loop .inv) (c .loop-test .left)
 

@@ -2,18 +2,13 @@ use Rattle.laws.specs.Tests.{tests}
 use borrow.Author.Needs.{needs}
 use Rattle.rle.proofs.word.more.Statement.{statement}
 use Rattle.rle.proofs.word.more.Tie as tie
-use Rattle.rle.proofs.word.more.Reads as reads
-use Rattle.rle.proofs.word.more.Lts as lts
 
--- src/word.rt:19:9
 returns : tie.Need-returns
 returns c = (search tests, search needs)
 
--- src/word.rt:21:5
 add-result : tie.Need-add-result
 add-result c = search needs
 
--- src/word.rt:14:1
 returns-2 : tie.Need-returns-2
 returns-2 c = (search tests, search needs)
 

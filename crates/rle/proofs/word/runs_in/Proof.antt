@@ -7,9 +7,6 @@ use Rattle.rle.specs.Operations.{runsOf}
 use Rattle.rle.specs.FreshCases.{runs-next, runs-end}
 use Rattle.rle.proofs.word.runs_in.Statement.{statement}
 use Rattle.rle.proofs.word.runs_in.Tie as tie
-use Rattle.rle.proofs.word.runs_in.Reads as reads
-use Rattle.rle.proofs.word.runs_in.Lts as lts
-use Rattle.rle.proofs.word.more.Reads as more-reads
 
 abbrev Inv-loop : tie.InvT-loop
 Inv-loop word i₀ top₀ count₀ i top count =
@@ -18,35 +15,27 @@ Inv-loop word i₀ top₀ count₀ i top count =
 abbrev μ-loop : tie.MeasureT-loop
 μ-loop word i₀ top₀ count₀ i top count = i
 
--- src/word.rt:32:5
 loop-holds : tie.Need-loop-holds Inv-loop μ-loop
 loop-holds c = (refl, omega arith, omega arith)
 
--- src/word.rt:33:9
 sub-i : tie.Need-sub-i Inv-loop μ-loop
 sub-i c = search needs
 
--- src/word.rt:34:34
 shared-slice-read-more : tie.Need-shared-slice-read-more Inv-loop μ-loop
 shared-slice-read-more c = search needs
 
--- src/word.rt:34:9
 more-requires : tie.Need-more-requires Inv-loop μ-loop
 more-requires c κs = omega (arith, c .before .before .loop .inv .2, c .before .before .before .before .pre)
 
--- src/word.rt:35:15
 shared-slice-read-top : tie.Need-shared-slice-read-top Inv-loop μ-loop
 shared-slice-read-top c = search needs
 
--- src/word.rt:32:5
 loop-less : tie.Need-loop-less Inv-loop μ-loop
 loop-less c = search needs
 
--- src/word.rt:32:5
 loop-again : tie.Need-loop-again Inv-loop μ-loop
 loop-again c = (runs-next _ _ _ _ _ _ (c .before .before .before .before .loop .inv .0) (c .before .before .before .loop-test .taken) (c .before .more .ensures .0), omega (arith, c .before .before .before .before .loop .inv .1), omega (arith, c .before .before .before .before .loop .inv .2, c .before .more .ensures .1))
 
--- src/word.rt:25:1
 returns : tie.Need-returns Inv-loop μ-loop
 returns c = runs-end _ _ _ _ _ (c .before .loop .inv .0) (c .loop-test .left)
 

@@ -9,7 +9,7 @@ use Rattle.sim.proofs.Simulator.fast_check.Reads as reads
 use Rattle.sim.proofs.Simulator.fast_check.Lts as lts
 use Rattle.machine.proofs.Machine.check.Reads as check-reads
 use Rattle.sim.proofs.Simulator.fuel_check.Reads as fuel-check-reads
-use Rattle.before.proofs.words.words_right.Reads as words-right-reads
+use Rattle.before.proofs.inner.words.words_right.Reads as words-right-reads
 
 -- src/fast.rt:60:13
 check-requires : tie.Need-check-requires

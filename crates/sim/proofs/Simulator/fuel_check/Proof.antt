@@ -6,7 +6,7 @@ use Rattle.sim.proofs.Simulator.fuel_check.Tie as tie
 use Rattle.sim.proofs.Simulator.fuel_check.Reads as reads
 use Rattle.sim.proofs.Simulator.fuel_check.Lts as lts
 use Rattle.sim.proofs.Simulator.value_check.Reads as value-check-reads
-use Rattle.before.proofs.sizes.fuel_fits.Reads as fuel-fits-reads
+use Rattle.before.proofs.inner.sizes.fuel_fits.Reads as fuel-fits-reads
 
 -- src/checks.rt:213:13
 value-check-requires : tie.Need-value-check-requires

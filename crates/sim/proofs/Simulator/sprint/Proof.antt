@@ -5,7 +5,7 @@ use Rattle.sim.proofs.Simulator.sprint.Statement.{statement}
 use Rattle.sim.proofs.Simulator.sprint.Tie as tie
 use Rattle.sim.proofs.Simulator.sprint.Reads as reads
 use Rattle.sim.proofs.Simulator.sprint.Lts as lts
-use Rattle.several.proofs.burst_several.Reads as burst-several-reads
+use Rattle.several.proofs.inner.burst_several.Reads as burst-several-reads
 use Rattle.sim.proofs.Simulator.onward.Reads as onward-reads
 use Rattle.sim.proofs.Simulator.sprint_one.Reads as sprint-one-reads
 use Rattle.sim.proofs.Simulator.wide.Reads as wide-reads

@@ -6,7 +6,7 @@ use Rattle.sim.proofs.Simulator.value_check.Tie as tie
 use Rattle.sim.proofs.Simulator.value_check.Reads as reads
 use Rattle.sim.proofs.Simulator.value_check.Lts as lts
 use Rattle.sim.proofs.Simulator.fits.Reads as fits-reads
-use Rattle.before.proofs.sizes.sizes_fit.Reads as sizes-fit-reads
+use Rattle.before.proofs.inner.sizes.sizes_fit.Reads as sizes-fit-reads
 
 -- src/checks.rt:178:13
 sizes-fit-requires : tie.Need-sizes-fit-requires

@@ -3,40 +3,30 @@ use Rattle.stacks.specs.Sides.{aheadOf}
 use borrow.Author.Needs.{needs}
 use Rattle.stacks.proofs.inner.ahead.Statement.{statement}
 use Rattle.stacks.proofs.inner.ahead.Tie as tie
-use Rattle.stacks.proofs.inner.ahead.Reads as reads
-use Rattle.stacks.proofs.inner.ahead.Lts as lts
 
--- src/inner.rt:33:9
 returns : tie.Need-returns
 unfolding aheadOf
 returns c = search tests
 
--- src/inner.rt:35:16
 sub-if2 : tie.Need-sub-if2
 sub-if2 c = search needs
 
--- src/inner.rt:35:8
 shared-slice-read-if2 : tie.Need-shared-slice-read-if2
 shared-slice-read-if2 c = search needs
 
--- src/inner.rt:36:9
 returns-2 : tie.Need-returns-2
 unfolding aheadOf
 returns-2 c = search tests
 
--- src/inner.rt:38:13
 sub-result : tie.Need-sub-result
 sub-result c = search needs
 
--- src/inner.rt:38:5
 mul-result : tie.Need-mul-result
 mul-result c = search needs
 
--- src/inner.rt:38:5
 shared-slice-read-result : tie.Need-shared-slice-read-result
 shared-slice-read-result c = search needs
 
--- src/inner.rt:28:1
 returns-3 : tie.Need-returns-3
 unfolding aheadOf
 returns-3 c = search tests

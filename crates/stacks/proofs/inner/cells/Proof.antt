@@ -6,8 +6,6 @@ use Rattle.stacks.specs.SideFacts.{sum-over, sum-next, sum-none, sum-all
 use borrow.Author.Needs.{needs}
 use Rattle.stacks.proofs.inner.cells.Statement.{statement}
 use Rattle.stacks.proofs.inner.cells.Tie as tie
-use Rattle.stacks.proofs.inner.cells.Reads as reads
-use Rattle.stacks.proofs.inner.cells.Lts as lts
 
 abbrev Inv-loop : tie.InvT-loop
 Inv-loop lengths count most i₀ sum₀ i sum = (sum ≡ sumOf lengths i) × (sum ≤ most) × (i ≤ count)
@@ -15,55 +13,42 @@ Inv-loop lengths count most i₀ sum₀ i sum = (sum ≡ sumOf lengths i) × (su
 abbrev μ-loop : tie.MeasureT-loop
 μ-loop lengths count most i₀ sum₀ i sum = count - i
 
--- src/inner.rt:142:5
 loop-holds : tie.Need-loop-holds Inv-loop μ-loop
 loop-holds c = (sum-none _, omega arith, omega arith)
 
--- src/inner.rt:143:12
 sub-if1 : tie.Need-sub-if1 Inv-loop μ-loop
 sub-if1 c = search needs
 
--- src/inner.rt:143:25
 mul-if1 : tie.Need-mul-if1 Inv-loop μ-loop
 mul-if1 c = search needs
 
--- src/inner.rt:143:25
 shared-slice-read-if1 : tie.Need-shared-slice-read-if1 Inv-loop μ-loop
 shared-slice-read-if1 c = search needs
 
--- src/inner.rt:144:20
 add-result : tie.Need-add-result Inv-loop μ-loop
 add-result c = search needs
 
--- src/inner.rt:144:13
 returns : tie.Need-returns Inv-loop μ-loop
 returns c = search sum-over
 
--- src/inner.rt:146:16
 mul-sum : tie.Need-mul-sum Inv-loop μ-loop
 mul-sum c = search needs
 
--- src/inner.rt:146:16
 shared-slice-read-sum : tie.Need-shared-slice-read-sum Inv-loop μ-loop
 shared-slice-read-sum c = search needs
 
--- src/inner.rt:146:9
 add-sum : tie.Need-add-sum Inv-loop μ-loop
 add-sum c = search needs
 
--- src/inner.rt:147:9
 add-i : tie.Need-add-i Inv-loop μ-loop
 add-i c = search needs
 
--- src/inner.rt:142:5
 loop-less : tie.Need-loop-less Inv-loop μ-loop
 loop-less c = search needs
 
--- src/inner.rt:142:5
 loop-again : tie.Need-loop-again Inv-loop μ-loop
 loop-again c = (search sum-next, search needs, search needs)
 
--- src/inner.rt:136:1
 returns-2 : tie.Need-returns-2 Inv-loop μ-loop
 returns-2 c = search sum-all
 

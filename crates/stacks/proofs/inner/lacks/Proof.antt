@@ -2,19 +2,13 @@ use Rattle.stacks.specs.SideCases.{lacks-none, lacks-new}
 use borrow.Author.Needs.{needs}
 use Rattle.stacks.proofs.inner.lacks.Statement.{statement}
 use Rattle.stacks.proofs.inner.lacks.Tie as tie
-use Rattle.stacks.proofs.inner.lacks.Reads as reads
-use Rattle.stacks.proofs.inner.lacks.Lts as lts
-use Rattle.stacks.proofs.inner.top.Reads as top-reads
 
--- src/inner.rt:46:13
 top-requires : tie.Need-top-requires
 top-requires c κs = search needs
 
--- src/inner.rt:47:9
 returns : tie.Need-returns
 returns c = λ ls. search lacks-none
 
--- src/inner.rt:42:1
 returns-2 : tie.Need-returns-2
 returns-2 c = λ ls. search lacks-new
 

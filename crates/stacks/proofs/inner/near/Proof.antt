@@ -3,35 +3,25 @@ use Rattle.stacks.specs.QuestionCases.{near-under, near-next}
 use borrow.Author.Needs.{needs}
 use Rattle.stacks.proofs.inner.near.Statement.{statement}
 use Rattle.stacks.proofs.inner.near.Tie as tie
-use Rattle.stacks.proofs.inner.near.Reads as reads
-use Rattle.stacks.proofs.inner.near.Lts as lts
-use Rattle.stacks.proofs.inner.top.Reads as top-reads
 
--- src/inner.rt:202:8
 top-requires : tie.Need-top-requires
 top-requires c κs = search needs
 
--- src/inner.rt:203:24
 sub-result : tie.Need-sub-result
 sub-result c = search needs
 
--- src/inner.rt:203:16
 mul-result : tie.Need-mul-result
 mul-result c = search needs
 
--- src/inner.rt:203:16
 shared-slice-read-result : tie.Need-shared-slice-read-result
 shared-slice-read-result c = search needs
 
--- src/inner.rt:203:16
 add-result : tie.Need-add-result
 add-result c = omega (arith, c .before .before .before .before .before .pre .1, near-under (c .before .before .before .before .before .args .symbols .now) (c .before .before .before .before .before .args .lengths .now) (c .before .before .before .before .before .args .count) _ (c .before .before .before .before .before .pre .0 .0) (c .before .before .top .ensures) (c .before .if1 .taken) .1)
 
--- src/inner.rt:203:9
 returns : tie.Need-returns
 returns c = near-under _ _ _ _ (c .before .before .before .before .before .pre .0 .0) (c .before .before .top .ensures) (c .before .if1 .taken)
 
--- src/inner.rt:197:1
 returns-2 : tie.Need-returns-2
 returns-2 c = near-next _ _ _ _ (c .before .before .before .before .pre .0 .0) (c .before .top .ensures) (c .if1 .left)
 

@@ -4,87 +4,64 @@ use Rattle.stacks.specs.SideCases.{push-none, push-grows, push-adds, has
 use borrow.Author.Needs.{needs}
 use Rattle.stacks.proofs.inner.push.Statement.{statement}
 use Rattle.stacks.proofs.inner.push.Tie as tie
-use Rattle.stacks.proofs.inner.push.Reads as reads
-use Rattle.stacks.proofs.inner.push.Lts as lts
-use Rattle.stacks.proofs.inner.top.Reads as top-reads
 
--- src/inner.rt:59:13
 top-requires : tie.Need-top-requires
 top-requires c κs = search needs
 
--- src/inner.rt:61:13
 same-length : tie.Need-same-length
 same-length c = search needs
 
--- src/inner.rt:61:13
 returns : tie.Need-returns
 returns c = search push-none
 
--- src/inner.rt:63:38
 sub-lengths : tie.Need-sub-lengths
 sub-lengths c = search needs
 
--- src/inner.rt:63:30
 mul-lengths : tie.Need-mul-lengths
 mul-lengths c = search needs
 
--- src/inner.rt:63:30
 slice-read-lengths : tie.Need-slice-read-lengths
 slice-read-lengths c = search needs
 
--- src/inner.rt:63:30
 add-lengths : tie.Need-add-lengths
 add-lengths c = omega (arith, c .before .before .before .before .before .before .before .pre .1 .1, sum-last (c .before .before .before .before .before .before .before .args .count) (c .before .before .before .before .before .before .before .args .lengths .now) (c .before .if2 .left))
 
--- src/inner.rt:63:17
 sub-lengths-2 : tie.Need-sub-lengths-2
 sub-lengths-2 c = search needs
 
--- src/inner.rt:63:9
 mul-lengths-2 : tie.Need-mul-lengths-2
 mul-lengths-2 c = search needs
 
--- src/inner.rt:63:9
 slice-write-lengths : tie.Need-slice-write-lengths
 slice-write-lengths c = search needs
 
--- src/inner.rt:64:9
 same-length-2 : tie.Need-same-length-2
 same-length-2 c = search needs
 
--- src/inner.rt:64:9
 same-length-3 : tie.Need-same-length-3
 same-length-3 c = search needs
 
--- src/inner.rt:64:9
 returns-2 : tie.Need-returns-2
 returns-2 c = search push-grows
 
--- src/inner.rt:66:5
 slice-write-symbols : tie.Need-slice-write-symbols
 slice-write-symbols c = omega (arith, c .before .before .before .before .before .pre, has-place _ _ _ _ _ _ (c .before .top .ensures) (c .if1 .left) (c .before .before .before .before .before .pre .1 .0))
 
--- src/inner.rt:67:5
 mul-lengths-3 : tie.Need-mul-lengths-3
 mul-lengths-3 c = search needs
 
--- src/inner.rt:67:5
 slice-write-lengths-2 : tie.Need-slice-write-lengths-2
 slice-write-lengths-2 c = omega (arith, c .before .before .before .before .before .pre, has-place _ _ _ _ _ _ (c .before .top .ensures) (c .if1 .left) (c .before .before .before .before .before .pre .1 .0))
 
--- src/inner.rt:68:5
 add-result : tie.Need-add-result
 add-result c = search needs
 
--- src/inner.rt:53:1
 same-length-4 : tie.Need-same-length-4
 same-length-4 c = search needs
 
--- src/inner.rt:53:1
 same-length-5 : tie.Need-same-length-5
 same-length-5 c = search needs
 
--- src/inner.rt:53:1
 returns-3 : tie.Need-returns-3
 returns-3 c = search push-adds
 

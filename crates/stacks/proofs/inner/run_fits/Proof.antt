@@ -2,44 +2,31 @@ use Rattle.stacks.specs.SideCases.{run-empty, run-over, run-rest}
 use borrow.Author.Needs.{needs}
 use Rattle.stacks.proofs.inner.run_fits.Statement.{statement}
 use Rattle.stacks.proofs.inner.run_fits.Tie as tie
-use Rattle.stacks.proofs.inner.run_fits.Reads as reads
-use Rattle.stacks.proofs.inner.run_fits.Lts as lts
-use Rattle.stacks.proofs.inner.top.Reads as top-reads
-use Rattle.stacks.proofs.inner.wide.Reads as wide-reads
 
--- src/inner.rt:105:8
 mul-if1 : tie.Need-mul-if1
 mul-if1 c = search needs
 
--- src/inner.rt:105:8
 shared-slice-read-if1 : tie.Need-shared-slice-read-if1
 shared-slice-read-if1 c = search needs
 
--- src/inner.rt:106:9
 returns : tie.Need-returns
 returns c = search run-empty
 
--- src/inner.rt:108:18
 shared-slice-read-wide : tie.Need-shared-slice-read-wide
 shared-slice-read-wide c = search needs
 
--- src/inner.rt:108:13
 wide-requires : tie.Need-wide-requires
 wide-requires c κs = search needs
 
--- src/inner.rt:109:9
 returns-2 : tie.Need-returns-2
 returns-2 c = search run-over
 
--- src/inner.rt:111:5
 shared-slice-read-result : tie.Need-shared-slice-read-result
 shared-slice-read-result c = search needs
 
--- src/inner.rt:111:19
 top-requires : tie.Need-top-requires
 top-requires c κs = search needs
 
--- src/inner.rt:101:1
 returns-3 : tie.Need-returns-3
 returns-3 c = run-rest _ _ _ _ _ _ (c .before .before .before .wide .ensures) (c .top .ensures) (c .before .before .before .before .before .if1 .left) (c .before .before .if2 .left)
 

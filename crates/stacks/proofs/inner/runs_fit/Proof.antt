@@ -8,9 +8,6 @@ use Rattle.stacks.specs.Sides.{runFits, runsFit}
 use borrow.Author.Needs.{needs}
 use Rattle.stacks.proofs.inner.runs_fit.Statement.{statement}
 use Rattle.stacks.proofs.inner.runs_fit.Tie as tie
-use Rattle.stacks.proofs.inner.runs_fit.Reads as reads
-use Rattle.stacks.proofs.inner.runs_fit.Lts as lts
-use Rattle.stacks.proofs.inner.run_fits.Reads as run-fits-reads
 
 abbrev Inv-loop : tie.InvT-loop
 Inv-loop symbols lengths count k i₀ i =
@@ -19,32 +16,25 @@ Inv-loop symbols lengths count k i₀ i =
 abbrev μ-loop : tie.MeasureT-loop
 μ-loop symbols lengths count k i₀ i = count - i
 
--- src/inner.rt:126:5
 loop-holds : tie.Need-loop-holds Inv-loop μ-loop
 loop-holds c = rw sub-zero
 
--- src/inner.rt:127:13
 run-fits-requires : tie.Need-run-fits-requires Inv-loop μ-loop
 run-fits-requires c κs = search needs
 
--- src/inner.rt:128:13
 returns : tie.Need-returns Inv-loop μ-loop
 unfolding runsFit
 returns c = all-hit _ _ _ _ (c .before .before .before .loop .inv) (c .before .before .loop-test .taken) (sym (c .before .run-fits .ensures) ∙ not-true _ (c .if1 .taken))
 
--- src/inner.rt:130:9
 add-i : tie.Need-add-i Inv-loop μ-loop
 add-i c = search needs
 
--- src/inner.rt:126:5
 loop-less : tie.Need-loop-less Inv-loop μ-loop
 loop-less c = search needs
 
--- src/inner.rt:126:5
 loop-again : tie.Need-loop-again Inv-loop μ-loop
 loop-again c = all-next _ _ _ _ (c .before .before .before .loop .inv) (c .before .before .loop-test .taken) (sym (c .before .run-fits .ensures) ∙ not-false _ (c .if1 .left))
 
--- src/inner.rt:121:1
 returns-2 : tie.Need-returns-2 Inv-loop μ-loop
 unfolding runsFit
 returns-2 c = search all-end

@@ -6,8 +6,6 @@ use Rattle.stacks.specs.Sides.{symbolIn}
 use Rattle.stacks.specs.QuestionCases.{symbol-here, symbol-further, symbol-none}
 use Rattle.stacks.proofs.inner.symbol_at.Statement.{statement}
 use Rattle.stacks.proofs.inner.symbol_at.Tie as tie
-use Rattle.stacks.proofs.inner.symbol_at.Reads as reads
-use Rattle.stacks.proofs.inner.symbol_at.Lts as lts
 
 abbrev Inv-loop : tie.InvT-loop
 Inv-loop symbols lengths count distance n₀ d₀ n d = (symbolIn symbols lengths n d ≡ symbolIn symbols lengths count distance) × (n ≤ count)
@@ -15,47 +13,36 @@ Inv-loop symbols lengths count distance n₀ d₀ n d = (symbolIn symbols length
 abbrev μ-loop : tie.MeasureT-loop
 μ-loop symbols lengths count distance n₀ d₀ n d = n
 
--- src/inner.rt:159:5
 loop-holds : tie.Need-loop-holds Inv-loop μ-loop
 loop-holds c = (refl, omega arith)
 
--- src/inner.rt:160:27
 sub-len : tie.Need-sub-len Inv-loop μ-loop
 sub-len c = search needs
 
--- src/inner.rt:160:19
 mul-len : tie.Need-mul-len Inv-loop μ-loop
 mul-len c = search needs
 
--- src/inner.rt:160:19
 shared-slice-read-len : tie.Need-shared-slice-read-len Inv-loop μ-loop
 shared-slice-read-len c = search needs
 
--- src/inner.rt:162:28
 sub-result : tie.Need-sub-result Inv-loop μ-loop
 sub-result c = search needs
 
--- src/inner.rt:162:20
 shared-slice-read-result : tie.Need-shared-slice-read-result Inv-loop μ-loop
 shared-slice-read-result c = search needs
 
--- src/inner.rt:162:13
 returns : tie.Need-returns Inv-loop μ-loop
 returns c = symbol-here _ _ _ _ _ (c .before .before .before .before .loop .inv .0) (c .before .before .before .loop-test .taken) (c .before .if1 .taken)
 
--- src/inner.rt:165:9
 sub-n : tie.Need-sub-n Inv-loop μ-loop
 sub-n c = search needs
 
--- src/inner.rt:159:5
 loop-less : tie.Need-loop-less Inv-loop μ-loop
 loop-less c = search needs
 
--- src/inner.rt:159:5
 loop-again : tie.Need-loop-again Inv-loop μ-loop
 loop-again c = (symbol-further _ _ _ _ _ (c .before .before .before .loop .inv .0) (c .before .before .loop-test .taken) (c .if1 .left), omega (arith, c .before .before .before .loop .inv .1))
 
--- src/inner.rt:153:1
 returns-2 : tie.Need-returns-2 Inv-loop μ-loop
 returns-2 c = symbol-none _ _ _ _ _ (c .before .loop .inv .0) (c .loop-test .left)
 

@@ -3,23 +3,17 @@ use Rattle.stacks.specs.Sides.{symbolUnder}
 use borrow.Author.Needs.{needs}
 use Rattle.stacks.proofs.inner.top.Statement.{statement}
 use Rattle.stacks.proofs.inner.top.Tie as tie
-use Rattle.stacks.proofs.inner.top.Reads as reads
-use Rattle.stacks.proofs.inner.top.Lts as lts
 
--- src/inner.rt:13:9
 returns : tie.Need-returns
 unfolding symbolUnder
 returns c = search tests
 
--- src/inner.rt:15:13
 sub-result : tie.Need-sub-result
 sub-result c = search needs
 
--- src/inner.rt:15:5
 shared-slice-read-result : tie.Need-shared-slice-read-result
 shared-slice-read-result c = search needs
 
--- src/inner.rt:8:1
 returns-2 : tie.Need-returns-2
 unfolding symbolUnder
 returns-2 c = search tests

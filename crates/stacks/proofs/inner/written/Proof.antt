@@ -6,9 +6,6 @@ use Rattle.stacks.specs.Sides.{sumOf, weightOf}
 use Rattle.stacks.specs.QuestionCases.{written-start, written-room, written-next, written-all}
 use Rattle.stacks.proofs.inner.written.Statement.{statement}
 use Rattle.stacks.proofs.inner.written.Tie as tie
-use Rattle.stacks.proofs.inner.written.Reads as reads
-use Rattle.stacks.proofs.inner.written.Lts as lts
-use Rattle.stacks.proofs.inner.weight.Reads as weight-reads
 
 abbrev Inv-loop : tie.InvT-loop
 Inv-loop symbols lengths count i₀ sum₀ i sum = ((sum ≡ weightOf symbols lengths i) × (sum ≤ sumOf lengths i)) × (i ≤ count)
@@ -16,31 +13,24 @@ Inv-loop symbols lengths count i₀ sum₀ i sum = ((sum ≡ weightOf symbols le
 abbrev μ-loop : tie.MeasureT-loop
 μ-loop symbols lengths count i₀ sum₀ i sum = count - i
 
--- src/inner.rt:189:5
 loop-holds : tie.Need-loop-holds Inv-loop μ-loop
 loop-holds c = (written-start _ _, omega arith)
 
--- src/inner.rt:190:16
 weight-requires : tie.Need-weight-requires Inv-loop μ-loop
 weight-requires c κs = search needs
 
--- src/inner.rt:190:9
 add-sum : tie.Need-add-sum Inv-loop μ-loop
 add-sum c = omega (arith, c .before .before .before .before .before .pre .1, written-room (c .before .before .before .before .before .args .symbols .now) (c .before .before .before .before .before .args .lengths .now) _ (c .before .before .before .before .before .args .count) _ _ (c .before .before .loop .inv .0) (c .weight .ensures) (c .before .loop-test .taken))
 
--- src/inner.rt:191:9
 add-i : tie.Need-add-i Inv-loop μ-loop
 add-i c = search needs
 
--- src/inner.rt:189:5
 loop-less : tie.Need-loop-less Inv-loop μ-loop
 loop-less c = search needs
 
--- src/inner.rt:189:5
 loop-again : tie.Need-loop-again Inv-loop μ-loop
 loop-again c = (written-next _ _ _ _ _ (c .before .before .loop .inv .0) (c .weight .ensures), omega (arith, c .before .loop-test .taken))
 
--- src/inner.rt:182:1
 returns : tie.Need-returns Inv-loop μ-loop
 returns c = written-all _ _ _ _ _ (c .before .loop .inv .0) (c .before .loop .inv .1) (c .loop-test .left)
 
