@@ -1,14 +1,19 @@
-// What is decided before a step of a run, and the step. Both ask that the engine's numbers lie inside its cells.
+// What is decided before a step of a run, the step, and the run. They ask that the engine's numbers lie inside its cells.
+use super::Answered;
 use super::Simulator;
 use super::StopRule;
 use before::inner::look;
 use before::inner::look::Choice;
 use machine::Action;
+use machine::Checked;
 use machine::Machine;
 use symbol::State;
 ghost use mathlib.Core.Path.{_≡_};
 ghost use Prim.Native.Nat.{_+_};
 ghost use Rattle.sim.specs.Engine.{conf, matches, stepOf};
+ghost use Rattle.machine.specs.declared.Checked.the-variants.{Accepted};
+ghost use Rattle.sim.specs.Operations.{given, runCheck};
+ghost use Rattle.sim.specs.Runs.{answerOf};
 ghost use Rattle.sim.specs.Turns.{choiceOf, LookOk, StepOk};
 
 // Whether a run's stop rule has this state.
@@ -84,5 +89,26 @@ impl Simulator {
             t1: u1,
             t2: u2,
         }
+    }
+
+    // The run over a table whose check was passed. Without the never test it makes all the fuel, or ends halted or full,
+    // or by the stop rule.
+    pub fn run_all(
+        self,
+        m: Machine,
+        proves: bool,
+        rule: StopRule,
+        table: &[u8],
+        c0: &mut [u8],
+        c1: &mut [u8],
+        c2: &mut [u8],
+        fuel: u64,
+    ) -> Answered
+        requires { ⌜ runCheck m (now table) fuel (conf self (now c0) (now c1) (now c2)) ≡ Accepted ⌝ }
+        ensures { λ r. ⌜ given (conf (r .sim) (now (c0 .exit)) (now (c1 .exit)) (now (c2 .exit))) (r .answer) ≡ answerOf Accepted m (now (table .entry)) proves rule fuel (conf self (now (c0 .entry)) (now (c1 .entry)) (now (c2 .entry))) ⌝ }
+    {
+        let none: [u64; 1] = [3];
+        let checked = Checked::Accepted;
+        self.run_checked(checked, m, proves, rule, table, false, &none, c0, c1, c2, fuel)
     }
 }

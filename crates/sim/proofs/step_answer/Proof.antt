@@ -2,27 +2,19 @@ use Rattle.sim.specs.AnswerCases.{answer-refused, answer-done}
 use borrow.Author.Needs.{needs}
 use Rattle.sim.proofs.step_answer.Statement.{statement}
 use Rattle.sim.proofs.step_answer.Tie as tie
-use Rattle.sim.proofs.step_answer.Reads as reads
-use Rattle.sim.proofs.step_answer.Lts as lts
-use Rattle.sim.proofs.status_of.Reads as status-of-reads
 
--- src/lib.rt:70:25
 enum-known-answer : tie.Need-enum-known-answer
 enum-known-answer c = search needs
 
--- src/lib.rt:71:22
 enum-known-answer-2 : tie.Need-enum-known-answer-2
 enum-known-answer-2 c = search needs
 
--- src/lib.rt:71:51
 status-of-requires : tie.Need-status-of-requires
 status-of-requires c κs = search needs
 
--- src/lib.rt:66:1
 returns : tie.Need-returns
 returns c = answer-refused _ _ (c .before .answer .given .1)
 
--- src/lib.rt:66:1
 returns-2 : tie.Need-returns-2
 returns-2 c = answer-done _ _ _ (c .status-of .ensures) (c .before .before .answer2 .given .1)
 

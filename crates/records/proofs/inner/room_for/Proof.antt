@@ -2,11 +2,9 @@ use Rattle.records.specs.RecordFacts.{room-short, room-enough}
 use Rattle.records.proofs.inner.room_for.Statement.{statement}
 use Rattle.records.proofs.inner.room_for.Tie as tie
 
--- src/inner.rt:28:9
 returns : tie.Need-returns
 returns c = search room-short
 
--- src/inner.rt:24:1
 returns-2 : tie.Need-returns-2
 returns-2 c = search room-enough
 

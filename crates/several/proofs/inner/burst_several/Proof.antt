@@ -4,11 +4,6 @@ use Rattle.several.specs.Several.{Carried}
 use Rattle.several.specs.SeveralCases.{heads-of, carried-start, carried-again, next-less}
 use Rattle.several.proofs.inner.burst_several.Statement.{statement}
 use Rattle.several.proofs.inner.burst_several.Tie as tie
-use Rattle.several.proofs.inner.burst_several.Reads as reads
-use Rattle.several.proofs.inner.burst_several.Lts as lts
-use Rattle.several.proofs.inner.moved.Reads as moved-reads
-use Rattle.several.proofs.inner.put.Reads as put-reads
-use Rattle.several.proofs.inner.read.Reads as read-reads
 
 abbrev Inv-loop : tie.InvT-loop
 Inv-loop table c0₀ c1₀ c2₀ stop k stride at₀ c0 c1 c2 at =
@@ -17,103 +12,78 @@ Inv-loop table c0₀ c1₀ c2₀ stop k stride at₀ c0 c1 c2 at =
 abbrev μ-loop : tie.MeasureT-loop
 μ-loop table c0₀ c1₀ c2₀ stop k stride at₀ c0 c1 c2 at = at .left
 
--- src/lib.rt:264:5
 loop-holds : tie.Need-loop-holds Inv-loop μ-loop
 loop-holds c = carried-start _ _ _ _ _ _ _ _ (c .before .before .before .before .pre .1)
 
--- src/lib.rt:266:13
 same-length : tie.Need-same-length Inv-loop μ-loop
 same-length c = c .before .before .loop .inv .lens0
 
--- src/lib.rt:266:13
 same-length-2 : tie.Need-same-length-2 Inv-loop μ-loop
 same-length-2 c = c .before .before .loop .inv .lens1
 
--- src/lib.rt:266:13
 same-length-3 : tie.Need-same-length-3 Inv-loop μ-loop
 same-length-3 c = c .before .before .loop .inv .lens2
 
--- src/lib.rt:266:13
 returns : tie.Need-returns Inv-loop μ-loop
 returns c = c .before .before .loop .inv
 
--- src/lib.rt:268:12
 cast-if2 : tie.Need-cast-if2 Inv-loop μ-loop
 cast-if2 c = search needs
 
--- src/lib.rt:269:13
 same-length-4 : tie.Need-same-length-4 Inv-loop μ-loop
 same-length-4 c = c .before .before .before .before .loop .inv .lens0
 
--- src/lib.rt:269:13
 same-length-5 : tie.Need-same-length-5 Inv-loop μ-loop
 same-length-5 c = c .before .before .before .before .loop .inv .lens1
 
--- src/lib.rt:269:13
 same-length-6 : tie.Need-same-length-6 Inv-loop μ-loop
 same-length-6 c = c .before .before .before .before .loop .inv .lens2
 
--- src/lib.rt:269:13
 returns-2 : tie.Need-returns-2 Inv-loop μ-loop
 returns-2 c = c .before .before .before .before .loop .inv
 
--- src/lib.rt:271:13
 read-requires : tie.Need-read-requires Inv-loop μ-loop
 read-requires c κs = (c .before .before .before .before .before .before .before .before .before .before .before .before .pre .0, c .before .before .before .before .before .before .before .loop .inv .safe)
 
--- src/lib.rt:273:13
 same-length-7 : tie.Need-same-length-7 Inv-loop μ-loop
 same-length-7 c = c .before .before .before .before .before .before .before .before .before .before .loop .inv .lens0
 
--- src/lib.rt:273:13
 same-length-8 : tie.Need-same-length-8 Inv-loop μ-loop
 same-length-8 c = c .before .before .before .before .before .before .before .before .before .before .loop .inv .lens1
 
--- src/lib.rt:273:13
 same-length-9 : tie.Need-same-length-9 Inv-loop μ-loop
 same-length-9 c = c .before .before .before .before .before .before .before .before .before .before .loop .inv .lens2
 
--- src/lib.rt:273:13
 returns-3 : tie.Need-returns-3 Inv-loop μ-loop
 returns-3 c = c .before .before .before .before .before .before .before .before .before .before .loop .inv
 
--- src/lib.rt:275:13
 moved-requires : tie.Need-moved-requires Inv-loop μ-loop
 moved-requires c κs = (heads-of _ _ _ _ (c .before .before .before .before .before .before .before .before .before .before .loop .inv .safe), search needs)
 
--- src/lib.rt:277:13
 same-length-10 : tie.Need-same-length-10 Inv-loop μ-loop
 same-length-10 c = c .before .before .before .before .before .before .before .before .before .before .before .before .before .loop .inv .lens0
 
--- src/lib.rt:277:13
 same-length-11 : tie.Need-same-length-11 Inv-loop μ-loop
 same-length-11 c = c .before .before .before .before .before .before .before .before .before .before .before .before .before .loop .inv .lens1
 
--- src/lib.rt:277:13
 same-length-12 : tie.Need-same-length-12 Inv-loop μ-loop
 same-length-12 c = c .before .before .before .before .before .before .before .before .before .before .before .before .before .loop .inv .lens2
 
--- src/lib.rt:277:13
 returns-4 : tie.Need-returns-4 Inv-loop μ-loop
 returns-4 c = c .before .before .before .before .before .before .before .before .before .before .before .before .before .loop .inv
 
--- src/lib.rt:279:9
 put-requires : tie.Need-put-requires Inv-loop μ-loop
 put-requires c κs = c .before .before .before .before .before .before .before .before .before .before .before .before .before .before .loop .inv .safe .safe0 .ok
 
--- src/lib.rt:280:9
 put-requires-2 : tie.Need-put-requires-2 Inv-loop μ-loop
 put-requires-2 c κs = c .before .before .before .before .before .before .before .before .before .before .before .before .before .before .before .before .before .before .loop .inv .safe .safe1 .ok
 
--- src/lib.rt:281:9
 put-requires-3 : tie.Need-put-requires-3 Inv-loop μ-loop
 put-requires-3 c κs = c .before .before .before .before .before .before .before .before .before .before .before .before .before .before .before .before .before .before .before .before .before .before .loop .inv .safe .safe2 .ok
 
--- src/lib.rt:264:5
 loop-less : tie.Need-loop-less Inv-loop μ-loop
 loop-less c = next-less _ _ _ (c .before .before .before .before .before .before .before .before .before .before .before .before .before .before .before .moved .ensures) (not-false _ (c .before .before .before .before .before .before .before .before .before .before .before .before .before .if4 .left)) (c .before .before .before .before .before .before .before .before .before .before .before .before .before .before .before .before .before .before .before .before .before .before .before .before .if1 .left)
 
--- src/lib.rt:264:5
 loop-again : tie.Need-loop-again Inv-loop μ-loop
 loop-again c = carried-again _ _ _ _ _ _ _ _ _ _ _ _ (c .before .before .before .before .before .before .before .before .before .before .before .before .before .before .before .before .before .before .before .before .before .before .before .before .before .before .loop .inv) _ _ _ _ _ (c .before .before .before .before .before .before .before .before .before .before .before .before .before .before .before .before .before .before .before .before .before .before .before .before .if1 .left) (c .before .before .before .before .before .before .before .before .before .before .before .before .before .before .before .before .before .before .before .before .before .before .if2 .left) (c .before .before .before .before .before .before .before .before .before .before .before .before .before .before .before .before .before .before .read .ensures) (not-false _ (c .before .before .before .before .before .before .before .before .before .before .before .before .before .before .before .before .if3 .left)) (c .before .before .before .before .before .before .before .before .before .before .before .before .before .before .before .moved .ensures) (not-false _ (c .before .before .before .before .before .before .before .before .before .before .before .before .before .if4 .left)) (c .before .before .before .before .before .before .before .before .before .before .before .put .ensures) (c .before .before .before .before .before .before .before .put2 .ensures) (c .before .before .before .put3 .ensures)
 

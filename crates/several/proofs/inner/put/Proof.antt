@@ -3,22 +3,16 @@ use Rattle.several.specs.SeveralCases.{wrote-there, wrote-none}
 use borrow.Author.Needs.{needs}
 use Rattle.several.proofs.inner.put.Statement.{statement}
 use Rattle.several.proofs.inner.put.Tie as tie
-use Rattle.several.proofs.inner.put.Reads as reads
-use Rattle.several.proofs.inner.put.Lts as lts
 
--- src/lib.rt:243:9
 slice-write-cells : tie.Need-slice-write-cells
 slice-write-cells c = search needs
 
--- src/lib.rt:237:1
 same-length : tie.Need-same-length
 same-length c = search needs
 
--- src/lib.rt:237:1
 returns : tie.Need-returns
 returns c = wrote-there (c .before .before .args .t) (now (c .before .before .args .cells)) (c .before .before .args .w) (c .if1 .taken)
 
--- src/lib.rt:237:1
 returns-2 : tie.Need-returns-2
 returns-2 c = wrote-none (c .before .before .args .t) (now (c .before .before .args .cells)) (c .before .before .args .w) (c .if1 .left)
 

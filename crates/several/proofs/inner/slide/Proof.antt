@@ -2,28 +2,19 @@ use Rattle.several.specs.SeveralCases.{slid-none}
 use borrow.Author.Needs.{needs}
 use Rattle.several.proofs.inner.slide.Statement.{statement}
 use Rattle.several.proofs.inner.slide.Tie as tie
-use Rattle.several.proofs.inner.slide.Reads as reads
-use Rattle.several.proofs.inner.slide.Lts as lts
-use Rattle.several.proofs.inner.left.Reads as left-reads
-use Rattle.several.proofs.inner.right.Reads as right-reads
 
--- src/lib.rt:150:9
 left-requires : tie.Need-left-requires
 left-requires c κs = search needs
 
--- src/lib.rt:150:9
 returns : tie.Need-returns
 returns c = rw (c .before .if1 .taken) (c .left .ensures)
 
--- src/lib.rt:153:9
 right-requires : tie.Need-right-requires
 right-requires c κs = search needs
 
--- src/lib.rt:153:9
 returns-2 : tie.Need-returns-2
 returns-2 c = rw (c .before .if2 .taken) (c .right .ensures)
 
--- src/lib.rt:145:1
 returns-3 : tie.Need-returns-3
 returns-3 c = slid-none _ _ (c .before .if1 .left) (c .if2 .left)
 

@@ -2,18 +2,13 @@ use Rattle.several.specs.SeveralCases.{stuck-out, stuck-still}
 use borrow.Author.Needs.{needs}
 use Rattle.several.proofs.inner.stuck.Statement.{statement}
 use Rattle.several.proofs.inner.stuck.Tie as tie
-use Rattle.several.proofs.inner.stuck.Reads as reads
-use Rattle.several.proofs.inner.stuck.Lts as lts
 
--- src/lib.rt:115:9
 returns : tie.Need-returns
 returns c = stuck-out _ _ _
 
--- src/lib.rt:118:9
 returns-2 : tie.Need-returns-2
 returns-2 c = search needs
 
--- src/lib.rt:111:1
 returns-3 : tie.Need-returns-3
 returns-3 c = stuck-still _ _ _ (c .before .if1 .left)
 

@@ -2,32 +2,22 @@ use Rattle.sim.specs.OperationCases.{engine-table, engine-value}
 use borrow.Author.Needs.{needs}
 use Rattle.sim.proofs.Simulator.engine_check.Statement.{statement}
 use Rattle.sim.proofs.Simulator.engine_check.Tie as tie
-use Rattle.sim.proofs.Simulator.engine_check.Reads as reads
-use Rattle.sim.proofs.Simulator.engine_check.Lts as lts
-use Rattle.machine.proofs.Machine.check.Reads as check-reads
-use Rattle.sim.proofs.Simulator.value_check.Reads as value-check-reads
 
--- src/checks.rt:198:13
 check-requires : tie.Need-check-requires
 check-requires c κs = search needs
 
--- src/checks.rt:200:30
 enum-known-checked : tie.Need-enum-known-checked
 enum-known-checked c = search needs
 
--- src/checks.rt:201:17
 returns : tie.Need-returns
 returns c = engine-table _ _ _ _ _ _ _ (c .before .before .before .check .ensures) _ (c .before .checked .given .1)
 
--- src/checks.rt:204:17
 enum-told : tie.Need-enum-told
 enum-told c = search needs
 
--- src/checks.rt:204:17
 value-check-requires : tie.Need-value-check-requires
 value-check-requires c κs = search needs
 
--- src/checks.rt:204:17
 returns-2 : tie.Need-returns-2
 returns-2 c = engine-value _ _ _ _ _ _ _ (c .before .before .before .check .ensures) _ (c .before .enum-told .given .1) (c .value-check .ensures)
 

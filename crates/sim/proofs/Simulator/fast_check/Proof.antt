@@ -5,43 +5,30 @@ use Rattle.sim.specs.OperationCases.{fast-refused, fast-wrong, fast-pass
 use borrow.Author.Needs.{needs}
 use Rattle.sim.proofs.Simulator.fast_check.Statement.{statement}
 use Rattle.sim.proofs.Simulator.fast_check.Tie as tie
-use Rattle.sim.proofs.Simulator.fast_check.Reads as reads
-use Rattle.sim.proofs.Simulator.fast_check.Lts as lts
-use Rattle.machine.proofs.Machine.check.Reads as check-reads
-use Rattle.sim.proofs.Simulator.fuel_check.Reads as fuel-check-reads
-use Rattle.before.proofs.inner.words.words_right.Reads as words-right-reads
 
--- src/fast.rt:60:13
 check-requires : tie.Need-check-requires
 check-requires c κs = search needs
 
--- src/fast.rt:62:30
 enum-known-checked : tie.Need-enum-known-checked
 enum-known-checked c = search needs
 
--- src/fast.rt:63:17
 returns : tie.Need-returns
 returns c = fast-refused _ _ _ _ _ _ _ _ _ (c .before .before .before .check .ensures) _ (c .before .checked .given .1)
 
--- src/fast.rt:66:21
 enum-told : tie.Need-enum-told
 enum-told c = search needs
 
--- src/fast.rt:66:21
 words-right-requires : tie.Need-words-right-requires
 words-right-requires c κs =
     let g = ranges _ _ (sym (c .before .before .check .ensures) ∙ c .enum-told .given .1) in
     (g .symbols-high, g .states-high)
 
--- src/fast.rt:67:21
 returns-2 : tie.Need-returns-2
 returns-2 c = fast-wrong _ _ _ _ _ _ _ _ _ (c .before .before .before .before .check .ensures) (c .before .before .enum-told .given .1) _ (c .before .words-right .ensures) (not-true _ (c .if1 .taken))
 
--- src/fast.rt:69:17
 fuel-check-requires : tie.Need-fuel-check-requires
 fuel-check-requires c κs = search needs
 
--- src/fast.rt:69:17
 returns-3 : tie.Need-returns-3
 returns-3 c = fast-passed _ _ _ _ _ _ _ _ _ (c .before .before .before .before .before .check .ensures) (c .before .before .before .enum-told .given .1) _ (c .before .before .words-right .ensures) _ (not-false _ (c .before .if1 .left)) (c .fuel-check .ensures)
 

@@ -6,14 +6,6 @@ use Rattle.sim.specs.RunsCases.{sped-inv}
 use borrow.Author.Needs.{needs}
 use Rattle.sim.proofs.Simulator.run_bursts.Statement.{statement}
 use Rattle.sim.proofs.Simulator.run_bursts.Tie as tie
-use Rattle.sim.proofs.Simulator.run_bursts.Reads as reads
-use Rattle.sim.proofs.Simulator.run_bursts.Lts as lts
-use Rattle.sim.proofs.Simulator.advance.Reads as advance-reads
-use Rattle.sim.proofs.Simulator.decide.Reads as decide-reads
-use Rattle.sim.proofs.Simulator.sprint.Reads as sprint-reads
-use Rattle.sim.proofs.inner.matches.Reads as matches-reads
-use Rattle.sim.proofs.runs.stop_of.Reads as stop-of-reads
-use Rattle.sim.proofs.runs.stopped.Reads as stopped-reads
 
 abbrev Inv-loop : tie.InvT-loop
 Inv-loop m stride proves rule table packed words c0₀ c1₀ c2₀ fuel stop sim₀ left₀ c0 c1 c2 sim left =
@@ -22,83 +14,63 @@ Inv-loop m stride proves rule table packed words c0₀ c1₀ c2₀ fuel stop sim
 abbrev μ-loop : tie.MeasureT-loop
 μ-loop m stride proves rule table packed words c0₀ c1₀ c2₀ fuel stop sim₀ left₀ c0 c1 c2 sim left = left
 
--- src/runs.rt:250:13
 stop-of-requires : tie.Need-stop-of-requires Inv-loop μ-loop
 stop-of-requires c κs = search needs
 
--- src/runs.rt:253:9
 loop-holds : tie.Need-loop-holds Inv-loop μ-loop
 loop-holds c = record { same = refl; now-ok = c .before .before .before .before .before .before .pre .0; len0 = refl; len1 = refl; len2 = refl }
 
--- src/runs.rt:254:17
 sprint-requires : tie.Need-sprint-requires Inv-loop μ-loop
 sprint-requires c κs = (c .before .before .before .loop .inv .now-ok, c .before .before .before .before .before .before .before .before .before .before .pre .1)
 
--- src/runs.rt:269:17
 decide-requires : tie.Need-decide-requires Inv-loop μ-loop
 decide-requires c κs = (sped-inv _ _ _ _ _ _ _ _ _ _ _ _ (c .before .before .before .before .before .before .before .before .before .before .before .before .before .before .loop .inv) _ _ _ _ _ _ (c .before .before .before .before .before .before .before .before .before .before .before .before .before .before .before .stop-of .ensures) (c .before .before .before .before .before .before .before .before .before .before .sprint .ensures)) .now-ok .ok
 
--- src/runs.rt:271:30
 enum-known-choice : tie.Need-enum-known-choice Inv-loop μ-loop
 enum-known-choice c = search needs
 
--- src/runs.rt:272:21
 same-length : tie.Need-same-length Inv-loop μ-loop
 same-length c = (sped-inv _ _ _ _ _ _ _ _ _ _ _ _ (c .before .before .before .before .before .before .before .before .before .before .before .before .before .before .before .before .before .before .loop .inv) _ _ _ _ _ _ (c .before .before .before .before .before .before .before .before .before .before .before .before .before .before .before .before .before .before .before .stop-of .ensures) (c .before .before .before .before .before .before .before .before .before .before .before .before .before .before .sprint .ensures)) .len0
 
--- src/runs.rt:272:21
 same-length-2 : tie.Need-same-length-2 Inv-loop μ-loop
 same-length-2 c = (sped-inv _ _ _ _ _ _ _ _ _ _ _ _ (c .before .before .before .before .before .before .before .before .before .before .before .before .before .before .before .before .before .before .loop .inv) _ _ _ _ _ _ (c .before .before .before .before .before .before .before .before .before .before .before .before .before .before .before .before .before .before .before .stop-of .ensures) (c .before .before .before .before .before .before .before .before .before .before .before .before .before .before .sprint .ensures)) .len1
 
--- src/runs.rt:272:21
 same-length-3 : tie.Need-same-length-3 Inv-loop μ-loop
 same-length-3 c = (sped-inv _ _ _ _ _ _ _ _ _ _ _ _ (c .before .before .before .before .before .before .before .before .before .before .before .before .before .before .before .before .before .before .loop .inv) _ _ _ _ _ _ (c .before .before .before .before .before .before .before .before .before .before .before .before .before .before .before .before .before .before .before .stop-of .ensures) (c .before .before .before .before .before .before .before .before .before .before .before .before .before .before .sprint .ensures)) .len2
 
--- src/runs.rt:272:21
 returns : tie.Need-returns Inv-loop μ-loop
 returns c = loop-stop _ _ _ _ _ _ _ (c .before .before .before .decide .ensures) _ _ (c .before .choice .given .1) ((sped-inv _ _ _ _ _ _ _ _ _ _ _ _ (c .before .before .before .before .before .before .before .before .before .before .before .before .before .before .before .before .before .before .loop .inv) _ _ _ _ _ _ (c .before .before .before .before .before .before .before .before .before .before .before .before .before .before .before .before .before .before .before .stop-of .ensures) (c .before .before .before .before .before .before .before .before .before .before .before .before .before .before .sprint .ensures)) .same)
 
--- src/runs.rt:274:28
 enum-known-choice-2 : tie.Need-enum-known-choice-2 Inv-loop μ-loop
 enum-known-choice-2 c = search needs
 
--- src/runs.rt:275:25
 advance-requires : tie.Need-advance-requires Inv-loop μ-loop
 advance-requires c κs = loop-ok (task _ _ _ (c .before .before .before .before .before .before .before .before .before .before .before .before .before .before .before .before .before .before .before .before .before .before .before .before .before .before .before .before .args .rule)) _ _ _ _ _ _ (c .before .before .before .before .before .before .decide .ensures) _ (c .before .before .before .before .choice2 .given .1) _ ((sped-inv _ _ _ _ _ _ _ _ _ _ _ _ (c .before .before .before .before .before .before .before .before .before .before .before .before .before .before .before .before .before .before .before .before .before .loop .inv) _ _ _ _ _ _ (c .before .before .before .before .before .before .before .before .before .before .before .before .before .before .before .before .before .before .before .before .before .before .stop-of .ensures) (c .before .before .before .before .before .before .before .before .before .before .before .before .before .before .before .before .before .sprint .ensures)) .now-ok)
 
--- src/runs.rt:276:24
 matches-requires : tie.Need-matches-requires Inv-loop μ-loop
 matches-requires c κs = search needs
 
--- src/runs.rt:277:25
 stopped-requires : tie.Need-stopped-requires Inv-loop μ-loop
 stopped-requires c κs = search needs
 
--- src/runs.rt:277:25
 same-length-4 : tie.Need-same-length-4 Inv-loop μ-loop
 same-length-4 c = len-then _ _ _ ((sped-inv _ _ _ _ _ _ _ _ _ _ _ _ (c .before .before .before .before .before .before .before .before .before .before .before .before .before .before .before .before .before .before .before .before .before .before .before .before .before .before .before .before .before .before .before .loop .inv) _ _ _ _ _ _ (c .before .before .before .before .before .before .before .before .before .before .before .before .before .before .before .before .before .before .before .before .before .before .before .before .before .before .before .before .before .before .before .before .stop-of .ensures) (c .before .before .before .before .before .before .before .before .before .before .before .before .before .before .before .before .before .before .before .before .before .before .before .before .before .before .before .sprint .ensures)) .len0) (search needs)
 
--- src/runs.rt:277:25
 same-length-5 : tie.Need-same-length-5 Inv-loop μ-loop
 same-length-5 c = len-then _ _ _ ((sped-inv _ _ _ _ _ _ _ _ _ _ _ _ (c .before .before .before .before .before .before .before .before .before .before .before .before .before .before .before .before .before .before .before .before .before .before .before .before .before .before .before .before .before .before .before .loop .inv) _ _ _ _ _ _ (c .before .before .before .before .before .before .before .before .before .before .before .before .before .before .before .before .before .before .before .before .before .before .before .before .before .before .before .before .before .before .before .before .stop-of .ensures) (c .before .before .before .before .before .before .before .before .before .before .before .before .before .before .before .before .before .before .before .before .before .before .before .before .before .before .before .sprint .ensures)) .len1) (search needs)
 
--- src/runs.rt:277:25
 same-length-6 : tie.Need-same-length-6 Inv-loop μ-loop
 same-length-6 c = len-then _ _ _ ((sped-inv _ _ _ _ _ _ _ _ _ _ _ _ (c .before .before .before .before .before .before .before .before .before .before .before .before .before .before .before .before .before .before .before .before .before .before .before .before .before .before .before .before .before .before .before .loop .inv) _ _ _ _ _ _ (c .before .before .before .before .before .before .before .before .before .before .before .before .before .before .before .before .before .before .before .before .before .before .before .before .before .before .before .before .before .before .before .before .stop-of .ensures) (c .before .before .before .before .before .before .before .before .before .before .before .before .before .before .before .before .before .before .before .before .before .before .before .before .before .before .before .sprint .ensures)) .len2) (search needs)
 
--- src/runs.rt:277:25
 returns-2 : tie.Need-returns-2 Inv-loop μ-loop
 returns-2 c = loop-last _ _ _ _ _ _ _ (c .before .before .before .before .before .before .before .before .before .before .before .before .before .before .before .before .decide .ensures) _ (c .before .before .before .before .before .before .before .before .before .before .before .before .before .before .choice2 .given .1) _ _ _ _ (c .before .before .before .before .before .before .before .before .before .advance .ensures) _ (c .before .before .matches .ensures) _ _ _ (c .before .if1 .taken) (c .stopped .ensures .0) (c .stopped .ensures .1) ((sped-inv _ _ _ _ _ _ _ _ _ _ _ _ (c .before .before .before .before .before .before .before .before .before .before .before .before .before .before .before .before .before .before .before .before .before .before .before .before .before .before .before .before .before .before .before .loop .inv) _ _ _ _ _ _ (c .before .before .before .before .before .before .before .before .before .before .before .before .before .before .before .before .before .before .before .before .before .before .before .before .before .before .before .before .before .before .before .before .stop-of .ensures) (c .before .before .before .before .before .before .before .before .before .before .before .before .before .before .before .before .before .before .before .before .before .before .before .before .before .before .before .sprint .ensures)) .same)
 
--- src/runs.rt:280:28
 sub-left : tie.Need-sub-left Inv-loop μ-loop
 sub-left c = loop-pos (task _ _ _ (c .before .before .before .before .before .before .before .before .before .before .before .before .before .before .before .before .before .before .before .before .before .before .before .before .before .before .before .before .before .before .before .before .before .before .before .before .before .args .rule)) _ _ _ _ _ _ (c .before .before .before .before .before .before .before .before .before .before .before .before .before .before .before .decide .ensures) _ (c .before .before .before .before .before .before .before .before .before .before .before .before .before .choice2 .given .1)
 
--- src/runs.rt:253:9
 loop-less : tie.Need-loop-less Inv-loop μ-loop
 loop-less c = let h = loop-pos (task _ _ _ (c .before .before .before .before .before .before .before .before .before .before .before .before .before .before .before .before .before .before .before .before .before .before .before .before .before .before .before .before .before .before .before .before .before .before .before .before .before .args .rule)) _ _ _ _ _ _ (c .before .before .before .before .before .before .before .before .before .before .before .before .before .before .before .decide .ensures) _ (c .before .before .before .before .before .before .before .before .before .before .before .before .before .choice2 .given .1) in omega (arith, c .before .before .before .before .before .before .before .before .before .before .before .before .before .before .before .before .before .before .before .before .before .before .before .before .before .before .sprint .ensures .less)
 
--- src/runs.rt:253:9
 loop-again : tie.Need-loop-again Inv-loop μ-loop
 loop-again c = loop-next _ _ _ _ _ _ _ (c .before .before .before .before .before .before .before .before .before .before .before .before .before .before .before .decide .ensures) _ (c .before .before .before .before .before .before .before .before .before .before .before .before .before .choice2 .given .1) _ _ _ _ (c .before .before .before .before .before .before .before .before .advance .ensures) _ (c .before .matches .ensures) _ _ _ (sped-inv _ _ _ _ _ _ _ _ _ _ _ _ (c .before .before .before .before .before .before .before .before .before .before .before .before .before .before .before .before .before .before .before .before .before .before .before .before .before .before .before .before .before .before .loop .inv) _ _ _ _ _ _ (c .before .before .before .before .before .before .before .before .before .before .before .before .before .before .before .before .before .before .before .before .before .before .before .before .before .before .before .before .before .before .before .stop-of .ensures) (c .before .before .before .before .before .before .before .before .before .before .before .before .before .before .before .before .before .before .before .before .before .before .before .before .before .before .sprint .ensures)) (c .if1 .left) (search needs) (search needs) (search needs)
 

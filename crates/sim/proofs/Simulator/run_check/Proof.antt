@@ -3,32 +3,22 @@ use Rattle.sim.specs.OperationCases.{run-refused, run-passed}
 use borrow.Author.Needs.{needs}
 use Rattle.sim.proofs.Simulator.run_check.Statement.{statement}
 use Rattle.sim.proofs.Simulator.run_check.Tie as tie
-use Rattle.sim.proofs.Simulator.run_check.Reads as reads
-use Rattle.sim.proofs.Simulator.run_check.Lts as lts
-use Rattle.machine.proofs.Machine.check.Reads as check-reads
-use Rattle.sim.proofs.Simulator.fuel_check.Reads as fuel-check-reads
 
--- src/checks.rt:239:13
 check-requires : tie.Need-check-requires
 check-requires c κs = search needs
 
--- src/checks.rt:241:30
 enum-known-checked : tie.Need-enum-known-checked
 enum-known-checked c = search needs
 
--- src/checks.rt:242:17
 returns : tie.Need-returns
 returns c = run-refused _ _ [] _ _ _ _ _ _ (c .before .before .before .check .ensures) _ (c .before .checked .given .1)
 
--- src/checks.rt:245:17
 enum-told : tie.Need-enum-told
 enum-told c = search needs
 
--- src/checks.rt:245:17
 fuel-check-requires : tie.Need-fuel-check-requires
 fuel-check-requires c κs = search needs
 
--- src/checks.rt:245:17
 returns-2 : tie.Need-returns-2
 returns-2 c = run-passed _ _ [] _ _ _ _ _ _ (c .before .before .before .check .ensures) _ (c .before .enum-told .given .1) (c .fuel-check .ensures)
 

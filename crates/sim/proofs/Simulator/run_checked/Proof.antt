@@ -3,54 +3,37 @@ use Rattle.sim.specs.OperationCases.{stride-ok, run-ok}
 use borrow.Author.Needs.{needs}
 use Rattle.sim.proofs.Simulator.run_checked.Statement.{statement}
 use Rattle.sim.proofs.Simulator.run_checked.Tie as tie
-use Rattle.sim.proofs.Simulator.run_checked.Reads as reads
-use Rattle.sim.proofs.Simulator.run_checked.Lts as lts
-use Rattle.machine.proofs.inner.stride.Reads as stride-reads
-use Rattle.sim.proofs.Simulator.bare.Reads as bare-reads
-use Rattle.sim.proofs.Simulator.hand_back.Reads as hand-back-reads
-use Rattle.sim.proofs.Simulator.run_bursts.Reads as run-bursts-reads
 
--- src/runs.rt:239:30
 enum-known-checked : tie.Need-enum-known-checked
 enum-known-checked c = search needs
 
--- src/runs.rt:240:17
 returns : tie.Need-returns
 returns c = ran-refused _ _ _ _ _ _ _ _ _ _ _ (c .before .checked .given .1)
 
--- src/runs.rt:246:21
 enum-told : tie.Need-enum-told
 enum-told c = search needs
 
--- src/runs.rt:246:21
 stride-requires : tie.Need-stride-requires
 stride-requires c κs = stride-ok _ _ _ _ (c .before .before .before .before .before .before .before .pre .runs (c .enum-told .given .1))
 
--- src/runs.rt:247:21
 bare-requires : tie.Need-bare-requires
 bare-requires c κs = search needs
 
--- src/runs.rt:248:21
 run-bursts-requires : tie.Need-run-bursts-requires
 run-bursts-requires c κs = (run-ok _ _ _ _ _ _ _ _ _ (c .before .before .before .before .before .before .before .before .before .before .before .before .pre .runs (c .before .before .before .before .before .enum-told .given .1)) (c .before .before .before .bare .ensures) (c .before .before .before .before .stride .ensures .0) (c .before .before .before .before .stride .ensures .1), c .before .before .before .before .before .before .before .before .before .before .before .before .pre .words-ok (c .before .before .before .before .before .enum-told .given .1))
 
--- src/runs.rt:254:26
 hand-back-requires : tie.Need-hand-back-requires
 hand-back-requires c κs = search needs
 
--- src/runs.rt:253:17
 same-length : tie.Need-same-length
 same-length c = search needs
 
--- src/runs.rt:253:17
 same-length-2 : tie.Need-same-length-2
 same-length-2 c = search needs
 
--- src/runs.rt:253:17
 same-length-3 : tie.Need-same-length-3
 same-length-3 c = search needs
 
--- src/runs.rt:253:17
 returns-2 : tie.Need-returns-2
 returns-2 c = ran-done _ _ _ _ _ _ _ _ _ _ _ _ _ _ _ _ _ (c .before .before .before .before .before .before .before .before .before .before .before .before .before .before .enum-told .given .1) (c .before .before .before .before .before .before .before .before .before .before .before .before .bare .ensures) (c .before .before .before .before .before .before .before .before .run-bursts .ensures) (c .hand-back .ensures)
 

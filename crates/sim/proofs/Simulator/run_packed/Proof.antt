@@ -2,32 +2,22 @@ use Rattle.sim.specs.AnswerCases.{fast-cleared, fast-answers}
 use borrow.Author.Needs.{needs}
 use Rattle.sim.proofs.Simulator.run_packed.Statement.{statement}
 use Rattle.sim.proofs.Simulator.run_packed.Tie as tie
-use Rattle.sim.proofs.Simulator.run_packed.Reads as reads
-use Rattle.sim.proofs.Simulator.run_packed.Lts as lts
-use Rattle.sim.proofs.Simulator.fast_check.Reads as fast-check-reads
-use Rattle.sim.proofs.Simulator.run_checked.Reads as run-checked-reads
 
--- src/lib.rt:153:13
 fast-check-requires : tie.Need-fast-check-requires
 fast-check-requires c κs = search needs
 
--- src/lib.rt:154:9
 run-checked-requires : tie.Need-run-checked-requires
 run-checked-requires c κs = fast-cleared _ _ _ _ _ _ (c .before .before .before .fast-check .ensures)
 
--- src/lib.rt:140:5
 same-length : tie.Need-same-length
 same-length c = search needs
 
--- src/lib.rt:140:5
 same-length-2 : tie.Need-same-length-2
 same-length-2 c = search needs
 
--- src/lib.rt:140:5
 same-length-3 : tie.Need-same-length-3
 same-length-3 c = search needs
 
--- src/lib.rt:140:5
 returns : tie.Need-returns
 returns c = fast-answers _ _ _ _ _ _ _ (c .before .before .before .before .before .before .run-checked .ensures) _ (c .before .before .before .before .before .before .before .before .before .before .fast-check .ensures)
 

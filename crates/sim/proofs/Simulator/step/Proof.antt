@@ -2,41 +2,28 @@ use Rattle.sim.specs.AnswerCases.{run-cleared, step-answers}
 use borrow.Author.Needs.{needs}
 use Rattle.sim.proofs.Simulator.step.Statement.{statement}
 use Rattle.sim.proofs.Simulator.step.Tie as tie
-use Rattle.sim.proofs.Simulator.step.Reads as reads
-use Rattle.sim.proofs.Simulator.step.Lts as lts
-use Rattle.sim.proofs.Simulator.run_check.Reads as run-check-reads
-use Rattle.sim.proofs.Simulator.run_checked.Reads as run-checked-reads
-use Rattle.sim.proofs.step_answer.Reads as step-answer-reads
 
--- src/lib.rt:168:13
 run-check-requires : tie.Need-run-check-requires
 run-check-requires c κs = search needs
 
--- src/lib.rt:172:75
 slice-aggregate-run-checked : tie.Need-slice-aggregate-run-checked
 slice-aggregate-run-checked c = search needs
 
--- src/lib.rt:172:13
 run-checked-requires : tie.Need-run-checked-requires
 run-checked-requires c κs = run-cleared _ _ _ _ _ _ (c .before .before .before .before .before .run-check .ensures)
 
--- src/lib.rt:177:21
 step-answer-requires : tie.Need-step-answer-requires
 step-answer-requires c κs = search needs
 
--- src/lib.rt:158:5
 same-length : tie.Need-same-length
 same-length c = search needs
 
--- src/lib.rt:158:5
 same-length-2 : tie.Need-same-length-2
 same-length-2 c = search needs
 
--- src/lib.rt:158:5
 same-length-3 : tie.Need-same-length-3
 same-length-3 c = search needs
 
--- src/lib.rt:158:5
 returns : tie.Need-returns
 returns c = step-answers _ _ _ _ _ _ _ _ _ _ _ _ _ (c .before .before .before .before .before .before .before .before .before .before .before .before .before .before .run-check .ensures) (c .before .before .before .before .before .before .before .before .run-checked .ensures) (c .step-answer .ensures)
 

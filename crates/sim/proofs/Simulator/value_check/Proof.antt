@@ -3,30 +3,21 @@ use Rattle.laws.specs.Tests.{tests, via}
 use borrow.Author.Needs.{needs}
 use Rattle.sim.proofs.Simulator.value_check.Statement.{statement}
 use Rattle.sim.proofs.Simulator.value_check.Tie as tie
-use Rattle.sim.proofs.Simulator.value_check.Reads as reads
-use Rattle.sim.proofs.Simulator.value_check.Lts as lts
-use Rattle.sim.proofs.Simulator.fits.Reads as fits-reads
-use Rattle.before.proofs.inner.sizes.sizes_fit.Reads as sizes-fit-reads
 
--- src/checks.rt:178:13
 sizes-fit-requires : tie.Need-sizes-fit-requires
 sizes-fit-requires c κs = search needs
 
--- src/checks.rt:179:13
 returns : tie.Need-returns
 unfolding valueCheck
 returns c = search (tests, via)
 
--- src/checks.rt:181:13
 fits-requires : tie.Need-fits-requires
 fits-requires c κs = search needs
 
--- src/checks.rt:182:13
 returns-2 : tie.Need-returns-2
 unfolding valueCheck
 returns-2 c = search (tests, via)
 
--- src/checks.rt:175:5
 returns-3 : tie.Need-returns-3
 unfolding valueCheck
 returns-3 c = search (tests, via)

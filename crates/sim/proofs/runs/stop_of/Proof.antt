@@ -2,26 +2,19 @@ use Rattle.sim.specs.RunsCases.{misses-never, misses-from}
 use borrow.Author.Needs.{needs}
 use Rattle.sim.proofs.runs.stop_of.Statement.{statement}
 use Rattle.sim.proofs.runs.stop_of.Tie as tie
-use Rattle.sim.proofs.runs.stop_of.Reads as reads
-use Rattle.sim.proofs.runs.stop_of.Lts as lts
 
--- src/runs.rt:35:13
 enum-told : tie.Need-enum-told
 enum-told c = search needs
 
--- src/runs.rt:35:13
 returns : tie.Need-returns
 returns c = search misses-never
 
--- src/runs.rt:37:24
 enum-known-rule : tie.Need-enum-known-rule
 enum-known-rule c = search needs
 
--- src/runs.rt:38:20
 cast-result : tie.Need-cast-result
 cast-result c = search needs
 
--- src/runs.rt:38:13
 returns-2 : tie.Need-returns-2
 returns-2 c = search misses-from
 

@@ -1,18 +1,13 @@
 use Rattle.before.specs.LookCases.{go-fuel, go-on, go-full}
 use Rattle.before.proofs.inner.look.go.Statement.{statement}
 use Rattle.before.proofs.inner.look.go.Tie as tie
-use Rattle.before.proofs.inner.look.go.Reads as reads
-use Rattle.before.proofs.inner.look.go.Lts as lts
 
--- src/look.rt:173:9
 returns : tie.Need-returns
 returns c = go-fuel _ _ _ _ (c .if1 .taken)
 
--- src/look.rt:176:9
 returns-2 : tie.Need-returns-2
 returns-2 c = go-on _ _ _ _ (c .before .if1 .left) (c .if2 .taken)
 
--- src/look.rt:169:1
 returns-3 : tie.Need-returns-3
 returns-3 c = go-full _ _ _ _ (c .before .if1 .left) (c .if2 .left)
 

@@ -1,4 +1,3 @@
-use native.Mathlib.Omega.{arith}
 use Rattle.before.specs.SizesCases.{word-differs, word-agrees}
 use borrow.Author.Needs.{needs}
 use Rattle.before.specs.Sizes.{wordRight}
@@ -6,13 +5,9 @@ use Rattle.laws.specs.ScanFacts.{all-end}
 use Rattle.laws.specs.Scan.{allIn}
 use native.Mathlib.Nat.{sub-zero}
 use mathlib.Core.Path.{_≡_}
-use Prim.Native.Nat.{ℕ, _-_}
+use Prim.Native.Nat.{_-_}
 use Rattle.before.proofs.inner.words.same_words.Statement.{statement}
 use Rattle.before.proofs.inner.words.same_words.Tie as tie
-use Rattle.before.proofs.inner.words.same_words.Reads as reads
-use Rattle.before.proofs.inner.words.same_words.Lts as lts
-use Rattle.machine.proofs.inner.entry_at.Reads as entry-at-reads
-use Rattle.machine.proofs.packed.Packed.new.Reads as new-reads
 
 abbrev Inv-loop : tie.InvT-loop
 Inv-loop table stride words count i₀ i = allIn (wordRight table stride words) (count - i) i ≡ allIn (wordRight table stride words) count 0
@@ -20,43 +15,33 @@ Inv-loop table stride words count i₀ i = allIn (wordRight table stride words) 
 abbrev μ-loop : tie.MeasureT-loop
 μ-loop table stride words count i₀ i = count - i
 
--- src/fast.rt:20:5
 loop-holds : tie.Need-loop-holds Inv-loop μ-loop
 loop-holds c = rw sub-zero
 
--- src/fast.rt:22:32
 entry-at-requires : tie.Need-entry-at-requires Inv-loop μ-loop
 entry-at-requires c κs = search needs
 
--- src/fast.rt:22:13
 new-requires : tie.Need-new-requires Inv-loop μ-loop
 new-requires c κs = search needs
 
--- src/fast.rt:23:12
 mul-if1 : tie.Need-mul-if1 Inv-loop μ-loop
 mul-if1 c = search needs
 
--- src/fast.rt:23:12
 shared-slice-read-if1 : tie.Need-shared-slice-read-if1 Inv-loop μ-loop
 shared-slice-read-if1 c = search needs
 
--- src/fast.rt:24:13
 returns : tie.Need-returns Inv-loop μ-loop
 returns c = search word-differs
 
--- src/fast.rt:26:9
 add-i : tie.Need-add-i Inv-loop μ-loop
 add-i c = search needs
 
--- src/fast.rt:20:5
 loop-less : tie.Need-loop-less Inv-loop μ-loop
 loop-less c = search needs
 
--- src/fast.rt:20:5
 loop-again : tie.Need-loop-again Inv-loop μ-loop
 loop-again c = search word-agrees
 
--- src/fast.rt:15:1
 returns-2 : tie.Need-returns-2 Inv-loop μ-loop
 returns-2 c = search all-end
 

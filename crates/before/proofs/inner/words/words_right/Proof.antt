@@ -4,27 +4,19 @@ use Rattle.before.specs.SizesCases.{words-several, words-number, words-c
 use borrow.Author.Needs.{needs}
 use Rattle.before.proofs.inner.words.words_right.Statement.{statement}
 use Rattle.before.proofs.inner.words.words_right.Tie as tie
-use Rattle.before.proofs.inner.words.words_right.Reads as reads
-use Rattle.before.proofs.inner.words.words_right.Lts as lts
-use Rattle.before.proofs.inner.words.same_words.Reads as same-words-reads
 
--- src/fast.rt:37:9
 returns : tie.Need-returns
 returns c = search words-several
 
--- src/fast.rt:39:17
 mul-count : tie.Need-mul-count
 mul-count c = record { fits = count-small _ _ (c .before .before .before .before .before .pre .1) (omega (arith, c .before .before .before .before .before .pre .0)) }
 
--- src/fast.rt:41:9
 returns-2 : tie.Need-returns-2
 returns-2 c = search words-number
 
--- src/fast.rt:43:5
 same-words-requires : tie.Need-same-words-requires
 same-words-requires c κs = search needs
 
--- src/fast.rt:32:1
 returns-3 : tie.Need-returns-3
 returns-3 c = search words-compared
 
