@@ -1,6 +1,7 @@
 pub mod SecondPlain
 pub mod ChainClaims
 pub mod ChainFacts
+pub mod ChainQuestions
 pub mod SecondChain
 pub mod Second
 pub mod CaseTables

@@ -13,7 +13,7 @@ use Rattle.demands.specs.SecondChain.{ChainEngine, chain-engine}
 pub record SecondDemand : Type 0 where
   -- the plain engine: fresh, runs, steps, never, the fast run, the questions
   pub plain : PlainEngine
-  -- the run-length engine: the same of fresh, runs and never; macro steps, how fuel was cut, space, empty sides
+  -- the run-length engine: the same of fresh, runs and never; macro steps, how fuel was cut, space, empty sides; the questions
   pub chain : ChainEngine
   -- "Packing and unpacking a one-tape entry gives the entry."
   pub packing : (m : Machine) (s : List ℕ) → WellFormed m s → m .tapes ≡ 1 → (e : Entry) → EntryOf m e → wordEntry (packWord e (m .symbols)) ≡ e

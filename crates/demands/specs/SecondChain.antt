@@ -3,9 +3,12 @@ use mathlib.Core.Path.{_≡_, refl}
 use mathlib.Core.Logic.{_↔_}
 use mathlib.Core.Bool.{Bool, false}
 use mathlib.Core.List.{List}
-use Prim.Native.Nat.{ℕ, _+_, _<_}
-use lib.IntN.{ℤ}
+use Prim.Native.Nat.{ℕ, _+_, _≤_, _<_, _^_}
+use lib.IntN.{ℤ, pos, _+ℤ_}
+use lib.ListN.{length, getD}
 use lib.Signed.{_<ℤ_}
+use Rattle.laws.specs.Position.{dn}
+use Rattle.symbol.specs.declared.Symbol.{Symbol}
 use Rattle.symbol.specs.declared.Dir.the-variants.{L, R}
 use Rattle.outcome.specs.declared.NonHaltProof.{NonHaltProof}
 use Rattle.outcome.specs.declared.Outcome.{Outcome}
@@ -15,9 +18,14 @@ use Rattle.machine.specs.declared.Checked.the-variants.{Accepted}
 use Rattle.tables.specs.WellFormed.{Bytes}
 use Rattle.turing.specs.TableMachine.{run, start, Halted}
 use Rattle.turing.specs.Tables.{tableOf}
+use Rattle.tape.specs.declared.Span.{Span}
+use Rattle.tape.specs.Answers.{Spans}
 use Rattle.sim.specs.declared.StopRule.{StopRule}
 use Rattle.sim.specs.declared.StopRule.the-variants as Rule
 use Rattle.sim.specs.declared.Answer.the-variants as Ans
+use Rattle.sim.specs.declared.questions.Got.the-variants as Got
+use Rattle.sim.specs.declared.questions.Extent.the-variants as Extent
+use Rattle.sim.specs.declared.questions.Counted.the-variants as Counted
 use Rattle.sim.specs.Engine.{task, matches}
 use Rattle.rle.specs.declared.ChainSim.{ChainSim}
 use Rattle.rle.specs.declared.Fresh.the-variants as New
@@ -26,12 +34,16 @@ use Rattle.rle.specs.declared.inner.Plan.the-variants.{Go}
 use Rattle.rle.specs.Engine.{Conf, conf, planOf, runOf}
 use Rattle.rle.specs.Fits.{engineCheck, runCheck}
 use Rattle.rle.specs.Operations.{given, runAnswer, made, newAnswer}
+use Rattle.rle.specs.Questions.{getAnswer, extentAnswer, countAnswer, windowInto}
+use Rattle.sim_refines.specs.Counts.{Counts}
 use Rattle.rle_refines.specs.Meaning.{tapeOf, configOf, Alike}
 use Rattle.rle_refines.specs.Statement.{FullWithin}
 use Rattle.rle_refines.specs.Operations.{RunHolds}
 use Rattle.rle_refines.specs.PlanFacts.{empty-exact}
 use Rattle.rle_refines.specs.OperationFacts.{engine-says, run-holds, run-never-halts, new-holds}
+use Rattle.rle_refines.specs.QuestionFacts.{get-is, extent-is, window-into}
 use Rattle.demands.specs.ChainClaims.{GoesOn, MacroStep, FullHere}
+use Rattle.demands.specs.ChainQuestions.{chain-counts}
 use Rattle.demands.specs.ChainFacts.{macro-step, space-exact, full-stands, full-there, cut-same}
 
 pub record ChainEngine : Type 0 where
@@ -68,7 +80,14 @@ pub record ChainEngine : Type 0 where
       → (σ .sim .tape .left ≡ 0) ↔ ((z : ℤ) → z <ℤ tapeOf σ .head → tapeOf σ .cell z ≡ 0)
   pub empty-right : (m : Machine) (s : List ℕ) (σ : Conf) → engineCheck m s σ ≡ Accepted
       → (σ .sim .tape .right ≡ 0) ↔ ((z : ℤ) → tapeOf σ .head <ℤ z → tapeOf σ .cell z ≡ 0)
-  -- the questions come with their models, under the plain engine's names: `spans` and `counts`, of `tapeOf σ .cell`
+  -- "`get`, `non_blank`, `count_non_blank`, `window` .. answer over all of i64; a cell outside is blank": the questions answer what the table machine's tape
+  -- holds. At a position of 64 bits the cell; of the non-blank cells the smallest range (Spans) and the number (Counts)
+  pub gets : (m : Machine) (s : List ℕ) (σ : Conf) (z : ℤ) → dn z ≤ 2 ^ 63 → (x : Symbol) → getAnswer m s z σ ≡ Got.Found x → x .0 ≡ tapeOf σ .cell z
+  pub spans : (m : Machine) (s : List ℕ) (σ : Conf) (x : Span) → extentAnswer m s σ ≡ Extent.Found x → Spans (tapeOf σ .cell) x
+  pub counts : (m : Machine) (s : List ℕ) (σ : Conf) (n : ℕ) → countAnswer m s σ ≡ Counted.Found n → Counts (tapeOf σ .cell) n
+  -- "`window` fills its whole lent slice, positions past i64 blank": place j holds the cell at z + j, and past i64 the tape is blank
+  pub windows : (m : Machine) (s : List ℕ) (σ : Conf) → engineCheck m s σ ≡ Accepted → (z : ℤ) → dn z ≤ 2 ^ 63 → (out : List ℕ)
+      → (length (windowInto m s z σ out) ≡ length out) × ((j : ℕ) → j < length out → getD (windowInto m s z σ out) j 0 ≡ tapeOf σ .cell (z +ℤ pos j))
 
 pub chain-engine : ChainEngine
 chain-engine = record {
@@ -82,4 +101,8 @@ chain-engine = record {
   space = space-exact;
   empty-left = λ m s σ c. empty-exact m σ (engine-says m s σ c .fits) L tt;
   empty-right = λ m s σ c. empty-exact m σ (engine-says m s σ c .fits) R tt;
+  gets = get-is;
+  spans = extent-is;
+  counts = chain-counts;
+  windows = window-into;
 }

@@ -17,3 +17,8 @@ pub mod Operations
 pub mod OperationFacts
 pub mod SpaceFacts
 pub mod CutFacts
+pub mod EndFacts
+pub mod CellFacts
+pub mod SpanFacts
+pub mod CountFacts
+pub mod QuestionFacts

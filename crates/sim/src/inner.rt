@@ -109,6 +109,18 @@ impl Simulator {
     {
         let none: [u64; 1] = [3];
         let checked = Checked::Accepted;
-        self.run_checked(checked, m, proves, rule, table, false, &none, c0, c1, c2, fuel)
+        self.run_checked(
+            checked,
+            m,
+            proves,
+            rule,
+            table,
+            false,
+            &none,
+            c0,
+            c1,
+            c2,
+            fuel,
+        )
     }
 }
