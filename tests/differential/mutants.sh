@@ -1,12 +1,18 @@
 #!/bin/sh
-# Puts each fault of src/mock.rs into the mock, one at a time: the harness must find every one.
+# Puts each fault of src/mock.rs into the mock, one at a time: the harness must find every one. A fault of the
+# run-length engine ("chain: ..") is looked for in its kinds of runs only.
 # Needs a build with `--features mock`; run it in this folder.
 program=${1:-../../target/differential/release/differential}
-faults=$(sed -n '/^pub const FAULTS/,/^];/p' src/mock.rs | grep -c '^    "')
+faults=$(sed -n '/^pub const FAULTS/,/^];/p' src/mock.rs | grep '^    "')
+chain=$("$program" --list | sed -n 's/^\(c-[a-z]*\) .*/--only \1/p')
+number=$(echo "$faults" | wc -l)
 missed=0
 i=1
-while [ "$i" -le "$faults" ]; do
-    if found=$(MOCK_FAULT=$i "$program" 2>/dev/null); then
+while [ "$i" -le "$number" ]; do
+    kinds=
+    echo "$faults" | sed -n "${i}p" | grep -q '"chain: ' && kinds=$chain
+    # shellcheck disable=SC2086 # the kinds are words
+    if found=$(MOCK_FAULT=$i "$program" $kinds 2>/dev/null); then
         echo "fault $i: NOT FOUND"
         missed=$((missed + 1))
     else
@@ -14,5 +20,5 @@ while [ "$i" -le "$faults" ]; do
     fi
     i=$((i + 1))
 done
-echo "$faults faults, $missed not found"
+echo "$number faults, $missed not found"
 [ "$missed" -eq 0 ]

@@ -65,8 +65,15 @@ pub record RightSeen (c : List ℕ) (head len r : ℕ) : Type 0 where
 pub record CalmIf (b proves : Bool) (c : List ℕ) (len head read w d next q : ℕ) : Type 0 where
   pub calm : b ≡ true → Calm proves c len head read w d next q
 
-pub record MovedIf (d head len r : ℕ) : Type 0 where
-  pub moved : r < len → Moved d head r
+-- the same, whatever the cells hold
+pub record SureIf (b proves : Bool) (read w d next q : ℕ) : Type 0 where
+  pub calm : b ≡ true → (c : List ℕ) (len head : ℕ) → Calm proves c len head read w d next q
+
+-- where the step from x stays on the cells, it leads to y
+pub record WentIf (b : Bool) (d len : ℕ) (x : Hot) (next : ℕ) (y : Hot) : Type 0 where
+  pub moved : b ≡ true → Moved d (x .head) (y .head)
+  pub inside : b ≡ true → y .head < len
+  pub is : b ≡ true → y ≡ movedTo x (y .head) next
 
 -- what is known of an entry is so; a state's number fits whether or not
 pub record Tells (e : Entry) (t : Told) : Type 0 where

@@ -17,7 +17,7 @@ use Rattle.machine.specs.declared.Entry.the-variants.{Defined}
 use Rattle.machine.specs.Layout.{flagAt, byteAt, actionAt, entryAt}
 use Rattle.burst.specs.declared.hot.Hot.{Hot}
 use Rattle.burst.specs.declared.hot.Told.{Told}
-use Rattle.burst.specs.Burst.{unasked, goes-on, rewrites, reads-one, sees-left, sees-right, went-left, went-right, stood, movedTo, LeftSeen, RightSeen, CalmIf, MovedIf, Says, Tells, Is}
+use Rattle.burst.specs.Burst.{unasked, goes-on, rewrites, reads-one, sees-left, sees-right, went-left, went-right, stood, movedTo, LeftSeen, RightSeen, CalmIf, SureIf, WentIf, Says, Tells, Is}
 
 -- ---- a cell that is not blank
 
@@ -54,27 +54,52 @@ module _ (p : Bool) (c : List ℕ) (len head read w d next q : ℕ) where
   pub calm-right : (j : ℕ) → RightSeen c head len j → (d ≡ 0 → ⊥) → (d ≡ 2 → ⊥) → CalmIf (ltb j len) p c len head read w d next q
   calm-right j s a b = record { calm = λ t. let l : j < len = ltb-true j len t in sees-right j a b (s .above l) l (s .seen l) }
 
--- ---- where the step takes the head
+module _ (p : Bool) (read w d next q : ℕ) where
+  pub sure-off : not p ≡ true → SureIf true p read w d next q
+  sure-off h = record { calm = λ _ c len head. unasked (not-true p h) }
 
-module _ (d head len : ℕ) where
-  pub moved-out : MovedIf d head len len
-  moved-out = record { moved = λ l. absurd (omega arith) }
+  pub sure-on : SureIf (not (eqb next q)) p read w d next q
+  sure-on = record { calm = λ t c len head. goes-on (eqb-false next q (not-true (eqb next q) t)) }
 
-  pub moved-left : d ≡ 0 → (head ≡ 0 → ⊥) → MovedIf d head len (head - 1)
-  moved-left e h = record { moved = λ l. went-left e (omega arith) }
+  pub sure-read : (d ≡ 2 → ⊥) → (read ≡ 0 → ⊥) → SureIf true p read w d next q
+  sure-read e h = record { calm = λ _ c len head. reads-one e h }
 
-  pub moved-right : d ≡ 1 → MovedIf d head len (head + 1)
-  moved-right e = record { moved = λ l. went-right e refl }
+-- ---- where the step leads
 
-  pub moved-none : (d ≡ 0 → ⊥) → (d ≡ 1 → ⊥) → MovedIf d head len head
-  moved-none a b = record { moved = λ l. stood a b refl }
-
-pub moved-is : (x : Hot) (to next low high : ℕ) → low ≡ min (x .low) to → high ≡ max (x .high) to
+moved-is : (x : Hot) (to next low high : ℕ) → low ≡ min (x .low) to → high ≡ max (x .high) to
     → _≡_ {A = Hot} (record { head = to; low = low; high = high; state = next; left = x .left - 1 }) (movedTo x to next)
 moved-is x to next low high p q = rw (p, q)
 
-pub moved-less : (x y : Hot) (to next : ℕ) → y ≡ movedTo x to next → (x .left ≡ 0 → ⊥) → y .left < x .left
-moved-less x y to next e h = let l : y .left ≡ x .left - 1 = ap (λ (z : Hot). z .left) e in omega arith
+module _ (d len : ℕ) (x : Hot) (next : ℕ) where
+  pub step-out : (y : Hot) → WentIf false d len x next y
+  step-out y = record { moved = λ z. absurd (clash z refl); inside = λ z. absurd (clash z refl); is = λ z. absurd (clash z refl) }
+
+  pub step-left : (low : ℕ) → d ≡ 0 → (x .head ≡ 0 → ⊥) → x .head < len → x .head ≤ x .high → low ≡ min (x .low) (x .head - 1)
+      → WentIf true d len x next (record { head = x .head - 1; low = low; high = x .high; state = next; left = x .left - 1 })
+  step-left low e h i hi l =
+      record {
+        moved = λ _. went-left e (omega arith);
+        inside = λ _. omega arith;
+        is = λ _. moved-is x (x .head - 1) next low (x .high) l (omega arith);
+      }
+
+  pub step-right : (high : ℕ) → d ≡ 1 → x .head + 1 < len → x .low ≤ x .head → high ≡ max (x .high) (x .head + 1)
+      → WentIf true d len x next (record { head = x .head + 1; low = x .low; high = high; state = next; left = x .left - 1 })
+  step-right high e i lo l =
+      record {
+        moved = λ _. went-right e refl;
+        inside = λ _. i;
+        is = λ _. moved-is x (x .head + 1) next (x .low) high (omega arith) l;
+      }
+
+  pub step-none : (d ≡ 0 → ⊥) → (d ≡ 1 → ⊥) → x .head < len → x .low ≤ x .head → x .head ≤ x .high
+      → WentIf true d len x next (record { head = x .head; low = x .low; high = x .high; state = next; left = x .left - 1 })
+  step-none a b i lo hi =
+      record {
+        moved = λ _. stood a b refl;
+        inside = λ _. i;
+        is = λ _. moved-is x (x .head) next (x .low) (x .high) (omega arith) (omega arith);
+      }
 
 -- ---- what an entry says
 

@@ -1,13 +1,13 @@
 -- Where a burst stands, at its start and after one more step. Assumes nothing.
-use mathlib.Core.Path.{_≡_, refl, _∙_}
+use mathlib.Core.Path.{_≡_, refl, ap, _∙_}
 use mathlib.Core.Bool.{Bool, true}
 use mathlib.Core.List.{List}
-use Prim.Native.Nat.{ℕ, _+_, _*_, _≤_, _<_}
+use Prim.Native.Nat.{ℕ, _+_, _*_, _-_, _≤_, _<_}
 use native.Mathlib.Omega.{arith}
 use lib.ListN.{length, getD, set, length-set}
 use Rattle.machine.specs.Layout.{entryAt}
 use Rattle.burst.specs.declared.hot.Hot.{Hot}
-use Rattle.burst.specs.Burst.{Says, movedTo, CalmIf, MovedIf, HotOk, Step, here, more, Reached}
+use Rattle.burst.specs.Burst.{Says, movedTo, Calm, WentIf, HotOk, Step, Walk, here, more, Reached}
 
 module _ (Known : List ℕ → Type 0) (p : Bool) (stop k len : ℕ) where
   pub reached-start : (x : Hot) (c : List ℕ) → HotOk c k len x → Reached Known p stop k len x c x c
@@ -30,18 +30,35 @@ module _ (Known : List ℕ → Type 0) (p : Bool) (stop k len : ℕ) where
           state-in = n;
         }
 
-    pub reached-again : (w dir next to : ℕ) (z : Hot) (fine : Bool) → (y .left ≡ 0 → ⊥) → (y .state ≡ stop → ⊥)
+    pub reached-again : (w dir next : ℕ) (z : Hot) (in-it : Bool) → (y .left ≡ 0 → ⊥) → (y .state ≡ stop → ⊥)
         → ((s : List ℕ) → Known s → Says (entryAt s (y .state * k + getD d (y .head) 0)) w dir next) → next < 65536
-        → CalmIf fine p d len (y .head) (getD d (y .head) 0) w dir next (y .state) → fine ≡ true
-        → MovedIf dir (y .head) len to → to < len → z ≡ movedTo y to next
+        → Calm p d len (y .head) (getD d (y .head) 0) w dir next (y .state)
+        → WentIf in-it dir len y next z → in-it ≡ true
         → Reached Known p stop k len x c z (set d (y .head) w)
-    reached-again w dir next to z fine pos on says small calm f mv h e =
-        let st : Step Known p stop k len y d w next to
-        = record { ok = r .ok; fuel = pos; goes = on; dir = dir; says = says; calm = calm .calm f; moved = mv .moved h; inside = h } in
-        rw e
+    reached-again w dir next z in-it pos on says small calm go f =
+        let st : Step Known p stop k len y d w next (z .head)
+        = record { ok = r .ok; fuel = pos; goes = on; dir = dir; says = says; calm = calm; moved = go .moved f; inside = go .inside f } in
+        rw (go .is f)
         (record {
-          ok = hot-ok to next w h small;
+          ok = hot-ok (z .head) next w (go .inside f) small;
           less = omega (arith, r .less);
           lens = length-set d (y .head) w ∙ r .lens;
-          walk = more y d w next to (r .walk) st;
+          walk = more y d w next (z .head) (r .walk) st;
         })
+
+    walk-on : (z : Hot) (e : List ℕ) → Walk Known p stop k len y d z e → Walk Known p stop k len x c z e
+    walk-on z e here = r .walk
+    walk-on z e (more v f w next to walk st) = more v f w next to (walk-on v f walk) st
+
+    -- a burst from where a burst stands
+    pub reached-on : (z : Hot) (e : List ℕ) → Reached Known p stop k len y d z e → Reached Known p stop k len x c z e
+    reached-on z e t = record { ok = t .ok; less = omega (arith, r .less, t .less); lens = t .lens ∙ r .lens; walk = walk-on z e (t .walk) }
+
+-- a step takes fuel
+pub went-less : (d len : ℕ) (x : Hot) (next : ℕ) (y : Hot) (in-it : Bool) → WentIf in-it d len x next y → in-it ≡ true → (x .left ≡ 0 → ⊥) → y .left < x .left
+went-less d len x next y in-it go f h = let l : y .left ≡ x .left - 1 = ap (λ (z : Hot). z .left) (go .is f) in omega arith
+
+-- what the step's function asks for
+pub went-asks : (c : List ℕ) (k len : ℕ) (x : Hot) → HotOk c k len x → (x .left ≡ 0 → ⊥)
+    → (x .head < len) × (len ≤ 1073741824) × (x .low ≤ x .head) × (x .head ≤ x .high) × (1 ≤ x .left)
+went-asks c k len x o h = let a = o .len-in in let b = o .cap in (o .head-in, omega arith, o .low-in, o .high-in, omega arith)

@@ -1,6 +1,6 @@
 -- A table's words tell what its entries say, and a burst over them keeps the row of its state. Assumes nothing.
 use mathlib.Core.Path.{_≡_, refl, sym, ap, _∙_}
-use mathlib.Core.Bool.{true, not}
+use mathlib.Core.Bool.{Bool, true, not}
 use mathlib.Core.List.{List}
 use Prim.Native.Nat.{ℕ, _+_, _*_, _≤_, _<_}
 use native.Mathlib.Omega.{arith}
@@ -17,7 +17,7 @@ use Rattle.machine.specs.Packing.{undefinedWord, actionWord, packWord, wordNext
 use Rattle.machine.specs.PackedFacts.{Parts, word-parts, OneTapeEntry, nothing, action, entry-one-tape}
 use Rattle.burst.specs.declared.hot.Hot.{Hot}
 use Rattle.burst.specs.declared.hot.Told.{Told}
-use Rattle.burst.specs.Burst.{Says, Tells, movedTo}
+use Rattle.burst.specs.Burst.{Says, Tells, WentIf}
 use Rattle.burst.specs.Words.{toldWord, Packs, RowOk, WordsOk}
 
 -- ---- one word
@@ -80,9 +80,10 @@ module _ (words : List ℕ) (k row r : ℕ) (t : Told) (here : row + r < length 
       rw (n, is) (p .tells (row + r) here .says known-word)
 
   -- after the step
-  pub row-again : (x y : Hot) (to row′ : ℕ) → y ≡ movedTo x to (t .next) → row′ ≡ wordRow (getD words (row + r) 0) → row′ ≤ 4294967295 → RowOk words k row′ (y .state)
-  row-again x y to row′ e z l =
-      let n : y .state ≡ wordNext (getD words (row + r) 0) = ap (λ (h : Hot). h .state) e ∙ ap (λ (u : Told). u .next) is in
+  pub row-again : (d len : ℕ) (x y : Hot) (in-it : Bool) (row′ : ℕ) → WentIf in-it d len x (t .next) y → in-it ≡ true → row′ ≡ wordRow (getD words (row + r) 0)
+      → row′ ≤ 4294967295 → RowOk words k row′ (y .state)
+  row-again d len x y in-it row′ go f z l =
+      let n : y .state ≡ wordNext (getD words (row + r) 0) = ap (λ (h : Hot). h .state) (go .is f) ∙ ap (λ (u : Told). u .next) is in
       record { small = l; is = λ s p. z ∙ p .rows (row + r) here known-word ∙ ap (λ (m : ℕ). m * k) (sym n) }
 
 pub row-start : (words : List ℕ) (k row q : ℕ) → row ≡ q * k → row ≤ 16776960 → RowOk words k row q

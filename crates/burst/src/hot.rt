@@ -3,7 +3,7 @@
 ghost use mathlib.Core.Path.{_≡_};
 ghost use Prim.Native.Nat.{_*_, _≤_, _<_, min, max};
 ghost use lib.ListN.{length};
-ghost use Rattle.burst.specs.Burst.{LeftSeen, RightSeen, CalmIf, MovedIf, movedTo};
+ghost use Rattle.burst.specs.Burst.{LeftSeen, RightSeen, CalmIf, SureIf, WentIf};
 
 // Where a burst stands: the head, the lowest and the highest head so far, the state, and the fuel left.
 pub struct Hot {
@@ -27,6 +27,12 @@ pub struct Hints {
     pub left: usize,
     pub right: usize,
     pub calm: bool,
+}
+
+// Where a step leads, and whether it stays on the cells.
+pub struct Landing {
+    pub inside: bool,
+    pub at: Hot,
 }
 
 pub(crate) fn wide(x: u8) -> usize
@@ -166,35 +172,55 @@ pub(crate) fn calm(
     found
 }
 
-// Where the step takes the head; `len` where it leaves the cells.
-pub(crate) fn target(dir: u8, head: usize, len: usize) -> usize
-    requires { ⌜ (head < len) × (len ≤ 1073741824) ⌝ }
-    ensures { λ r. ⌜ MovedIf dir head len r ⌝ }
+// Whether the step is surely no proved loop, whatever the cells hold. It asks for the symbol read before it compares
+// the states: the symbol is there sooner, and so a branch that was guessed wrong is found sooner.
+pub(crate) fn sure(proves: bool, state: usize, read: u8, told: Told) -> bool
+    ensures { λ r. ⌜ SureIf r proves read (told .write) (told .dir) (told .next) state ⌝ }
 {
-    if dir == 0 {
-        if head == 0 {
-            return len;
-        }
-        return head - 1;
+    if !proves {
+        return true;
     }
-    if dir == 1 {
-        return head + 1;
+    if told.dir == 2 {
+        return told.next != state;
     }
-    head
+    if read != 0 {
+        return true;
+    }
+    told.next != state
 }
 
-// Where the burst stands after the step.
-pub(crate) fn moved(at: Hot, to: usize, next: usize) -> Hot
-    requires { ⌜ 1 ≤ at .left ⌝ }
-    ensures { λ r. ⌜ r ≡ movedTo at to next ⌝ }
+// Where the burst stands after the step, if that stays on the cells. A move changes only the bound on its side.
+pub(crate) fn went(at: Hot, dir: u8, len: usize, next: usize) -> Landing
+    requires { ⌜ (at .head < len) × (len ≤ 1073741824) × (at .low ≤ at .head) × (at .head ≤ at .high) × (1 ≤ at .left) ⌝ }
+    ensures { λ r. ⌜ WentIf (r .inside) dir len at next (r .at) ⌝ }
 {
-    let low = lower(at.low, to);
-    let high = upper(at.high, to);
-    Hot {
-        head: to,
-        low,
-        high,
-        state: next,
-        left: at.left - 1,
+    let mut to = at;
+    to.state = next;
+    to.left = at.left - 1;
+    if dir == 0 {
+        if at.head == 0 {
+            return Landing { inside: false, at };
+        }
+        to.head = at.head - 1;
+        to.low = lower(at.low, to.head);
+        return Landing {
+            inside: true,
+            at: to,
+        };
+    }
+    if dir == 1 {
+        if len <= at.head + 1 {
+            return Landing { inside: false, at };
+        }
+        to.head = at.head + 1;
+        to.high = upper(at.high, to.head);
+        return Landing {
+            inside: true,
+            at: to,
+        };
+    }
+    Landing {
+        inside: true,
+        at: to,
     }
 }

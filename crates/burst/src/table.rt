@@ -50,8 +50,48 @@ fn told(table: &[u8], i: usize) -> Told
     }
 }
 
+// The steps of a burst up to the first that needs a look at other cells. This loop is the hot one: no scan is in it.
+fn stretch(
+    table: &[u8],
+    cells: &mut [u8],
+    proves: bool,
+    stop: usize,
+    k: usize,
+    len: usize,
+    start: Hot,
+) -> Hot
+    requires { ⌜ HotOk (now cells) k len start ⌝ }
+    ensures { λ r. ⌜ Reached (Is (now (table .entry))) proves stop k len start (now (cells .entry)) r (now (cells .exit)) ⌝ }
+{
+    let mut at = start;
+    loop {
+        if at.left == 0 {
+            return at;
+        }
+        if at.state == stop {
+            return at;
+        }
+        let head = at.head;
+        let read = cells[head];
+        let told = told(table, number(at.state, k, read));
+        if !told.known {
+            return at;
+        }
+        if !hot::sure(proves, at.state, read, told) {
+            return at;
+        }
+        let went = hot::went(at, told.dir, len, told.next);
+        if !went.inside {
+            return at;
+        }
+        cells[head] = told.write;
+        at = went.at;
+    }
+}
+
 // The ordinary steps over a table. It stops before a step for which there is no fuel, which the stop rule's state
-// would leave, which the table does not tell, which may be a proved loop, or which leaves the cells.
+// would leave, which the table does not tell, which may be a proved loop, or which leaves the cells. It makes a
+// stretch, one step with a look at the cells, and so on.
 pub fn burst(
     table: &[u8],
     cells: &mut [u8],
@@ -67,6 +107,7 @@ pub fn burst(
     let mut at = start;
     let mut hints = hot::unseen(len);
     loop {
+        at = stretch(table, cells, proves, stop, k, len, at);
         if at.left == 0 {
             return at;
         }
@@ -83,11 +124,11 @@ pub fn burst(
         if !hints.calm {
             return at;
         }
-        let to = hot::target(told.dir, head, len);
-        if len <= to {
+        let next = hot::went(at, told.dir, len, told.next);
+        if !next.inside {
             return at;
         }
         cells[head] = told.write;
-        at = hot::moved(at, to, told.next);
+        at = next.at;
     }
 }

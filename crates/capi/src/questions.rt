@@ -14,7 +14,7 @@ ghost use Rattle.sim.specs.Questions.{questionCheck, getAnswer, extentAnswer, c
 ghost use Rattle.capi.specs.Numbers.{machineOf, engineOf, checkedCode, checkedOut};
 ghost use Rattle.capi.specs.Calls.{gotCode, gotOut, countedCode, countedOut, spanOut, extentCode, extentOut, spotOut, locatedCode, locatedOut};
 
-fn tell_got(out: &mut [u64; 8], answer: Got) -> u8
+pub(crate) fn tell_got(out: &mut [u64; 8], answer: Got) -> u8
     ensures { λ r. ⌜ (r ≡ gotCode answer) × (now (out .exit) ≡ gotOut answer (now (out .entry))) ⌝ }
 {
     match answer {
@@ -28,7 +28,7 @@ fn tell_got(out: &mut [u64; 8], answer: Got) -> u8
     }
 }
 
-fn tell_counted(out: &mut [u64; 8], answer: Counted) -> u8
+pub(crate) fn tell_counted(out: &mut [u64; 8], answer: Counted) -> u8
     ensures { λ r. ⌜ (r ≡ countedCode answer) × (now (out .exit) ≡ countedOut answer (now (out .entry))) ⌝ }
 {
     match answer {
@@ -57,7 +57,7 @@ fn put_span(out: &mut [u64; 8], span: Span)
     }
 }
 
-fn tell_extent(out: &mut [u64; 8], answer: Extent) -> u8
+pub(crate) fn tell_extent(out: &mut [u64; 8], answer: Extent) -> u8
     ensures { λ r. ⌜ (r ≡ extentCode answer) × (now (out .exit) ≡ extentOut answer (now (out .entry))) ⌝ }
 {
     match answer {

@@ -4,6 +4,7 @@
 use std::fmt;
 use std::rc::Rc;
 
+use crate::compare::{self, Difference, Tally};
 use crate::law::{Engine, Refusal, Sizes, fields, tape_fields};
 use crate::machine::Machine;
 use crate::oracle;
@@ -105,23 +106,48 @@ pub struct Case {
 /// The rule that is none.
 pub const NO_RULE: u64 = 65_536;
 
-impl fmt::Display for Case {
-    fn fmt(&self, f: &mut fmt::Formatter<'_>) -> fmt::Result {
-        let s = &self.subject.sizes;
-        writeln!(f, "  tapes {} symbols {} states {} start {}", s.tapes, s.symbols, s.states, s.start)?;
-        writeln!(f, "  table of {} bytes, expected refusal {:?}", self.subject.table.len(), self.subject.refusal)?;
-        let mut shown = 0;
-        for (i, entry) in self.subject.table.chunks(8).enumerate() {
-            if entry.iter().any(|&b| b != 0) {
-                shown += 1;
-                if shown <= 64 {
-                    writeln!(f, "    entry {i}: {entry:?}{}", self.reading(i, entry))?;
-                }
+/// A case of either engine.
+pub trait Trial: Clone + fmt::Display {
+    /// Runs it on both sides.
+    fn attempt(&self, tally: &mut Tally) -> Result<(), Difference>;
+
+    /// Cases a little smaller.
+    fn smaller(&self) -> Vec<Self>;
+}
+
+impl Trial for Case {
+    fn attempt(&self, tally: &mut Tally) -> Result<(), Difference> {
+        compare::run(self, tally)
+    }
+
+    fn smaller(&self) -> Vec<Self> {
+        smaller(self)
+    }
+}
+
+/// Prints a table, for a reader.
+pub fn write_table(f: &mut fmt::Formatter<'_>, subject: &Subject) -> fmt::Result {
+    let s = &subject.sizes;
+    writeln!(f, "  tapes {} symbols {} states {} start {}", s.tapes, s.symbols, s.states, s.start)?;
+    writeln!(f, "  table of {} bytes, expected refusal {:?}", subject.table.len(), subject.refusal)?;
+    let mut shown = 0;
+    for (i, entry) in subject.table.chunks(8).enumerate() {
+        if entry.iter().any(|&b| b != 0) {
+            shown += 1;
+            if shown <= 64 {
+                writeln!(f, "    entry {i}: {entry:?}{}", reading(subject, i, entry))?;
             }
         }
-        if shown > 64 {
-            writeln!(f, "    and {} more", shown - 64)?;
-        }
+    }
+    if shown > 64 {
+        writeln!(f, "    and {} more", shown - 64)?;
+    }
+    Ok(())
+}
+
+impl fmt::Display for Case {
+    fn fmt(&self, f: &mut fmt::Formatter<'_>) -> fmt::Result {
+        write_table(f, &self.subject)?;
         match &self.begin {
             Begin::Fresh { word, room } => {
                 writeln!(f, "  fresh engine, word {}, cells buffers {room:?}", Short(word))?;
@@ -147,29 +173,27 @@ impl fmt::Display for Case {
     }
 }
 
-impl Case {
-    /// What a defined entry says, for a reader.
-    fn reading(&self, i: usize, e: &[u8]) -> String {
-        let s = &self.subject.sizes;
-        if self.subject.refusal.is_some_and(|r| r.number != 6) || !s.is_entry(e) {
-            return String::from("  (off its layout)");
-        }
-        let (stride, k) = (s.stride(), s.symbols as usize);
-        let moves = [e[6] % 3, e[6] / 3 % 3, e[6] / 9].map(|d| ["L", "R", "N"][usize::from(d)]);
-        let tapes = s.tapes as usize;
-        let reads: Vec<usize> = (0..tapes).map(|t| i % stride / k.pow(t as u32) % k).collect();
-        format!(
-            "  state {} reads {reads:?}: writes {:?}, moves {:?}, next {}",
-            i / stride,
-            &e[3..3 + tapes],
-            &moves[..tapes],
-            u16::from_le_bytes([e[1], e[2]])
-        )
+/// What a defined entry says, for a reader.
+fn reading(subject: &Subject, i: usize, e: &[u8]) -> String {
+    let s = &subject.sizes;
+    if subject.refusal.is_some_and(|r| r.number != 6) || !s.is_entry(e) {
+        return String::from("  (off its layout)");
     }
+    let (stride, k) = (s.stride(), s.symbols as usize);
+    let moves = [e[6] % 3, e[6] / 3 % 3, e[6] / 9].map(|d| ["L", "R", "N"][usize::from(d)]);
+    let tapes = s.tapes as usize;
+    let reads: Vec<usize> = (0..tapes).map(|t| i % stride / k.pow(t as u32) % k).collect();
+    format!(
+        "  state {} reads {reads:?}: writes {:?}, moves {:?}, next {}",
+        i / stride,
+        &e[3..3 + tapes],
+        &moves[..tapes],
+        u16::from_le_bytes([e[1], e[2]])
+    )
 }
 
 /// A list of bytes, cut where it is long.
-struct Short<'a>(&'a [u8]);
+pub struct Short<'a>(pub &'a [u8]);
 
 impl fmt::Display for Short<'_> {
     fn fmt(&self, f: &mut fmt::Formatter<'_>) -> fmt::Result {
@@ -181,11 +205,11 @@ impl fmt::Display for Short<'_> {
 }
 
 /// Makes a failing case smaller for as long as it fails, and gives the last message with it.
-pub fn smallest(case: &Case, message: String, fails: impl Fn(&Case) -> Option<String>) -> (Case, String) {
+pub fn smallest<T: Trial>(case: &T, message: String, fails: impl Fn(&T) -> Option<String>) -> (T, String) {
     let (mut case, mut message) = (case.clone(), message);
     let end = std::time::Instant::now() + std::time::Duration::from_secs(20);
     'again: loop {
-        for smaller in smaller(&case) {
+        for smaller in case.smaller() {
             if std::time::Instant::now() > end {
                 break 'again;
             }
@@ -327,7 +351,8 @@ fn smaller_begins(begin: &Begin, tapes: u64) -> Vec<Begin> {
     all
 }
 
-fn smaller_subjects(subject: &Subject) -> Vec<Rc<Subject>> {
+/// Tables a little smaller.
+pub fn smaller_subjects(subject: &Subject) -> Vec<Rc<Subject>> {
     let s = subject.sizes;
     let mut all = Vec::new();
     if s.start > 0 {

@@ -28,13 +28,15 @@ pub struct Tally {
     pub refusals: [u64; 19],
     /// Runs by outcome: halted, fuel, never, stopped, full.
     pub outcomes: [u64; 5],
-    /// Steps made by the port.
+    /// Steps made by the port; by its run-length engine, macro steps.
     pub steps: u64,
     pub departures: [u64; 4],
     /// Runs left out because their fuel is endless and they would not end.
     pub skipped: u64,
     /// Accepted calls that wrote into `out` beyond what is documented.
     pub wrote_more: u64,
+    /// Configurations of the run-length engine compared with the plain one's.
+    pub beside: u64,
 }
 
 impl Tally {
@@ -45,6 +47,7 @@ impl Tally {
         self.steps += other.steps;
         self.skipped += other.skipped;
         self.wrote_more += other.wrote_more;
+        self.beside += other.beside;
         for (a, b) in self.refusals.iter_mut().zip(other.refusals) {
             *a += b;
         }
@@ -68,6 +71,38 @@ macro_rules! same {
             return Err(format!("{}: the port has {port:?}, expected {want:?}", format!($($what)+)));
         }
     }};
+}
+
+pub(crate) use same;
+
+/// Compares a call's result and `out` with the expected refusal. Says whether it was accepted.
+pub fn judge(
+    result: u8,
+    expected: Option<Refusal>,
+    out: &Out,
+    documented: usize,
+    tally: &mut Tally,
+) -> Result<bool, Difference> {
+    let Some(Refusal { number, place }) = expected else {
+        same!(result, 0, "result (a refusal's number)");
+        if out[documented..] != OUT[documented..] {
+            tally.wrote_more += 1;
+        }
+        return Ok(true);
+    };
+    same!(result, number, "result (a refusal's number)");
+    let mut want = OUT;
+    if let Some(place) = place {
+        want[0] = place;
+    }
+    same!(*out, want, "out after refusal {number}");
+    tally.refusals[usize::from(number)] += 1;
+    match number {
+        10 => tally.departures[1] += 1,
+        13 => tally.departures[3] += 1,
+        _ => {}
+    }
+    Ok(false)
 }
 
 /// What stands in `out` before a call: a number that no answer is.
@@ -205,27 +240,11 @@ impl<'a> Pairing<'a> {
         documented: usize,
         tally: &mut Tally,
     ) -> Result<bool, Difference> {
-        let Some(Refusal { number, place }) = expected else {
-            same!(result, 0, "result (a refusal's number)");
-            if out[documented..] != OUT[documented..] {
-                tally.wrote_more += 1;
-            }
-            return Ok(true);
-        };
-        same!(result, number, "result (a refusal's number)");
-        let mut want = OUT;
-        if let Some(place) = place {
-            want[0] = place;
+        let accepted = judge(result, expected, out, documented, tally)?;
+        if !accepted {
+            self.unchanged().map_err(|e| format!("after refusal {result}: {e}"))?;
         }
-        same!(*out, want, "out after refusal {number}");
-        self.unchanged().map_err(|e| format!("after refusal {number}: {e}"))?;
-        tally.refusals[usize::from(number)] += 1;
-        match number {
-            10 => tally.departures[1] += 1,
-            13 => tally.departures[3] += 1,
-            _ => {}
-        }
-        Ok(false)
+        Ok(accepted)
     }
 
     /// Everything lent is as it was before the call.

@@ -35,12 +35,12 @@ pub struct Refusal {
 }
 
 /// The refusal `number` if `applies`.
-fn when(applies: bool, number: u8) -> Option<Refusal> {
+pub fn when(applies: bool, number: u8) -> Option<Refusal> {
     applies.then_some(Refusal { number, place: None })
 }
 
 /// The refusal `number` at `place`, if there is one.
-fn at(place: Option<usize>, number: u8) -> Option<Refusal> {
+pub fn at(place: Option<usize>, number: u8) -> Option<Refusal> {
     place.map(|i| Refusal { number, place: Some(i as u64) })
 }
 

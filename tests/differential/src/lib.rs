@@ -1,4 +1,4 @@
-//! The port's plain engine against the Rust's: see README.md.
+//! The port's engines against the Rust's: see README.md.
 
 extern crate alloc;
 
@@ -9,6 +9,7 @@ include!(concat!(env!("OUT_DIR"), "/oracle_modules.rs"));
 mod builder;
 
 pub mod case;
+pub mod chain;
 pub mod compare;
 #[path = "gen.rs"] // `gen` is a word of the language
 pub mod generate;

@@ -32,7 +32,7 @@ fn options() -> Options {
             }
             "--trace" => options.trace = true,
             "--list" => {
-                KINDS.iter().for_each(|(name, what, _)| println!("{name:8} {what}"));
+                KINDS.iter().for_each(|(name, what, _)| println!("{name:9} {what}"));
                 exit(0);
             }
             _ => usage(&argument),
@@ -119,6 +119,10 @@ fn report(rows: &[(&str, Tally, Duration)]) {
         print!("{kind:8}");
         t.departures.iter().for_each(|n| print!(" {n:>9}"));
         println!();
+    }
+    let beside: u64 = rows.last().map_or(0, |r| r.1.beside);
+    if beside > 0 {
+        println!("\n{beside} configurations of the run-length engine compared with the plain engine's");
     }
     let wrote_more: u64 = rows.last().map_or(0, |r| r.1.wrote_more);
     if wrote_more > 0 {

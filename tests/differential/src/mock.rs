@@ -64,46 +64,74 @@ pub const FAULTS: &[&str] = &[
     "a fast run from state q looks up row 0 first",
     "find_non_blank to the right starts one cell too far",
     "a table of no defined entry is refused",
+    "chain: the stop rule is tested before fuel",
+    "chain: the stop rule is tested after space",
+    "chain: the stop rule stops after the macro step",
+    "chain: a blank is pushed on an empty stack",
+    "chain: a macro step leaves out the cell under the head",
+    "chain: macro steps count steps",
+    "chain: full with one place left",
+    "chain: full where the push needs no new run",
+    "chain: a chain to the right leaves the highest head as it was",
+    "chain: a run pushed on its like stays apart",
+    "chain: the never test leaves out the cell under the head",
+    "chain: a macro step may go past the fuel",
+    "chain: the furthest cell may be anywhere",
+    "chain: macro steps may be more than steps",
+    "chain: a side's cells are counted in 64 bits",
+    "chain: refusal 8 comes after 11",
+    "chain: refusal 11 of an engine value comes after 12",
+    "chain: a fresh engine's blanks at the end of the word are kept",
+    "chain: a fresh engine writes its left places",
+    "chain: the limit of a side's places looks at the symbols alone",
+    "chain: a run side over 2^20 is taken",
+    "chain: get is one cell off on the left",
+    "chain: non_blank takes the cell under the head in, whatever it holds",
+    "chain: count leaves out the cell under the head",
+    "chain: window cells past i64 are left as they were",
+    "chain: a full run has written under the head",
+    "chain: refused questions clear out[0]",
+    "chain: equal neighbours fit",
 ];
 
 static FAULT: LazyLock<usize> =
     LazyLock::new(|| std::env::var("MOCK_FAULT").map_or(0, |n| n.parse().expect("MOCK_FAULT is a number")));
 
-fn fault(number: usize) -> bool {
+pub(crate) fn fault(number: usize) -> bool {
     *FAULT == number
 }
 
 /// A refusal: its number, and its place where it has one.
-struct No(u8, Option<u64>);
+pub(crate) struct No(pub(crate) u8, pub(crate) Option<u64>);
 
-type Answer<T> = Result<T, No>;
+pub(crate) type Answer<T> = Result<T, No>;
 
-fn refuse<T>(number: u8) -> Answer<T> {
+pub(crate) fn refuse<T>(number: u8) -> Answer<T> {
     Err(No(number, None))
 }
 
-const L: u8 = 0;
-const R: u8 = 1;
-const N: u8 = 2;
+pub(crate) const L: u8 = 0;
+pub(crate) const R: u8 = 1;
+pub(crate) const N: u8 = 2;
 
 /// A table that passed its check.
-struct Machine<'a> {
-    tapes: usize,
-    symbols: usize,
-    states: usize,
-    start: u16,
-    table: &'a [u8],
+pub(crate) struct Machine<'a> {
+    pub(crate) tapes: usize,
+    pub(crate) symbols: usize,
+    pub(crate) states: usize,
+    pub(crate) start: u16,
+    pub(crate) table: &'a [u8],
 }
 
 /// A defined entry.
 #[derive(Clone, Copy)]
-struct Entry {
-    next: u16,
-    write: [u8; 3],
-    moves: [u8; 3],
+pub(crate) struct Entry {
+    pub(crate) next: u16,
+    pub(crate) write: [u8; 3],
+    pub(crate) moves: [u8; 3],
 }
 
-fn accept(sizes: [u64; 4], table: &[u8]) -> Answer<Machine<'_>> {
+pub(crate) fn accept(sizes: [u64; 4], table: &[u8]) -> Answer<Machine<'_>> {
     let [mut tapes, mut symbols, mut states, mut start] = sizes;
     if fault(13) {
         (tapes, symbols) = (tapes & 0xffff_ffff, symbols & 0xffff_ffff);
@@ -182,7 +210,7 @@ impl Machine<'_> {
     }
 
     /// The entry for a state and the symbols read.
-    fn entry(&self, state: u16, read: [u8; 3]) -> Option<Entry> {
+    pub(crate) fn entry(&self, state: u16, read: [u8; 3]) -> Option<Entry> {
         let mut place = 0;
         for i in (0..self.tapes).rev() {
             place = place * self.symbols + usize::from(read[i]);
@@ -305,7 +333,7 @@ struct Engine {
 }
 
 /// How a run ended.
-enum Outcome {
+pub(crate) enum Outcome {
     Halted,
     Fuel,
     Stay,
@@ -636,20 +664,25 @@ fn sim_run(
             outcome
         }
     };
-    let state_number = u64::from(engine.state);
-    let (number, parts) = match outcome {
-        Outcome::Halted => (0, [state_number, 0, 0]),
+    tell(&outcome, engine.state, engine.steps, out);
+    engine.store(&m, state, value);
+    Ok(())
+}
+
+/// An outcome in numbers.
+pub(crate) fn tell(outcome: &Outcome, state: u16, steps: u64, out: &mut [u64; 8]) {
+    let state = u64::from(state);
+    let (number, parts) = match *outcome {
+        Outcome::Halted => (0, [state, 0, 0]),
         Outcome::Fuel => (1, [0; 3]),
-        Outcome::Stay => (2, [state_number, 0, 0]),
-        Outcome::Chain(d) => (2, [state_number, 1, u64::from(d)]),
+        Outcome::Stay => (2, [state, 0, 0]),
+        Outcome::Chain(d) => (2, [state, 1, u64::from(d)]),
         Outcome::Stopped => (3, [0; 3]),
         Outcome::Full => (4, [0; 3]),
     };
     out[0] = number;
-    out[1] = engine.steps;
+    out[1] = steps;
     out[2..5].copy_from_slice(&parts);
-    engine.store(&m, state, value);
-    Ok(())
 }
 
 /// What a question is asked of: the tape, its cells and the machine's number of symbols.
@@ -717,7 +750,7 @@ pub mod exports {
     }
 
     /// The number of an answer, its place in `out[0]`.
-    fn number(answer: Answer<()>, out: &mut [u64; 8]) -> u8 {
+    pub(crate) fn number(answer: Answer<()>, out: &mut [u64; 8]) -> u8 {
         match answer {
             Ok(()) => 0,
             Err(No(number, place)) => {

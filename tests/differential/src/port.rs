@@ -4,6 +4,7 @@
 //! slice is a pointer and a number of elements, an array reference is one pointer. Every function
 //! gives 0 for done, or the refusal's number; the place of refusals 6, 10 and 17 is in `out[0]`.
 
+use crate::chain::law::{Chain, Value};
 use crate::law::{Engine, Sizes};
 
 /// The numbers that a function gives back.
@@ -15,13 +16,22 @@ pub type CellsMut<'a> = [&'a mut [u8]; 3];
 /// Cells buffers lent for reading.
 pub type Cells<'a> = [&'a [u8]; 3];
 
+/// Run places lent for writing: symbols and lengths of the left side, then of the right.
+pub type PlacesMut<'a> = (&'a mut [u8], &'a mut [u64], &'a mut [u8], &'a mut [u64]);
+
+/// Run places lent for reading.
+pub type Places<'a> = (&'a [u8], &'a [u64], &'a [u8], &'a [u64]);
+
 #[cfg(feature = "mock")]
-use crate::mock::exports as sys;
+mod sys {
+    pub use crate::chain::mock::exports::*;
+    pub use crate::mock::exports::*;
+}
 
 #[cfg(not(feature = "mock"))]
 #[rustfmt::skip]
 mod sys {
-    use super::{Engine, Out};
+    use super::{Chain, Engine, Out};
     unsafe extern "C" {
         pub fn tm_check(tapes: u64, symbols: u64, states: u64, start: u64, table: *const u8, table_len: usize, out: *mut Out) -> u8;
         pub fn tm_pack(tapes: u64, symbols: u64, states: u64, start: u64, table: *const u8, table_len: usize, words: *mut u64, words_len: usize, out: *mut Out) -> u8;
@@ -50,10 +60,29 @@ mod sys {
         pub fn tm_sim_find(tapes: u64, symbols: u64, states: u64, start: u64, table: *const u8, table_len: usize,
             c0: *const u8, c0_len: usize, c1: *const u8, c1_len: usize, c2: *const u8, c2_len: usize, state: u16, engine: *const Engine,
             tape: u64, from: i64, dir: u8, out: *mut Out) -> u8;
+        pub fn tm_chain_new(tapes: u64, symbols: u64, states: u64, start: u64, table: *const u8, table_len: usize, word: *const u8, word_len: usize,
+            ls: *const u8, ls_len: usize, ll: *const u64, ll_len: usize, rs: *mut u8, rs_len: usize, rl: *mut u64, rl_len: usize,
+            state: *mut u16, cur: *mut u8, engine: *mut Chain, out: *mut Out) -> u8;
+        pub fn tm_chain_run(tapes: u64, symbols: u64, states: u64, start: u64, table: *const u8, table_len: usize,
+            ls: *mut u8, ls_len: usize, ll: *mut u64, ll_len: usize, rs: *mut u8, rs_len: usize, rl: *mut u64, rl_len: usize,
+            state: *mut u16, cur: *mut u8, engine: *mut Chain, rule: u64, fuel: u64, out: *mut Out) -> u8;
+        pub fn tm_chain_get(tapes: u64, symbols: u64, states: u64, start: u64, table: *const u8, table_len: usize,
+            ls: *const u8, ls_len: usize, ll: *const u64, ll_len: usize, rs: *const u8, rs_len: usize, rl: *const u64, rl_len: usize,
+            state: u16, cur: u8, engine: *const Chain, at: i64, out: *mut Out) -> u8;
+        pub fn tm_chain_non_blank(tapes: u64, symbols: u64, states: u64, start: u64, table: *const u8, table_len: usize,
+            ls: *const u8, ls_len: usize, ll: *const u64, ll_len: usize, rs: *const u8, rs_len: usize, rl: *const u64, rl_len: usize,
+            state: u16, cur: u8, engine: *const Chain, out: *mut Out) -> u8;
+        pub fn tm_chain_count(tapes: u64, symbols: u64, states: u64, start: u64, table: *const u8, table_len: usize,
+            ls: *const u8, ls_len: usize, ll: *const u64, ll_len: usize, rs: *const u8, rs_len: usize, rl: *const u64, rl_len: usize,
+            state: u16, cur: u8, engine: *const Chain, out: *mut Out) -> u8;
+        pub fn tm_chain_window(tapes: u64, symbols: u64, states: u64, start: u64, table: *const u8, table_len: usize,
+            ls: *const u8, ls_len: usize, ll: *const u64, ll_len: usize, rs: *const u8, rs_len: usize, rl: *const u64, rl_len: usize,
+            state: u16, cur: u8, engine: *const Chain, from: i64, cells: *mut u8, cells_len: usize, out: *mut Out) -> u8;
     }
 }
 
 pub use calls::{View, check, new, pack, run, run_packed, step};
+pub use chain_calls::{ChainView, chain_new, chain_run};
 
 // SAFETY of every call below: the port reads and writes inside what is lent, and keeps nothing.
 #[rustfmt::skip]
@@ -182,6 +211,85 @@ mod calls {
         /// `out[0]` is 0 for nowhere, else 1, and `out[1]` the raised position. `dir`: 0 L, 1 R, 2 N.
         pub fn find(&self, tape: u64, from: i64, dir: u8, out: &mut Out) -> u8 {
             ask!(self, tm_sim_find, tape, from, dir, out)
+        }
+    }
+}
+
+// SAFETY of every call below: as above.
+#[rustfmt::skip]
+mod chain_calls {
+    use super::{Chain, Out, Places, PlacesMut, Sizes, Value, sys};
+
+    /// Makes a fresh run-length engine; the left places are only counted.
+    pub fn chain_new(s: Sizes, table: &[u8], word: &[u8], (ls, ll, rs, rl): PlacesMut, v: &mut Value, out: &mut Out) -> u8 {
+        let Value { state, cur, engine } = v;
+        unsafe {
+            sys::tm_chain_new(
+                s.tapes, s.symbols, s.states, s.start, table.as_ptr(), table.len(), word.as_ptr(), word.len(),
+                ls.as_ptr(), ls.len(), ll.as_ptr(), ll.len(), rs.as_mut_ptr(), rs.len(), rl.as_mut_ptr(), rl.len(),
+                state, cur, engine, out,
+            )
+        }
+    }
+
+    /// Runs; answers as [`super::run`]. The rule stops before the macro step.
+    pub fn chain_run(
+        s: Sizes, table: &[u8], (ls, ll, rs, rl): PlacesMut, v: &mut Value, (rule, fuel): (u64, u64), out: &mut Out,
+    ) -> u8 {
+        let Value { state, cur, engine } = v;
+        unsafe {
+            sys::tm_chain_run(
+                s.tapes, s.symbols, s.states, s.start, table.as_ptr(), table.len(),
+                ls.as_mut_ptr(), ls.len(), ll.as_mut_ptr(), ll.len(), rs.as_mut_ptr(), rs.len(), rl.as_mut_ptr(), rl.len(),
+                state, cur, engine, rule, fuel, out,
+            )
+        }
+    }
+
+    /// A run-length engine lent for questions, with its table.
+    #[derive(Clone, Copy)]
+    pub struct ChainView<'a> {
+        pub sizes: Sizes,
+        pub table: &'a [u8],
+        pub places: Places<'a>,
+        pub state: u16,
+        pub cur: u8,
+        pub engine: &'a Chain,
+    }
+
+    /// Asks the question `$name` of a view, with the further arguments.
+    macro_rules! ask {
+        ($view:expr, $name:ident, $($more:expr),*) => {{
+            let ChainView { sizes: s, table, places: (ls, ll, rs, rl), state, cur, engine } = *$view;
+            unsafe {
+                sys::$name(
+                    s.tapes, s.symbols, s.states, s.start, table.as_ptr(), table.len(),
+                    ls.as_ptr(), ls.len(), ll.as_ptr(), ll.len(), rs.as_ptr(), rs.len(), rl.as_ptr(), rl.len(),
+                    state, cur, engine, $($more),*
+                )
+            }
+        }};
+    }
+
+    impl ChainView<'_> {
+        /// `out[0]` is the symbol at `at`.
+        pub fn get(&self, at: i64, out: &mut Out) -> u8 {
+            ask!(self, tm_chain_get, at, out)
+        }
+
+        /// `out[0]` is 0 for an empty tape, else 1, and `out[1]`, `out[2]` the raised ends.
+        pub fn non_blank(&self, out: &mut Out) -> u8 {
+            ask!(self, tm_chain_non_blank, out)
+        }
+
+        /// `out[0]` is the number of non-blank cells.
+        pub fn count(&self, out: &mut Out) -> u8 {
+            ask!(self, tm_chain_count, out)
+        }
+
+        /// Fills `cells` with the symbols from `from` on.
+        pub fn window(&self, from: i64, cells: &mut [u8], out: &mut Out) -> u8 {
+            ask!(self, tm_chain_window, from, cells.as_mut_ptr(), cells.len(), out)
         }
     }
 }

@@ -5,8 +5,9 @@ use std::process::exit;
 use std::rc::Rc;
 use std::sync::atomic::{AtomicU64, Ordering};
 
-use crate::case::{Act, Asking, Begin, Case, NO_RULE, Question, Subject, Words, smallest};
-use crate::compare::{self, OUT, Tally};
+use crate::case::{Act, Asking, Begin, Case, NO_RULE, Question, Subject, Trial, Words, smallest};
+use crate::chain::runs as chain;
+use crate::compare::{OUT, Tally};
 use crate::generate::{self, Rng, entry, one_tape};
 use crate::law::{Engine, MAX_CELLS, MAX_STEPS, MAX_WORD, Sizes};
 use crate::port::{self, Out, View};
@@ -15,7 +16,7 @@ use crate::port::{self, Out, View};
 pub type Kind = (&'static str, &'static str, fn(&mut Runner));
 
 /// All kinds, in the order in which they run.
-pub const KINDS: [Kind; 9] = [
+pub const KINDS: [Kind; 18] = [
     ("cases", "document 01's own cases, with the answers written there", cases),
     ("damage", "tables with changed bytes, wrong sizes, changed words", damage),
     ("limits", "the sizes, words, buffers, fuels and steps at their limits", limits),
@@ -25,6 +26,15 @@ pub const KINDS: [Kind; 9] = [
     ("known", "busy beavers and a three-tape machine, in pieces of random fuel", known),
     ("random", "random machines, words, buffers, fuels and stop rules", random),
     ("small", "all tables of 2 states and 2 symbols", small),
+    ("c-cases", "run-length engine: document 01's own cases", chain::cases),
+    ("c-damage", "run-length engine: tables with changed bytes, wrong sizes, several tapes", chain::damage),
+    ("c-limits", "run-length engine: words, places, fuels and steps at their limits", chain::limits),
+    ("c-unfit", "run-length engine: every clause of what fits broken, alone and at random", chain::unfit),
+    ("c-outer", "run-length engine: values set from outside that fit", chain::outside),
+    ("c-places", "run-length engine: few run places", chain::places),
+    ("c-known", "run-length engine: busy beavers, in pieces of random fuel", chain::known),
+    ("c-random", "run-length engine: random machines; the plain engine beside it", chain::random),
+    ("c-small", "run-length engine: all tables of 2 states and 2 symbols; the plain engine beside it", chain::small),
 ];
 
 /// Cases begun so far, for the watchdog.
@@ -41,7 +51,7 @@ pub struct Runner {
 }
 
 impl Runner {
-    fn case(&mut self, case: &Case) {
+    pub fn case(&mut self, case: &impl Trial) {
         PROGRESS.fetch_add(1, Ordering::Relaxed);
         if self.trace {
             println!("{} {}:\n{case}", self.kind, self.tally.cases);
@@ -62,7 +72,7 @@ impl Runner {
     }
 
     /// Ends the program if a fact of document 01 does not hold.
-    fn fact(&mut self, holds: bool, fact: &str) {
+    pub fn fact(&mut self, holds: bool, fact: &str) {
         self.tally.cases += 1;
         if !holds {
             println!("DIFFERENCE in {}: {fact}", self.kind);
@@ -71,14 +81,14 @@ impl Runner {
     }
 
     /// The generator of the case that comes next.
-    fn rng(&self) -> Rng {
+    pub fn rng(&self) -> Rng {
         Rng::of(self.seed, self.kind, self.tally.cases)
     }
 }
 
 /// The difference that a case shows, if any.
-fn attempt(case: &Case, tally: &mut Tally) -> Option<String> {
-    match catch_unwind(AssertUnwindSafe(|| compare::run(case, tally))) {
+fn attempt(case: &impl Trial, tally: &mut Tally) -> Option<String> {
+    match catch_unwind(AssertUnwindSafe(|| case.attempt(tally))) {
         Ok(Ok(())) => None,
         Ok(Err(message)) => Some(message),
         Err(panic) => {
@@ -102,22 +112,22 @@ fn fast(fuel: u64) -> Act {
     Act::Fast { rule: NO_RULE, fuel, words: Words::Right }
 }
 
-const L: u8 = 0;
-const R: u8 = 1;
-const N: u8 = 2;
+pub const L: u8 = 0;
+pub const R: u8 = 1;
+pub const N: u8 = 2;
 
 /// The table of document 01's listing.
-fn listing() -> Rc<Subject> {
+pub fn listing() -> Rc<Subject> {
     one_tape(2, 3, &[(0, 0, 1, R, 1), (0, 1, 1, L, 1), (1, 0, 1, L, 0), (1, 1, 1, R, 2)])
 }
 
 /// Two states that alternate in one direction over blanks.
-fn alternating(step: u8) -> Rc<Subject> {
+pub fn alternating(step: u8) -> Rc<Subject> {
     one_tape(2, 2, &[(0, 0, 0, step, 1), (1, 0, 0, step, 0)])
 }
 
 /// A machine of several tapes, each moving its own way over blanks, in one state or in two.
-fn walkers(steps: &[u8], states: u16) -> Rc<Subject> {
+pub fn walkers(steps: &[u8], states: u16) -> Rc<Subject> {
     let sizes = Sizes { tapes: steps.len() as u64, symbols: 2, states: u64::from(states), start: 0 };
     let mut moves = [N; 3];
     moves[..steps.len()].copy_from_slice(steps);
@@ -223,8 +233,11 @@ fn cases(r: &mut Runner) {
     r.fact(result == 0 && words == [8_590_000_385, 3, 3, 3], "packed 1, R, next 1, stride 2: 8,590,000,385");
 }
 
-/// All tables of 2 states and 2 symbols: 13 choices for each of four entries.
-fn small(r: &mut Runner) {
+/// How many tables of 2 states and 2 symbols there are: 13 choices for each of four entries.
+pub const SMALL_TABLES: usize = 13_usize.pow(4);
+
+/// The table of that number.
+pub fn small_table(number: usize) -> Rc<Subject> {
     let sizes = Sizes { tapes: 1, symbols: 2, states: 2, start: 0 };
     let choice = |i: usize| match i {
         0 => [0; 8],
@@ -233,6 +246,15 @@ fn small(r: &mut Runner) {
             entry((i / 6) as u16, [(i % 2) as u8, 0, 0], [(i / 2 % 3) as u8, N, N])
         }
     };
+    let mut table = Vec::with_capacity(32);
+    for i in 0..4 {
+        table.extend(choice(number / 13_usize.pow(i) % 13));
+    }
+    Subject::new(sizes, table)
+}
+
+/// All tables of 2 states and 2 symbols.
+fn small(r: &mut Runner) {
     // Four words for every table; more, taken at random, at a larger scale.
     let words: [&[u8]; 4] = [&[], &[1], &[0, 1], &[1, 1, 0, 1]];
     let rooms = [63, 64, 140, 128, 40, 300];
@@ -251,12 +273,8 @@ fn small(r: &mut Runner) {
         (false, stopping(Some(Words::Right))),
         (false, vec![Act::Step, run(7), Act::Step, fast(5), Act::Step, Act::Step, fast(100), run(100)]),
     ];
-    for number in 0..13_usize.pow(4) {
-        let mut table = Vec::with_capacity(32);
-        for i in 0..4 {
-            table.extend(choice(number / 13_usize.pow(i) % 13));
-        }
-        let subject = Subject::new(sizes, table);
+    for number in 0..SMALL_TABLES {
+        let subject = small_table(number);
         for i in 0..words.len() * r.scale as usize {
             let mut rng = r.rng();
             let word = match words.get(i) {
@@ -283,7 +301,7 @@ fn small(r: &mut Runner) {
 
 /// The largest number of entries of random case `i`: mostly small ones, since every call reads the
 /// whole table.
-fn entries(i: u64) -> u64 {
+pub fn entries(i: u64) -> u64 {
     match i {
         _ if i % 500 == 499 => 600_000,
         _ if i % 20 == 19 => 20_000,

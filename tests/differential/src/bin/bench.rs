@@ -1,13 +1,15 @@
-//! The Rust's engine and the port's in one process, interleaved: processor time, median of nine.
-//! Options: `--reps N`, `--only NAME`.
+//! The Rust's engines and the port's in one process, interleaved: processor time, median of nine.
+//! Options: `--reps N`, `--only NAME` (a machine, or `chain` for the run-length engine's).
 
 use differential::case::{NO_RULE, Subject};
+use differential::chain::law::Value;
 use differential::generate::{one_tape, standard, three_tapes};
 use differential::law::Engine;
 use differential::machine::Machine;
 use differential::oracle;
 use differential::outcome::Outcome;
 use differential::port;
+use differential::rle::ChainSim;
 use differential::sim::Simulator;
 use differential::symbol::Symbol;
 
@@ -104,6 +106,83 @@ fn sweep() -> Rc<Subject> {
     )
 }
 
+/// Goes back and forth over ones and adds one at either end.
+fn grow() -> Rc<Subject> {
+    let (l, r) = (0, 1);
+    one_tape(2, 2, &[(0, 0, 1, l, 1), (0, 1, 1, r, 0), (1, 0, 1, r, 0), (1, 1, 1, l, 1)])
+}
+
+/// One machine for the run-length engines, run so many times.
+struct ChainJob {
+    job: Job,
+    times: u32,
+}
+
+const PLACES: usize = 1 << 14;
+
+/// The time, and the macro steps of one run.
+fn chain_rust(ChainJob { job, times }: &ChainJob) -> (f64, u64) {
+    let machine: &Machine = job.subject.machine.as_ref().expect("a good table");
+    let word: Vec<Symbol> = job.word.iter().map(|&a| Symbol::new(a)).collect();
+    let (mut time, mut macros) = (0.0, 0);
+    for _ in 0..*times {
+        let mut sim = ChainSim::new(machine, &word).expect("one tape");
+        let start = now();
+        let outcome: Outcome = sim.run(job.fuel);
+        time += now() - start;
+        let [number, steps, ..] = oracle::answer(outcome);
+        assert_eq!((number, steps), (Some(job.end.0), Some(job.end.1)), "{}: the Rust", job.name);
+        macros = sim.macro_steps();
+    }
+    (time, macros)
+}
+
+fn chain_port(ChainJob { job, times }: &ChainJob) -> f64 {
+    let (s, t) = (job.subject.sizes, &job.subject.table);
+    let (mut ls, mut ll, mut rs, mut rl) = (vec![0; PLACES], vec![0; PLACES], vec![0; PLACES], vec![0; PLACES]);
+    let mut time = 0.0;
+    for _ in 0..*times {
+        let (mut value, mut out) = (Value { state: 0, cur: 0, engine: [0; 7] }, [0; 8]);
+        let made = port::chain_new(s, t, &job.word, (&mut ls, &mut ll, &mut rs, &mut rl), &mut value, &mut out);
+        assert_eq!(made, 0, "{}: a fresh engine", job.name);
+        let fuel = (NO_RULE, job.fuel);
+        let start = now();
+        let result = port::chain_run(s, t, (&mut ls, &mut ll, &mut rs, &mut rl), &mut value, fuel, &mut out);
+        time += now() - start;
+        assert_eq!(result, 0, "{}: the run was refused", job.name);
+        assert_eq!((out[0], out[1]), job.end, "{}: the port", job.name);
+    }
+    time
+}
+
+fn chain_jobs(marks: Vec<u8>) -> [ChainJob; 4] {
+    let job = |name, subject, word, fuel, end| Job { name, subject, word, fuel, end };
+    let beaver = |name, text, steps| job(name, standard(text), vec![], 1 << 40, (0, steps));
+    [
+        ChainJob { job: beaver("BB5", "1RB1LC_1RC1RB_1RD0LE_1LA1LD_1RZ0LA", 47_176_870), times: 200 },
+        ChainJob { job: beaver("BB(2,4)", "1RB2LA1RA1RA_1LB1LA3RB1RZ", 3_932_964), times: 400 },
+        ChainJob { job: job("sweep", sweep(), marks, 1 << 34, (1, 1 << 34)), times: 1 },
+        ChainJob { job: job("grow", grow(), vec![], 1 << 42, (1, 1 << 42)), times: 1 },
+    ]
+}
+
+fn chain(reps: usize, only: Option<&str>, marks: Vec<u8>) {
+    println!("\nrun-length engine");
+    println!("{:8} {:>12} {:>9} {:>9}  {:>17}", "machine", "macro steps", "Rust s", "ns/macro", "run / Rust");
+    for job in chain_jobs(marks).iter().filter(|j| only.is_none_or(|o| o == j.job.name || o == "chain")) {
+        let (mut r, mut p, mut macros) = (vec![], vec![], 0);
+        for _ in 0..reps {
+            let (time, made) = chain_rust(job);
+            r.push(time);
+            p.push(chain_port(job));
+            macros = made * u64::from(job.times);
+        }
+        let ratio = format!("{:.3} ({:.3})", median(&p) / median(&r), least(&p) / least(&r));
+        let each = median(&r) / macros as f64 * 1e9;
+        println!("{:8} {:>12} {:>9.4} {:>9.2}  {:>17}", job.job.name, macros, median(&r), each, ratio);
+    }
+}
+
 fn main() {
     let (mut reps, mut only) = (9_usize, None);
     let mut arguments = std::env::args().skip(1);
@@ -136,7 +215,7 @@ fn main() {
             fuel: 1 << 40,
             end: (0, 3_932_964),
         },
-        Job { name: "sweep", subject: sweep(), word: marks, fuel: swept, end: (1, swept) },
+        Job { name: "sweep", subject: sweep(), word: marks.clone(), fuel: swept, end: (1, swept) },
         Job { name: "three", subject: three_tapes(), word: vec![1; 1000], fuel: 20_000_000, end: (1, 20_000_000) },
     ];
     println!("port: {}; processor time, {reps} rounds", if cfg!(feature = "mock") { "mock.rs" } else { "libcapi" });
@@ -166,4 +245,5 @@ fn main() {
         let each = median(&r) / steps as f64 * 1e9;
         println!("{:8} {:>12} {:>9.4} {:>9.2}  {:>17} {:>17}", job.name, steps, median(&r), each, ratio(&p), ratio(&f));
     }
+    chain(reps, only.as_deref(), marks);
 }
