@@ -10,8 +10,8 @@ use Rattle.machine.specs.declared.Action.{Action}
 use Rattle.machine.specs.declared.Entry.{Entry}
 use Rattle.machine.specs.declared.Entry.the-variants.{Defined}
 use Rattle.machine.specs.Layout.{entryAt}
-use Rattle.burst.specs.declared.hot.Hot.{Hot}
-use Rattle.burst.specs.declared.hot.Told.{Told}
+use Rattle.burst.specs.declared.inner.hot.Hot.{Hot}
+use Rattle.burst.specs.declared.inner.hot.Told.{Told}
 
 -- ---- one step
 

@@ -15,8 +15,8 @@ use Rattle.symbol.specs.declared.Dir.the-variants.{N}
 use Rattle.machine.specs.declared.Entry.{Entry}
 use Rattle.machine.specs.declared.Entry.the-variants.{Defined}
 use Rattle.machine.specs.Layout.{flagAt, byteAt, actionAt, entryAt}
-use Rattle.burst.specs.declared.hot.Hot.{Hot}
-use Rattle.burst.specs.declared.hot.Told.{Told}
+use Rattle.burst.specs.declared.inner.hot.Hot.{Hot}
+use Rattle.burst.specs.declared.inner.hot.Told.{Told}
 use Rattle.burst.specs.Burst.{unasked, goes-on, rewrites, reads-one, sees-left, sees-right, went-left, went-right, stood, movedTo, LeftSeen, RightSeen, CalmIf, SureIf, WentIf, Says, Tells, Is}
 
 -- ---- a cell that is not blank

@@ -6,7 +6,7 @@ use Prim.Native.Nat.{ℕ, _+_, _*_, _-_, _≤_, _<_}
 use native.Mathlib.Omega.{arith}
 use lib.ListN.{length, getD, set, length-set}
 use Rattle.machine.specs.Layout.{entryAt}
-use Rattle.burst.specs.declared.hot.Hot.{Hot}
+use Rattle.burst.specs.declared.inner.hot.Hot.{Hot}
 use Rattle.burst.specs.Burst.{Says, movedTo, Calm, WentIf, HotOk, Step, Walk, here, more, Reached}
 
 module _ (Known : List ℕ → Type 0) (p : Bool) (stop k len : ℕ) where

@@ -10,7 +10,7 @@ use Rattle.machine.specs.declared.Checked.the-variants.{Accepted}
 use Rattle.machine.specs.Check.{tableCheck}
 use Rattle.machine.specs.Layout.{entryAt}
 use Rattle.machine.specs.Packing.{undefinedWord, packWord, wordWrite, wordNext, wordRow}
-use Rattle.burst.specs.declared.hot.Told.{Told}
+use Rattle.burst.specs.declared.inner.hot.Told.{Told}
 use Rattle.burst.specs.Burst.{Tells}
 
 abbrev pub toldWord : ℕ → Told

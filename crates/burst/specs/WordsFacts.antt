@@ -15,8 +15,8 @@ use Rattle.machine.specs.Layout.{entryCount, entryAt}
 use Rattle.machine.specs.CheckCases.{stride-one}
 use Rattle.machine.specs.Packing.{undefinedWord, actionWord, packWord, wordNext, wordRow}
 use Rattle.machine.specs.PackedFacts.{Parts, word-parts, OneTapeEntry, nothing, action, entry-one-tape}
-use Rattle.burst.specs.declared.hot.Hot.{Hot}
-use Rattle.burst.specs.declared.hot.Told.{Told}
+use Rattle.burst.specs.declared.inner.hot.Hot.{Hot}
+use Rattle.burst.specs.declared.inner.hot.Told.{Told}
 use Rattle.burst.specs.Burst.{Says, Tells, WentIf}
 use Rattle.burst.specs.Words.{toldWord, Packs, RowOk, WordsOk}
 

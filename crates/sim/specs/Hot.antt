@@ -5,7 +5,7 @@ use mathlib.Core.List.{List}
 use Prim.Native.Nat.{ℕ, _+_, _≤_}
 use Rattle.symbol.specs.Kinds.{stateOf}
 use Rattle.machine.specs.declared.Machine.{Machine}
-use Rattle.burst.specs.declared.hot.Hot.{Hot}
+use Rattle.burst.specs.declared.inner.hot.Hot.{Hot}
 use Rattle.sim.specs.declared.Simulator.{Simulator}
 use Rattle.sim.specs.declared.StopRule.{StopRule}
 use Rattle.sim.specs.Engine.{task, conf, matches, runOf}

@@ -18,7 +18,7 @@ use Rattle.tape.specs.Moves.{held, leaves, roomFor, shiftOf}
 use Rattle.tape.specs.MoveCases.{act-none, act-inside, shift-left, shift-right, shift-none}
 use Rattle.sim.specs.declared.Simulator.{Simulator}
 use Rattle.sim.specs.declared.StopRule.{StopRule}
-use Rattle.burst.specs.declared.hot.Hot.{Hot}
+use Rattle.burst.specs.declared.inner.hot.Hot.{Hot}
 use Rattle.burst.specs.Burst.{Says, Calm, unasked, goes-on, rewrites, reads-one, sees-left, sees-right, Moved, went-left, went-right, stood, movedTo, HotOk, Step, Walk, here, more}
 use Rattle.before.specs.declared.inner.look.Look.the-variants.{Go}
 use Rattle.sim.specs.Engine.{task, Conf, conf, tape0, tape1, tape2, staysAll, judgeOf, lookWith, roomsFor, roomyOf, stepOf, matches, runOf}

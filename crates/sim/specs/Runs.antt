@@ -11,7 +11,7 @@ use Rattle.machine.specs.declared.Checked.the-variants.{Accepted}
 use Rattle.tape.specs.Fits.{TapeSafe}
 use Rattle.sim.specs.declared.Simulator.{Simulator}
 use Rattle.sim.specs.declared.StopRule.{StopRule}
-use Rattle.burst.specs.declared.hot.Hot.{Hot}
+use Rattle.burst.specs.declared.inner.hot.Hot.{Hot}
 use Rattle.burst.specs.Words.{WordsOk}
 use Rattle.several.specs.declared.inner.Wide.{Wide}
 use Rattle.sim.specs.declared.Answer.{Answer}

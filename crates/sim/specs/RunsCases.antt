@@ -12,7 +12,7 @@ use Rattle.tape.specs.Fits.{TapeOk, TapeSafe}
 use Rattle.sim.specs.declared.Simulator.{Simulator}
 use Rattle.sim.specs.declared.StopRule.{StopRule}
 use Rattle.sim.specs.declared.StopRule.the-variants as Rule
-use Rattle.burst.specs.declared.hot.Hot.{Hot}
+use Rattle.burst.specs.declared.inner.hot.Hot.{Hot}
 use Rattle.burst.specs.Burst.{HotOk, Reached}
 use Rattle.burst.specs.Words.{Packs}
 use Rattle.burst.specs.WordsFacts.{packs-of}

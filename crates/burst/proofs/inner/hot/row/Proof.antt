@@ -1,9 +1,9 @@
 use native.Mathlib.Omega.{arith}
 use Rattle.burst.specs.BurstCases.{number-in}
-use Rattle.burst.proofs.hot.row.Statement.{statement}
-use Rattle.burst.proofs.hot.row.Tie as tie
-use Rattle.burst.proofs.hot.row.Reads as reads
-use Rattle.burst.proofs.hot.row.Lts as lts
+use Rattle.burst.proofs.inner.hot.row.Statement.{statement}
+use Rattle.burst.proofs.inner.hot.row.Tie as tie
+use Rattle.burst.proofs.inner.hot.row.Reads as reads
+use Rattle.burst.proofs.inner.hot.row.Lts as lts
 
 -- src/hot.rt:43:5
 mul-result : tie.Need-mul-result

@@ -1,10 +1,10 @@
 use Rattle.burst.specs.BurstCases.{tells-none, tells-entry}
 use borrow.Author.Needs.{needs}
-use Rattle.burst.proofs.table.told.Statement.{statement}
-use Rattle.burst.proofs.table.told.Tie as tie
-use Rattle.burst.proofs.table.told.Reads as reads
-use Rattle.burst.proofs.table.told.Lts as lts
-use Rattle.burst.proofs.hot.wide.Reads as wide-reads
+use Rattle.burst.proofs.inner.table.told.Statement.{statement}
+use Rattle.burst.proofs.inner.table.told.Tie as tie
+use Rattle.burst.proofs.inner.table.told.Reads as reads
+use Rattle.burst.proofs.inner.table.told.Lts as lts
+use Rattle.burst.proofs.inner.hot.wide.Reads as wide-reads
 
 -- src/table.rt:40:14
 mul-at : tie.Need-mul-at

@@ -5,16 +5,16 @@ use Rattle.burst.specs.Burst.{Reached, Is}
 use Rattle.burst.specs.BurstCases.{told-says}
 use Rattle.burst.specs.BurstFacts.{reached-start, reached-again, reached-on, went-less, went-asks}
 use borrow.Author.Needs.{needs}
-use Rattle.burst.proofs.table.burst.Statement.{statement}
-use Rattle.burst.proofs.table.burst.Tie as tie
-use Rattle.burst.proofs.table.burst.Reads as reads
-use Rattle.burst.proofs.table.burst.Lts as lts
-use Rattle.burst.proofs.hot.calm.Reads as calm-reads
-use Rattle.burst.proofs.hot.unseen.Reads as unseen-reads
-use Rattle.burst.proofs.hot.went.Reads as went-reads
-use Rattle.burst.proofs.table.number.Reads as number-reads
-use Rattle.burst.proofs.table.stretch.Reads as stretch-reads
-use Rattle.burst.proofs.table.told.Reads as told-reads
+use Rattle.burst.proofs.inner.table.burst.Statement.{statement}
+use Rattle.burst.proofs.inner.table.burst.Tie as tie
+use Rattle.burst.proofs.inner.table.burst.Reads as reads
+use Rattle.burst.proofs.inner.table.burst.Lts as lts
+use Rattle.burst.proofs.inner.hot.calm.Reads as calm-reads
+use Rattle.burst.proofs.inner.hot.unseen.Reads as unseen-reads
+use Rattle.burst.proofs.inner.hot.went.Reads as went-reads
+use Rattle.burst.proofs.inner.table.number.Reads as number-reads
+use Rattle.burst.proofs.inner.table.stretch.Reads as stretch-reads
+use Rattle.burst.proofs.inner.table.told.Reads as told-reads
 
 abbrev Inv-loop : tie.InvT-loop
 Inv-loop table cells₀ proves stop k len at₀ hints₀ cells at hints = Reached (Is table) proves stop k len at₀ cells₀ at cells

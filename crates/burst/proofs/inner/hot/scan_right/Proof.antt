@@ -2,10 +2,10 @@ use Prim.Native.Nat.{_<_, _-_}
 use native.Mathlib.Omega.{arith}
 use Rattle.burst.specs.BurstCases.{right-found, right-none}
 use borrow.Author.Needs.{needs}
-use Rattle.burst.proofs.hot.scan_right.Statement.{statement}
-use Rattle.burst.proofs.hot.scan_right.Tie as tie
-use Rattle.burst.proofs.hot.scan_right.Reads as reads
-use Rattle.burst.proofs.hot.scan_right.Lts as lts
+use Rattle.burst.proofs.inner.hot.scan_right.Statement.{statement}
+use Rattle.burst.proofs.inner.hot.scan_right.Tie as tie
+use Rattle.burst.proofs.inner.hot.scan_right.Reads as reads
+use Rattle.burst.proofs.inner.hot.scan_right.Lts as lts
 
 abbrev Inv-loop : tie.InvT-loop
 Inv-loop cells head len i₀ i =

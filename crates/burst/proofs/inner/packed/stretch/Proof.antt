@@ -5,16 +5,16 @@ use Rattle.burst.specs.Words.{Packs, RowOk}
 use Rattle.burst.specs.BurstFacts.{reached-start, reached-again, went-less}
 use Rattle.burst.specs.WordsFacts.{row-start, row-again, word-says, word-small}
 use borrow.Author.Needs.{needs}
-use Rattle.burst.proofs.packed.stretch.Statement.{statement}
-use Rattle.burst.proofs.packed.stretch.Tie as tie
-use Rattle.burst.proofs.packed.stretch.Reads as reads
-use Rattle.burst.proofs.packed.stretch.Lts as lts
-use Rattle.burst.proofs.hot.row.Reads as row-reads
-use Rattle.burst.proofs.hot.sure.Reads as sure-reads
-use Rattle.burst.proofs.hot.went.Reads as went-reads
-use Rattle.burst.proofs.hot.wide.Reads as wide-reads
-use Rattle.burst.proofs.packed.row_of.Reads as row-of-reads
-use Rattle.burst.proofs.packed.unpack.Reads as unpack-reads
+use Rattle.burst.proofs.inner.packed.stretch.Statement.{statement}
+use Rattle.burst.proofs.inner.packed.stretch.Tie as tie
+use Rattle.burst.proofs.inner.packed.stretch.Reads as reads
+use Rattle.burst.proofs.inner.packed.stretch.Lts as lts
+use Rattle.burst.proofs.inner.hot.row.Reads as row-reads
+use Rattle.burst.proofs.inner.hot.sure.Reads as sure-reads
+use Rattle.burst.proofs.inner.hot.went.Reads as went-reads
+use Rattle.burst.proofs.inner.hot.wide.Reads as wide-reads
+use Rattle.burst.proofs.inner.packed.row_of.Reads as row-of-reads
+use Rattle.burst.proofs.inner.packed.unpack.Reads as unpack-reads
 
 abbrev Inv-loop : tie.InvT-loop
 Inv-loop words cells₀ proves stop k len at₀ row₀ cells at row = Reached (Packs words k) proves stop k len at₀ cells₀ at cells × RowOk words k row (at .state)

@@ -4,14 +4,14 @@ use Rattle.burst.specs.Burst.{Reached, Is}
 use Rattle.burst.specs.BurstCases.{told-says}
 use Rattle.burst.specs.BurstFacts.{reached-start, reached-again, went-less}
 use borrow.Author.Needs.{needs}
-use Rattle.burst.proofs.table.stretch.Statement.{statement}
-use Rattle.burst.proofs.table.stretch.Tie as tie
-use Rattle.burst.proofs.table.stretch.Reads as reads
-use Rattle.burst.proofs.table.stretch.Lts as lts
-use Rattle.burst.proofs.hot.sure.Reads as sure-reads
-use Rattle.burst.proofs.hot.went.Reads as went-reads
-use Rattle.burst.proofs.table.number.Reads as number-reads
-use Rattle.burst.proofs.table.told.Reads as told-reads
+use Rattle.burst.proofs.inner.table.stretch.Statement.{statement}
+use Rattle.burst.proofs.inner.table.stretch.Tie as tie
+use Rattle.burst.proofs.inner.table.stretch.Reads as reads
+use Rattle.burst.proofs.inner.table.stretch.Lts as lts
+use Rattle.burst.proofs.inner.hot.sure.Reads as sure-reads
+use Rattle.burst.proofs.inner.hot.went.Reads as went-reads
+use Rattle.burst.proofs.inner.table.number.Reads as number-reads
+use Rattle.burst.proofs.inner.table.told.Reads as told-reads
 
 abbrev Inv-loop : tie.InvT-loop
 Inv-loop table cells₀ proves stop k len at₀ cells at = Reached (Is table) proves stop k len at₀ cells₀ at cells

@@ -1,11 +1,11 @@
 use Rattle.burst.specs.BurstCases.{step-out, step-left, step-right, step-none}
 use borrow.Author.Needs.{needs}
-use Rattle.burst.proofs.hot.went.Statement.{statement}
-use Rattle.burst.proofs.hot.went.Tie as tie
-use Rattle.burst.proofs.hot.went.Reads as reads
-use Rattle.burst.proofs.hot.went.Lts as lts
-use Rattle.burst.proofs.hot.lower.Reads as lower-reads
-use Rattle.burst.proofs.hot.upper.Reads as upper-reads
+use Rattle.burst.proofs.inner.hot.went.Statement.{statement}
+use Rattle.burst.proofs.inner.hot.went.Tie as tie
+use Rattle.burst.proofs.inner.hot.went.Reads as reads
+use Rattle.burst.proofs.inner.hot.went.Lts as lts
+use Rattle.burst.proofs.inner.hot.lower.Reads as lower-reads
+use Rattle.burst.proofs.inner.hot.upper.Reads as upper-reads
 
 -- src/hot.rt:200:15
 sub-to : tie.Need-sub-to

@@ -2,10 +2,10 @@ use Prim.Native.Nat.{_≤_}
 use native.Mathlib.Omega.{arith}
 use Rattle.burst.specs.BurstCases.{left-found, left-none}
 use borrow.Author.Needs.{needs}
-use Rattle.burst.proofs.hot.scan_left.Statement.{statement}
-use Rattle.burst.proofs.hot.scan_left.Tie as tie
-use Rattle.burst.proofs.hot.scan_left.Reads as reads
-use Rattle.burst.proofs.hot.scan_left.Lts as lts
+use Rattle.burst.proofs.inner.hot.scan_left.Statement.{statement}
+use Rattle.burst.proofs.inner.hot.scan_left.Tie as tie
+use Rattle.burst.proofs.inner.hot.scan_left.Reads as reads
+use Rattle.burst.proofs.inner.hot.scan_left.Lts as lts
 
 abbrev Inv-loop : tie.InvT-loop
 Inv-loop cells head i₀ i =

@@ -1,8 +1,8 @@
 use Rattle.burst.specs.BurstCases.{sure-off, sure-on, sure-read}
-use Rattle.burst.proofs.hot.sure.Statement.{statement}
-use Rattle.burst.proofs.hot.sure.Tie as tie
-use Rattle.burst.proofs.hot.sure.Reads as reads
-use Rattle.burst.proofs.hot.sure.Lts as lts
+use Rattle.burst.proofs.inner.hot.sure.Statement.{statement}
+use Rattle.burst.proofs.inner.hot.sure.Tie as tie
+use Rattle.burst.proofs.inner.hot.sure.Reads as reads
+use Rattle.burst.proofs.inner.hot.sure.Lts as lts
 
 -- src/hot.rt:181:9
 returns : tie.Need-returns

@@ -6,17 +6,17 @@ use Rattle.burst.specs.Words.{Packs}
 use Rattle.burst.specs.BurstFacts.{reached-start, reached-again, reached-on, went-less, went-asks}
 use Rattle.burst.specs.WordsFacts.{row-start, word-says, word-small}
 use borrow.Author.Needs.{needs}
-use Rattle.burst.proofs.packed.burst_words.Statement.{statement}
-use Rattle.burst.proofs.packed.burst_words.Tie as tie
-use Rattle.burst.proofs.packed.burst_words.Reads as reads
-use Rattle.burst.proofs.packed.burst_words.Lts as lts
-use Rattle.burst.proofs.hot.calm.Reads as calm-reads
-use Rattle.burst.proofs.hot.row.Reads as row-reads
-use Rattle.burst.proofs.hot.unseen.Reads as unseen-reads
-use Rattle.burst.proofs.hot.went.Reads as went-reads
-use Rattle.burst.proofs.hot.wide.Reads as wide-reads
-use Rattle.burst.proofs.packed.stretch.Reads as stretch-reads
-use Rattle.burst.proofs.packed.unpack.Reads as unpack-reads
+use Rattle.burst.proofs.inner.packed.burst_words.Statement.{statement}
+use Rattle.burst.proofs.inner.packed.burst_words.Tie as tie
+use Rattle.burst.proofs.inner.packed.burst_words.Reads as reads
+use Rattle.burst.proofs.inner.packed.burst_words.Lts as lts
+use Rattle.burst.proofs.inner.hot.calm.Reads as calm-reads
+use Rattle.burst.proofs.inner.hot.row.Reads as row-reads
+use Rattle.burst.proofs.inner.hot.unseen.Reads as unseen-reads
+use Rattle.burst.proofs.inner.hot.went.Reads as went-reads
+use Rattle.burst.proofs.inner.hot.wide.Reads as wide-reads
+use Rattle.burst.proofs.inner.packed.stretch.Reads as stretch-reads
+use Rattle.burst.proofs.inner.packed.unpack.Reads as unpack-reads
 
 abbrev Inv-loop : tie.InvT-loop
 Inv-loop words cells₀ proves stop k len at₀ hints₀ cells at hints = Reached (Packs words k) proves stop k len at₀ cells₀ at cells

@@ -1,11 +1,11 @@
 use Rattle.burst.specs.BurstCases.{calm-on, calm-off, calm-write, calm-read, calm-left, calm-right}
 use borrow.Author.Needs.{needs}
-use Rattle.burst.proofs.hot.calm.Statement.{statement}
-use Rattle.burst.proofs.hot.calm.Tie as tie
-use Rattle.burst.proofs.hot.calm.Reads as reads
-use Rattle.burst.proofs.hot.calm.Lts as lts
-use Rattle.burst.proofs.hot.left_of.Reads as left-of-reads
-use Rattle.burst.proofs.hot.right_of.Reads as right-of-reads
+use Rattle.burst.proofs.inner.hot.calm.Statement.{statement}
+use Rattle.burst.proofs.inner.hot.calm.Tie as tie
+use Rattle.burst.proofs.inner.hot.calm.Reads as reads
+use Rattle.burst.proofs.inner.hot.calm.Lts as lts
+use Rattle.burst.proofs.inner.hot.left_of.Reads as left-of-reads
+use Rattle.burst.proofs.inner.hot.right_of.Reads as right-of-reads
 
 -- src/hot.rt:147:9
 returns : tie.Need-returns
