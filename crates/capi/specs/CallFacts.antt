@@ -11,7 +11,8 @@ use Rattle.sim.specs.declared.Fresh.{Fresh}
 use Rattle.sim.specs.declared.Fresh.the-variants as New
 use Rattle.sim.specs.Engine.{conf}
 use Rattle.sim.specs.Operations.{Given, given, StepGiven, stepGiven, Made, made}
-use Rattle.capi.specs.Numbers.{withEngine, refusedOut, answerCode, answerOut, stepCode, stepOut}
+use Rattle.numbers.specs.Engines.{withEngine}
+use Rattle.numbers.specs.Answers.{refusedOut, answerCode, answerOut, stepCode, stepOut}
 use Rattle.capi.specs.Calls.{call, ranCall, stepCall, newCall}
 
 module _ (v : Simulator) (d0 d1 d2 xs ys out o : List ℕ) (n : ℕ) (stored : ys ≡ withEngine xs v) where

@@ -10,8 +10,9 @@ use Rattle.rle.specs.declared.Fresh.{Fresh}
 use Rattle.rle.specs.declared.Fresh.the-variants as New
 use Rattle.rle.specs.Engine.{conf}
 use Rattle.rle.specs.Operations.{Given, given, Made, made}
-use Rattle.capi.specs.Numbers.{refusedOut, answerCode, answerOut}
-use Rattle.capi.specs.Chains.{withChain, chainCall, chainRanCall, chainNewCall}
+use Rattle.numbers.specs.Answers.{refusedOut, answerCode, answerOut}
+use Rattle.numbers.specs.Engines.{withChain}
+use Rattle.capi.specs.Chains.{chainCall, chainRanCall, chainNewCall}
 
 pub chain-ran : (v : ChainSim) (ls ll rs rl xs ys out o : List ℕ) (n : ℕ) (g : Given) (a : Answer) → ys ≡ withChain xs v → given (conf v ls ll rs rl) a ≡ g
     → n ≡ answerCode a → o ≡ answerOut a out → chainCall n (v .state .0) (v .tape .cur) ys o ls ll rs rl ≡ chainRanCall g xs out

@@ -1,30 +1,12 @@
--- The run-length engine across the C boundary: its numbers, and what each of its exported calls leaves behind. Definitions only.
+-- What each exported call of the run-length engine leaves behind. Definitions only.
 use mathlib.Core.List.{List}
 use Prim.Native.Nat.{ℕ}
-use lib.ListN.{getD, set}
-use Rattle.symbol.specs.Kinds.{stateOf}
 use Rattle.outcome.specs.Numbers.{refusalNumber}
-use Rattle.rle.specs.declared.ChainSim.{ChainSim}
 use Rattle.rle.specs.declared.Fresh.{Fresh}
 use Rattle.rle.specs.declared.Fresh.the-variants as New
 use Rattle.rle.specs.Operations.{Given, Made}
-use Rattle.capi.specs.Numbers.{refusedOut, answerCode, answerOut}
-
--- ---- an engine: its state, the symbol under the head, and seven numbers: steps, macro steps, runs on the left, runs on the right, head, lowest, highest
-
-unfoldable pub chainOf : (state cur : ℕ) → List ℕ → ChainSim
-chainOf q c xs = record {
-  state = stateOf q;
-  steps = getD xs 0 0;
-  macros = getD xs 1 0;
-  tape = record { left = getD xs 2 0; cur = c; right = getD xs 3 0; head = getD xs 4 0 };
-  lowest = getD xs 5 0;
-  highest = getD xs 6 0;
-}
-
-unfoldable pub withChain : List ℕ → ChainSim → List ℕ
-withChain xs v =
-    set (set (set (set (set (set (set xs 0 (v .steps)) 1 (v .macros)) 2 (v .tape .left)) 3 (v .tape .right)) 4 (v .tape .head)) 5 (v .lowest)) 6 (v .highest)
+use Rattle.numbers.specs.Engines.{withChain}
+use Rattle.numbers.specs.Answers.{refusedOut, answerCode, answerOut}
 
 -- ---- calls
 

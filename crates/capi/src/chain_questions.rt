@@ -1,14 +1,12 @@
 // Questions on the run-length engine's tape; answers as those on the plain engine's.
-use super::chain;
-use super::numbers;
-use super::questions;
+use numbers::answers;
+use numbers::engines;
 ghost use mathlib.Core.Path.{_≡_};
 ghost use Rattle.rle.specs.Engine.{conf};
 ghost use Rattle.rle.specs.Fits.{engineCheck};
 ghost use Rattle.rle.specs.Questions.{getAnswer, extentAnswer, countAnswer, windowInto};
-ghost use Rattle.capi.specs.Numbers.{machineOf, checkedCode, checkedOut};
-ghost use Rattle.capi.specs.Calls.{gotCode, gotOut, countedCode, countedOut, extentCode, extentOut};
-ghost use Rattle.capi.specs.Chains.{chainOf};
+ghost use Rattle.numbers.specs.Engines.{machineOf, chainOf};
+ghost use Rattle.numbers.specs.Answers.{checkedCode, checkedOut, gotCode, gotOut, countedCode, countedOut, extentCode, extentOut};
 
 // The symbol at a position, in out[0].
 #[no_mangle]
@@ -30,10 +28,10 @@ pub extern "C" fn tm_chain_get<'a>(
 ) -> u8
     ensures { λ r. ⌜ (r ≡ gotCode (getAnswer (machineOf tapes symbols states start) (now (table .entry)) at (conf (chainOf state cur (now (engine .entry))) (now (ls .entry)) (now (ll .entry)) (now (rs .entry)) (now (rl .entry))))) × (now (out .exit) ≡ gotOut (getAnswer (machineOf tapes symbols states start) (now (table .entry)) at (conf (chainOf state cur (now (engine .entry))) (now (ls .entry)) (now (ll .entry)) (now (rs .entry)) (now (rl .entry)))) (now (out .entry))) ⌝ }
 {
-    let m = numbers::machine_of(tapes, symbols, states, start);
-    let sim = chain::chain_of(state, cur, engine);
+    let m = engines::machine_of(tapes, symbols, states, start);
+    let sim = engines::chain_of(state, cur, engine);
     let answer = sim.get(m, table, ls, ll, rs, rl, at);
-    questions::tell_got(out, answer)
+    answers::tell_got(out, answer)
 }
 
 // Whether a cell is not blank, in out[0]; the lowest and the highest such position, raised by 2^63, in out[1] and out[2].
@@ -55,10 +53,10 @@ pub extern "C" fn tm_chain_non_blank<'a>(
 ) -> u8
     ensures { λ r. ⌜ (r ≡ extentCode (extentAnswer (machineOf tapes symbols states start) (now (table .entry)) (conf (chainOf state cur (now (engine .entry))) (now (ls .entry)) (now (ll .entry)) (now (rs .entry)) (now (rl .entry))))) × (now (out .exit) ≡ extentOut (extentAnswer (machineOf tapes symbols states start) (now (table .entry)) (conf (chainOf state cur (now (engine .entry))) (now (ls .entry)) (now (ll .entry)) (now (rs .entry)) (now (rl .entry)))) (now (out .entry))) ⌝ }
 {
-    let m = numbers::machine_of(tapes, symbols, states, start);
-    let sim = chain::chain_of(state, cur, engine);
+    let m = engines::machine_of(tapes, symbols, states, start);
+    let sim = engines::chain_of(state, cur, engine);
     let answer = sim.non_blank(m, table, ls, ll, rs, rl);
-    questions::tell_extent(out, answer)
+    answers::tell_extent(out, answer)
 }
 
 // The number of cells that are not blank, in out[0].
@@ -80,10 +78,10 @@ pub extern "C" fn tm_chain_count<'a>(
 ) -> u8
     ensures { λ r. ⌜ (r ≡ countedCode (countAnswer (machineOf tapes symbols states start) (now (table .entry)) (conf (chainOf state cur (now (engine .entry))) (now (ls .entry)) (now (ll .entry)) (now (rs .entry)) (now (rl .entry))))) × (now (out .exit) ≡ countedOut (countAnswer (machineOf tapes symbols states start) (now (table .entry)) (conf (chainOf state cur (now (engine .entry))) (now (ls .entry)) (now (ll .entry)) (now (rs .entry)) (now (rl .entry)))) (now (out .entry))) ⌝ }
 {
-    let m = numbers::machine_of(tapes, symbols, states, start);
-    let sim = chain::chain_of(state, cur, engine);
+    let m = engines::machine_of(tapes, symbols, states, start);
+    let sim = engines::chain_of(state, cur, engine);
     let answer = sim.count_non_blank(m, table, ls, ll, rs, rl);
-    questions::tell_counted(out, answer)
+    answers::tell_counted(out, answer)
 }
 
 // The symbols from a position on, into the whole of `cells`.
@@ -107,8 +105,8 @@ pub extern "C" fn tm_chain_window<'a>(
 ) -> u8
     ensures { λ r. ⌜ (r ≡ checkedCode (engineCheck (machineOf tapes symbols states start) (now (table .entry)) (conf (chainOf state cur (now (engine .entry))) (now (ls .entry)) (now (ll .entry)) (now (rs .entry)) (now (rl .entry))))) × (now (out .exit) ≡ checkedOut (engineCheck (machineOf tapes symbols states start) (now (table .entry)) (conf (chainOf state cur (now (engine .entry))) (now (ls .entry)) (now (ll .entry)) (now (rs .entry)) (now (rl .entry)))) (now (out .entry))) × (now (cells .exit) ≡ windowInto (machineOf tapes symbols states start) (now (table .entry)) from (conf (chainOf state cur (now (engine .entry))) (now (ls .entry)) (now (ll .entry)) (now (rs .entry)) (now (rl .entry))) (now (cells .entry))) ⌝ }
 {
-    let m = numbers::machine_of(tapes, symbols, states, start);
-    let sim = chain::chain_of(state, cur, engine);
+    let m = engines::machine_of(tapes, symbols, states, start);
+    let sim = engines::chain_of(state, cur, engine);
     let answer = sim.window(m, table, ls, ll, rs, rl, from, cells);
-    numbers::tell_checked(out, answer)
+    answers::tell_checked(out, answer)
 }

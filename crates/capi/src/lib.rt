@@ -1,7 +1,6 @@
 // The engines behind functions with C linkage, on numbers and slices. Each returns 0, or the number of its refusal.
 pub mod chain;
 pub mod chain_questions;
-mod numbers;
 pub mod plain;
 pub mod questions;
 pub mod tables;

@@ -1,11 +1,12 @@
 // The plain engine: fresh, one step, a run over the table or over its packed words.
-use super::numbers;
+use numbers::answers;
+use numbers::engines;
 use sim::Fresh;
 use sim::Simulator;
 ghost use mathlib.Core.Path.{_≡_};
 ghost use Rattle.sim.specs.Engine.{conf};
 ghost use Rattle.sim.specs.Operations.{newAnswer, stepAnswer, runAnswer, fastAnswer};
-ghost use Rattle.capi.specs.Numbers.{machineOf, engineOf, ruleOf};
+ghost use Rattle.numbers.specs.Engines.{machineOf, engineOf, ruleOf};
 ghost use Rattle.capi.specs.Calls.{call, newCall, stepCall, ranCall};
 
 #[no_mangle]
@@ -25,16 +26,16 @@ pub extern "C" fn tm_sim_new(
 ) -> u8
     ensures { λ r. ⌜ call r (now (state .exit)) (now (engine .exit)) (now (out .exit)) (now (c0 .exit)) (now (c1 .exit)) (now (c2 .exit)) ≡ newCall (newAnswer (machineOf tapes symbols states start) (now (table .entry)) (now (word .entry)) (now (c0 .entry)) (now (c1 .entry)) (now (c2 .entry))) (now (state .entry)) (now (engine .entry)) (now (out .entry)) ⌝ }
 {
-    let m = numbers::machine_of(tapes, symbols, states, start);
+    let m = engines::machine_of(tapes, symbols, states, start);
     let fresh = Simulator::new(m, table, word, c0, c1, c2);
     match fresh {
         Fresh::Made(sim) => {
             *state = sim.state.0;
-            numbers::put_engine(engine, sim);
+            engines::put_engine(engine, sim);
             return 0;
         }
         Fresh::Refused(why) => {
-            return numbers::refuse(out, why);
+            return answers::refuse(out, why);
         }
     }
 }
@@ -55,14 +56,14 @@ pub extern "C" fn tm_sim_step(
 ) -> u8
     ensures { λ r. ⌜ call r (now (state .exit)) (now (engine .exit)) (now (out .exit)) (now (c0 .exit)) (now (c1 .exit)) (now (c2 .exit)) ≡ stepCall (stepAnswer (machineOf tapes symbols states start) (now (table .entry)) (conf (engineOf (now (state .entry)) (now (engine .entry))) (now (c0 .entry)) (now (c1 .entry)) (now (c2 .entry)))) (now (engine .entry)) (now (out .entry)) ⌝ }
 {
-    let m = numbers::machine_of(tapes, symbols, states, start);
-    let sim = numbers::engine_of(*state, engine);
+    let m = engines::machine_of(tapes, symbols, states, start);
+    let sim = engines::engine_of(*state, engine);
     let stepped = sim.step(m, table, c0, c1, c2);
     let after = stepped.sim;
     let answer = stepped.answer;
     *state = after.state.0;
-    numbers::put_engine(engine, after);
-    numbers::tell_step(out, answer)
+    engines::put_engine(engine, after);
+    answers::tell_step(out, answer)
 }
 
 #[no_mangle]
@@ -83,15 +84,15 @@ pub extern "C" fn tm_sim_run(
 ) -> u8
     ensures { λ r. ⌜ call r (now (state .exit)) (now (engine .exit)) (now (out .exit)) (now (c0 .exit)) (now (c1 .exit)) (now (c2 .exit)) ≡ ranCall (runAnswer (machineOf tapes symbols states start) (now (table .entry)) (ruleOf rule) fuel (conf (engineOf (now (state .entry)) (now (engine .entry))) (now (c0 .entry)) (now (c1 .entry)) (now (c2 .entry)))) (now (engine .entry)) (now (out .entry)) ⌝ }
 {
-    let m = numbers::machine_of(tapes, symbols, states, start);
-    let sim = numbers::engine_of(*state, engine);
-    let stop = numbers::rule_of(rule);
+    let m = engines::machine_of(tapes, symbols, states, start);
+    let sim = engines::engine_of(*state, engine);
+    let stop = engines::rule_of(rule);
     let ran = sim.run(m, table, c0, c1, c2, stop, fuel);
     let after = ran.sim;
     let answer = ran.answer;
     *state = after.state.0;
-    numbers::put_engine(engine, after);
-    numbers::tell_answer(out, answer)
+    engines::put_engine(engine, after);
+    answers::tell_answer(out, answer)
 }
 
 #[no_mangle]
@@ -113,13 +114,13 @@ pub extern "C" fn tm_sim_run_packed(
 ) -> u8
     ensures { λ r. ⌜ call r (now (state .exit)) (now (engine .exit)) (now (out .exit)) (now (c0 .exit)) (now (c1 .exit)) (now (c2 .exit)) ≡ ranCall (fastAnswer (machineOf tapes symbols states start) (now (table .entry)) (now (words .entry)) (ruleOf rule) fuel (conf (engineOf (now (state .entry)) (now (engine .entry))) (now (c0 .entry)) (now (c1 .entry)) (now (c2 .entry)))) (now (engine .entry)) (now (out .entry)) ⌝ }
 {
-    let m = numbers::machine_of(tapes, symbols, states, start);
-    let sim = numbers::engine_of(*state, engine);
-    let stop = numbers::rule_of(rule);
+    let m = engines::machine_of(tapes, symbols, states, start);
+    let sim = engines::engine_of(*state, engine);
+    let stop = engines::rule_of(rule);
     let ran = sim.run_packed(m, table, words, c0, c1, c2, stop, fuel);
     let after = ran.sim;
     let answer = ran.answer;
     *state = after.state.0;
-    numbers::put_engine(engine, after);
-    numbers::tell_answer(out, answer)
+    engines::put_engine(engine, after);
+    answers::tell_answer(out, answer)
 }

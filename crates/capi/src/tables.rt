@@ -1,10 +1,12 @@
 // The table check and packing.
-use super::numbers;
+use numbers::answers;
+use numbers::engines;
 ghost use mathlib.Core.Path.{_≡_};
 ghost use lib.ListN.{length};
 ghost use Rattle.machine.specs.Check.{tableCheck};
 ghost use Rattle.machine.specs.Packing.{packCheck, packInto};
-ghost use Rattle.capi.specs.Numbers.{machineOf, checkedCode, checkedOut};
+ghost use Rattle.numbers.specs.Engines.{machineOf};
+ghost use Rattle.numbers.specs.Answers.{checkedCode, checkedOut};
 
 #[no_mangle]
 pub extern "C" fn tm_check(
@@ -17,9 +19,9 @@ pub extern "C" fn tm_check(
 ) -> u8
     ensures { λ r. ⌜ (r ≡ checkedCode (tableCheck (machineOf tapes symbols states start) (now (table .entry)))) × (now (out .exit) ≡ checkedOut (tableCheck (machineOf tapes symbols states start) (now (table .entry))) (now (out .entry))) ⌝ }
 {
-    let m = numbers::machine_of(tapes, symbols, states, start);
+    let m = engines::machine_of(tapes, symbols, states, start);
     let checked = m.check(table);
-    numbers::tell_checked(out, checked)
+    answers::tell_checked(out, checked)
 }
 
 #[no_mangle]
@@ -34,7 +36,7 @@ pub extern "C" fn tm_pack(
 ) -> u8
     ensures { λ r. ⌜ (r ≡ checkedCode (packCheck (machineOf tapes symbols states start) (now (table .entry)) (length (now (words .entry))))) × (now (out .exit) ≡ checkedOut (packCheck (machineOf tapes symbols states start) (now (table .entry)) (length (now (words .entry)))) (now (out .entry))) × (now (words .exit) ≡ packInto (machineOf tapes symbols states start) (now (table .entry)) (now (words .entry))) ⌝ }
 {
-    let m = numbers::machine_of(tapes, symbols, states, start);
+    let m = engines::machine_of(tapes, symbols, states, start);
     let checked = m.pack(table, words);
-    numbers::tell_checked(out, checked)
+    answers::tell_checked(out, checked)
 }

@@ -1,0 +1,3 @@
+// Engines and answers as numbers, for the functions with C linkage.
+pub mod answers;
+pub mod engines;
