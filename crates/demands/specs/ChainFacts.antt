@@ -50,7 +50,7 @@ use Rattle.rle_refines.specs.OperationFacts.{Passed, run-says, run-holds}
 use Rattle.demands.specs.ChainClaims.{GoesOn, Lasts, one, ahead, loop, MacroStep, FullHere}
 
 -- a verdict is not that there is no space
-not-full-verdict : (t : ℕ) (d : Table) (c : Config) (o : Outcome) → Verdict t d c o → (n : ℕ) → ¬ (o ≡ Full n)
+pub not-full-verdict : (t : ℕ) (d : Table) (c : Config) (o : Outcome) → Verdict t d c o → (n : ℕ) → ¬ (o ≡ Full n)
 not-full-verdict t d c o (halts h) n e = let z : _≡_ {A = ℕ} 0 1 = cc in omega arith
 not-full-verdict t d c o (stays a h s) n e = let z : _≡_ {A = ℕ} 0 1 = cc in omega arith
 not-full-verdict t d c o (walks a x h w) n e = let z : _≡_ {A = ℕ} 0 1 = cc in omega arith

@@ -77,7 +77,7 @@ impl ChainSim {
         tape.head <= 9223372036854775808 + (most - rights)
     }
 
-    fn fits(self, m: Machine, ls: &[u8], ll: &[u64], rs: &[u8], rl: &[u64]) -> bool
+    pub fn fits(self, m: Machine, ls: &[u8], ll: &[u64], rs: &[u8], rl: &[u64]) -> bool
         ensures { λ r. ⌜ r ≡ chainFits m (conf self (now (ls .entry)) (now (ll .entry)) (now (rs .entry)) (now (rl .entry))) ⌝ }
     {
         if !self.counts_fit(m) {
@@ -120,7 +120,7 @@ impl ChainSim {
     }
 
     // The table check, 8, 11, 12.
-    pub(crate) fn engine_check(
+    pub fn engine_check(
         self,
         m: Machine,
         table: &[u8],

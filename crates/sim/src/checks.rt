@@ -10,7 +10,7 @@ ghost use Rattle.sim.specs.Engine.{conf};
 ghost use Rattle.sim.specs.Operations.{bareSim, handBack, simFits, valueCheck, engineCheck, fuelCheck, runCheck};
 
 impl Simulator {
-    fn fits(self, m: Machine, c0: &[u8], c1: &[u8], c2: &[u8]) -> bool
+    pub fn fits(self, m: Machine, c0: &[u8], c1: &[u8], c2: &[u8]) -> bool
         ensures { λ r. ⌜ r ≡ simFits m self (now (c0 .entry)) (now (c1 .entry)) (now (c2 .entry)) ⌝ }
     {
         let t0 = self.t0;
@@ -48,14 +48,7 @@ impl Simulator {
     }
 
     // The table check, 11, 12.
-    pub(crate) fn engine_check(
-        self,
-        m: Machine,
-        table: &[u8],
-        c0: &[u8],
-        c1: &[u8],
-        c2: &[u8],
-    ) -> Checked
+    pub fn engine_check(self, m: Machine, table: &[u8], c0: &[u8], c1: &[u8], c2: &[u8]) -> Checked
         ensures { λ r. ⌜ r ≡ engineCheck m (now (table .entry)) (conf self (now (c0 .entry)) (now (c1 .entry)) (now (c2 .entry))) ⌝ }
     {
         let checked = m.check(table);

@@ -75,7 +75,7 @@ back-if true t u c k f = refl
 back-if false t u c k f = sym f
 
 -- what the run's end hands back is, without the caller's own fields, that end
-bare-back : (m : Machine) (σ e : Conf) → EngineFits m e → bareOf m (backOf m σ e) ≡ e
+pub bare-back : (m : Machine) (σ e : Conf) → EngineFits m e → bareOf m (backOf m σ e) ≡ e
 unfolding bareSim handBack
 bare-back m σ e f = λ i. conf (record {
   state = e .sim .state;
@@ -271,7 +271,7 @@ room-if : (has : Bool) (n : ℕ) → ifHas has (leb 32 n) ≡ true → has ≡ t
 room-if has n e h = leb-true 32 n (sym (pick-true has (leb 32 n) true h) ∙ e)
 
 module _ (m : Machine) (s w c0 c1 c2 : List ℕ) (v : Simulator) (d0 d1 d2 : List ℕ) (done : newAnswer m s w c0 c1 c2 ≡ made (New.Made v) d0 d1 d2) where
-  new-accepted : (freshCheck m s w (length c0) (length c1) (length c2) ≡ Accepted)
+  pub new-accepted : (freshCheck m s w (length c0) (length c1) (length c2) ≡ Accepted)
       × (madeWith m (freshOf w c0) (blankTape (has1 m) c1) (blankTape (has2 m) c2) ≡ made (New.Made v) d0 d1 d2)
   unfolding newAnswer
   new-accepted = accepted-fresh _ _ _ _ _ _ _ _ _ done

@@ -1,0 +1,94 @@
+-- THE FIRST DEMAND of the run-length engine. Each part is about the definitions that the contracts of its operations cite.
+use mathlib.Core.Path.{_≡_}
+use mathlib.Core.Logic.{_↔_}
+use mathlib.Core.Bool.{false}
+use mathlib.Core.List.{List, [], _∷_}
+use Prim.Native.Nat.{ℕ, _+_, _<_}
+use lib.IntN.{ℤ}
+use lib.ListN.{length}
+use Rattle.outcome.specs.declared.Outcome.the-variants.{OutOfFuel, Full}
+use Rattle.machine.specs.declared.Machine.{Machine}
+use Rattle.machine.specs.declared.Checked.{Checked}
+use Rattle.machine.specs.declared.Checked.the-variants.{Accepted, Refused}
+use Rattle.tables.specs.WellFormed.{Bytes}
+use Rattle.turing.specs.Tables.{tableOf}
+use Rattle.sim.specs.declared.StopRule.{StopRule}
+use Rattle.sim.specs.declared.Answer.the-variants as Ans
+use Rattle.sim.specs.declared.questions.Got.the-variants as Got
+use Rattle.sim.specs.declared.questions.Extent.the-variants as Extent
+use Rattle.sim.specs.declared.questions.Counted.the-variants as Counted
+use Rattle.sim.specs.Engine.{matches}
+use Rattle.records.specs.declared.Run.{Run}
+use Rattle.records.specs.declared.Listed.{Listed}
+use Rattle.records.specs.declared.Listed.the-variants as Listed
+use Rattle.rle.specs.declared.Fresh.the-variants as New
+use Rattle.rle.specs.Engine.{Conf}
+use Rattle.rle.specs.Fits.{engineCheck, runCheck}
+use Rattle.rle.specs.Operations.{Given, given, runAnswer, Made, made, newAnswer}
+use Rattle.rle.specs.Questions.{getAnswer, extentAnswer, countAnswer, windowInto}
+use Rattle.rle.specs.Records.{leftAnswer, leftInto, rightAnswer, rightInto}
+use Rattle.rle_refines.specs.Meaning.{configOf, Alike}
+use Rattle.demands.specs.ChainClaims.{FullHere}
+use Rattle.demands.specs.ChainFacts.{full-stands, full-there}
+use Rattle.demands.specs.FirstClaims.{TurnsAway, ofChain, ofAnswer, ofGot, ofExtent, ofCounted, ofListed}
+use Rattle.demands.specs.FirstTests.{chainNewTests, chainRunTests, chainAskTests, chainListTests}
+use Rattle.demands.specs.FirstSpace.{GoesOn, EndsFull}
+use Rattle.demands.specs.FirstFactsChain.{chain-new-turns, chain-run-turns, chain-get-turns, chain-extent-turns, chain-count-turns, chain-window-turns, chain-left-turns, chain-right-turns}
+use Rattle.demands.specs.FirstFactsChainSpace.{chain-full, chain-onward}
+
+pub record ChainOperations : Type 0 where
+  -- ---- refusals
+
+  -- a fresh engine: the answer, with the right side's places; the left side's are lent for reading alone
+  pub new : (m : Machine) (s w ls ll rs rl : List ℕ)
+      → TurnsAway (1 ∷ 2 ∷ 3 ∷ 4 ∷ 5 ∷ 6 ∷ 8 ∷ 9 ∷ 10 ∷ 11 ∷ []) (chainNewTests m s w ls ll rs rl) (λ (x : Made). ofChain (x .answer)) (λ why. made (New.Refused why) rs rl)
+      (newAnswer m s w ls ll rs rl)
+  -- a run: the answer, with the engine handed back and the places of both sides
+  pub run : (m : Machine) (s : List ℕ) (rule : StopRule) (fuel : ℕ) (σ : Conf)
+      → TurnsAway (1 ∷ 2 ∷ 3 ∷ 4 ∷ 5 ∷ 6 ∷ 8 ∷ 11 ∷ 12 ∷ 13 ∷ []) (chainRunTests m s σ fuel) (λ (x : Given). ofAnswer (x .answer)) (λ why. given σ (Ans.Refused why))
+      (runAnswer m s rule fuel σ)
+  -- the tape questions; `window`, `left` and `right` with their lent slice
+  pub get : (m : Machine) (s : List ℕ) (z : ℤ) (σ : Conf)
+      → TurnsAway (1 ∷ 2 ∷ 3 ∷ 4 ∷ 5 ∷ 6 ∷ 8 ∷ 11 ∷ 12 ∷ []) (chainAskTests m s σ) ofGot Got.Refused (getAnswer m s z σ)
+  pub non-blank : (m : Machine) (s : List ℕ) (σ : Conf)
+      → TurnsAway (1 ∷ 2 ∷ 3 ∷ 4 ∷ 5 ∷ 6 ∷ 8 ∷ 11 ∷ 12 ∷ []) (chainAskTests m s σ) ofExtent Extent.Refused (extentAnswer m s σ)
+  pub count-non-blank : (m : Machine) (s : List ℕ) (σ : Conf)
+      → TurnsAway (1 ∷ 2 ∷ 3 ∷ 4 ∷ 5 ∷ 6 ∷ 8 ∷ 11 ∷ 12 ∷ []) (chainAskTests m s σ) ofCounted Counted.Refused (countAnswer m s σ)
+  pub window : (m : Machine) (s : List ℕ) (z : ℤ) (σ : Conf) (out : List ℕ)
+      → TurnsAway (1 ∷ 2 ∷ 3 ∷ 4 ∷ 5 ∷ 6 ∷ 8 ∷ 11 ∷ 12 ∷ []) (chainAskTests m s σ) (λ (x : Checked × List ℕ). x .0) (λ why. (Refused why, out))
+      (engineCheck m s σ, windowInto m s z σ out)
+  pub left : (m : Machine) (s : List ℕ) (σ : Conf) (out : List Run)
+      → TurnsAway (1 ∷ 2 ∷ 3 ∷ 4 ∷ 5 ∷ 6 ∷ 8 ∷ 11 ∷ 12 ∷ 18 ∷ []) (chainListTests m s σ (σ .sim .tape .left) (length out)) (λ (x : Listed × List Run). ofListed (x .0))
+      (λ why. (Listed.Refused why, out)) (leftAnswer m s (length out) σ, leftInto m s σ out)
+  pub right : (m : Machine) (s : List ℕ) (σ : Conf) (out : List Run)
+      → TurnsAway (1 ∷ 2 ∷ 3 ∷ 4 ∷ 5 ∷ 6 ∷ 8 ∷ 11 ∷ 12 ∷ 18 ∷ []) (chainListTests m s σ (σ .sim .tape .right) (length out)) (λ (x : Listed × List Run). ofListed (x .0))
+      (λ why. (Listed.Refused why, out)) (rightAnswer m s (length out) σ, rightInto m s σ out)
+  -- ---- space
+
+  -- a run that ends for lack of space has made so many steps of the table machine, and the next one is full (EndsFull)
+  pub full : (m : Machine) (s : List ℕ) → Bytes s → (rule : StopRule) (fuel : ℕ) (σ τ : Conf) (n : ℕ) → runAnswer m s rule fuel σ ≡ given τ (Ans.Done (Full n))
+      → EndsFull m (tableOf m s) (configOf σ) (configOf τ) fuel n (FullHere m s τ)
+  -- with fuel, an entry, no proved loop and no stop ahead: the run says so, and leaves the engine and every place as they were, exactly where the next step is full
+  pub full-exact : (m : Machine) (s : List ℕ) → Bytes s → (rule : StopRule) (fuel : ℕ) (σ : Conf) → runCheck m s fuel σ ≡ Accepted → 0 < fuel
+      → GoesOn m (tableOf m s) (configOf σ) → matches rule (σ .sim .state) ≡ false
+      → (runAnswer m s rule fuel σ ≡ given σ (Ans.Done (Full (σ .sim .steps)))) ↔ FullHere m s σ
+  -- no run goes past a full step: where a steps can be made and the next is full, more fuel ends there, and the a steps are kept: all is the same but the macro
+  -- steps and what lies past the live runs (Alike)
+  pub full-onward : (m : Machine) (s : List ℕ) → Bytes s → (rule : StopRule) (a b : ℕ) (σ τ : Conf) (n : ℕ) → runAnswer m s rule a σ ≡ given τ (Ans.Done (OutOfFuel n))
+      → runCheck m s (a + b) σ ≡ Accepted → 0 < b → matches rule (τ .sim .state) ≡ false → FullHere m s τ
+      → (ω : Conf) × (runAnswer m s rule (a + b) σ ≡ given ω (Ans.Done (Full n))) × Alike τ ω
+
+pub chain-operations : ChainOperations
+chain-operations = record {
+  new = chain-new-turns;
+  run = chain-run-turns;
+  get = chain-get-turns;
+  non-blank = chain-extent-turns;
+  count-non-blank = chain-count-turns;
+  window = chain-window-turns;
+  left = chain-left-turns;
+  right = chain-right-turns;
+  full = chain-full;
+  full-exact = λ m s b rule fuel σ c l v r. (full-there m s b rule fuel σ σ (σ .sim .steps), full-stands m s b fuel σ c rule l v r);
+  full-onward = chain-onward;
+}

@@ -1,0 +1,115 @@
+-- What the first demand says of an operation: "A refusal leaves everything lent or passed as it was. Only the first that applies is given; where none applies,
+-- nothing is refused." And the words in which its refusals are listed. Definitions only.
+use mathlib.Core.Path.{_≡_}
+use mathlib.Core.Bool.{Bool}
+use mathlib.Core.Option.{Option, none, some}
+use mathlib.Core.List.{List, [], _∷_}
+use Prim.Native.Nat.{ℕ}
+use Rattle.laws.specs.Choice.{pick}
+use Rattle.laws.specs.Scan.{firstFail}
+use Rattle.outcome.specs.declared.Refusal.{Refusal}
+use Rattle.outcome.specs.Numbers.{refusalNumber}
+use Rattle.machine.specs.declared.Checked.{Checked}
+use Rattle.machine.specs.declared.Checked.the-variants.{Accepted, Refused}
+use Rattle.machine.specs.declared.Looked.{Looked}
+use Rattle.machine.specs.declared.Looked.the-variants as Looked
+use Rattle.sim.specs.declared.Fresh.{Fresh}
+use Rattle.sim.specs.declared.Fresh.the-variants as New
+use Rattle.sim.specs.declared.Answer.{Answer}
+use Rattle.sim.specs.declared.Answer.the-variants as Ans
+use Rattle.sim.specs.declared.StepAnswer.{StepAnswer}
+use Rattle.sim.specs.declared.StepAnswer.the-variants as StepAns
+use Rattle.sim.specs.declared.questions.Got.{Got}
+use Rattle.sim.specs.declared.questions.Got.the-variants as Got
+use Rattle.sim.specs.declared.questions.Extent.{Extent}
+use Rattle.sim.specs.declared.questions.Extent.the-variants as Extent
+use Rattle.sim.specs.declared.questions.Counted.{Counted}
+use Rattle.sim.specs.declared.questions.Counted.the-variants as Counted
+use Rattle.sim.specs.declared.questions.Located.{Located}
+use Rattle.sim.specs.declared.questions.Located.the-variants as Located
+use Rattle.rle.specs.declared.Fresh as Chain
+use Rattle.rle.specs.declared.Fresh.the-variants as ChainNew
+use Rattle.records.specs.declared.Listed.{Listed}
+use Rattle.records.specs.declared.Listed.the-variants as Listed
+
+-- ---- a list of refusals
+
+-- what an operation asks for, and the refusal where it is not so
+pub record Test : Type 0 where
+  pub holds : Bool
+  pub why : Refusal
+
+abbrev pub or : Bool → Refusal → Test
+or b r = record { holds = b; why = r }
+
+-- "Only the first that applies is given; where none applies, nothing is refused."
+unfoldable pub firstOf : List Test → Checked
+firstOf [] = Accepted
+firstOf (t ∷ rest) = pick (t .holds) (firstOf rest) (Refused (t .why))
+
+-- document 01's numbers of a list's refusals
+unfoldable pub numbersOf : List Test → List ℕ
+numbersOf [] = []
+numbersOf (t ∷ rest) = refusalNumber (t .why) ∷ numbersOf rest
+
+-- "(lowest entry number given)", "(first place given)": of the n numbers from 0 on the lowest of which the test fails; 0 where there is none
+abbrev pub numberOr0 : Option ℕ → ℕ
+numberOr0 none = 0
+numberOr0 (some i) = i
+
+abbrev pub lowest : (ℕ → Bool) → ℕ → ℕ
+lowest test n = numberOr0 (firstFail test n 0)
+
+-- ---- an operation
+
+-- `left` is what the operation leaves: its answer, with every value handed back and everything that was lent for writing. `refusal` reads off the answer whether
+-- it is a refusal. `asItWas why` is the answer that it is refused by `why`, and everything else as it came in.
+pub record TurnsAway {X : Type 0} (numbers : List ℕ) (tests : List Test) (refusal : X → Checked) (asItWas : Refusal → X) (left : X) : Type 0 where
+  -- the refusals have document 01's numbers, in its order
+  pub numbered : numbersOf tests ≡ numbers
+  -- the answer is refused by the first test that fails, and is no refusal where none does
+  pub first : refusal left ≡ firstOf tests
+  -- whatever the refusal, everything is as it came in
+  pub unchanged : (why : Refusal) → refusal left ≡ Refused why → left ≡ asItWas why
+
+-- ---- the refusal in an answer
+
+abbrev pub ofFresh : Fresh → Checked
+ofFresh (New.Made v) = Accepted
+ofFresh (New.Refused why) = Refused why
+
+abbrev pub ofAnswer : Answer → Checked
+ofAnswer (Ans.Done o) = Accepted
+ofAnswer (Ans.Refused why) = Refused why
+
+abbrev pub ofStep : StepAnswer → Checked
+ofStep (StepAns.Done x) = Accepted
+ofStep (StepAns.Refused why) = Refused why
+
+abbrev pub ofGot : Got → Checked
+ofGot (Got.Found x) = Accepted
+ofGot (Got.Refused why) = Refused why
+
+abbrev pub ofExtent : Extent → Checked
+ofExtent (Extent.Found x) = Accepted
+ofExtent (Extent.Refused why) = Refused why
+
+abbrev pub ofCounted : Counted → Checked
+ofCounted (Counted.Found n) = Accepted
+ofCounted (Counted.Refused why) = Refused why
+
+abbrev pub ofLocated : Located → Checked
+ofLocated (Located.Found x) = Accepted
+ofLocated (Located.Refused why) = Refused why
+
+abbrev pub ofLooked : Looked → Checked
+ofLooked (Looked.Found e) = Accepted
+ofLooked (Looked.Refused why) = Refused why
+
+abbrev pub ofChain : Chain.Fresh → Checked
+ofChain (ChainNew.Made v) = Accepted
+ofChain (ChainNew.Refused why) = Refused why
+
+abbrev pub ofListed : Listed → Checked
+ofListed (Listed.Filled n) = Accepted
+ofListed (Listed.Refused why) = Refused why

@@ -1,0 +1,54 @@
+-- What the first demand says of a run that ends for lack of space, and the plain engine's rule of it. Definitions only.
+use mathlib.Core.Path.{_≡_}
+use mathlib.Core.List.{List}
+use Prim.Native.Nat.{ℕ, _+_, _*_, _<_}
+use lib.ListN.{length}
+use Rattle.symbol.specs.declared.Dir.{Dir}
+use Rattle.symbol.specs.declared.Dir.the-variants.{L, R, N}
+use Rattle.machine.specs.declared.Machine.{Machine}
+use Rattle.machine.specs.declared.Action.{Action}
+use Rattle.machine.specs.declared.Entry.the-variants.{Defined}
+use Rattle.turing.specs.TableMachine.{Table, Config, entry, run, outOfFuelAt, Verdict}
+use Rattle.turing.specs.Tables.{tableOf}
+use Rattle.tape.specs.declared.Tape.{Tape}
+use Rattle.tape.specs.Moves.{Held}
+use Rattle.sim.specs.Engine.{Conf, tape0, tape1, tape2}
+use Rattle.sim_refines.specs.Meaning.{configOf}
+
+-- the table machine's verdict there is out of fuel: an entry, and no proved loop
+abbrev pub GoesOn : Machine → Table → Config → Type 0
+GoesOn m d c = Verdict (m .tapes) d c (outOfFuelAt c)
+
+-- "Lack of space stops a run before the step that needs it, earlier steps kept": a run from the configuration `before` that left `after` and answered Full n
+pub record EndsFull (m : Machine) (d : Table) (before after : Config) (fuel n : ℕ) (NextIsFull : Type 0) : Type 0 where
+  pub made : ℕ
+  -- there was fuel for the next step
+  pub within : made < fuel
+  -- n steps are counted, and the configuration is the table machine's after exactly those
+  pub counted : n ≡ before .steps + made
+  pub steps : after .steps ≡ n
+  pub stands : after ≡ run d made before
+  -- it would go on, but that the next step is full by the engine's rule
+  pub going : GoesOn m d after
+  pub next : NextIsFull
+
+-- ---- the plain engine: "Moving off either end doubles the length ..; full exactly when that passes the buffer, on any tape."
+
+abbrev pub OffEnd : Tape → Dir → Type 0
+OffEnd t L = t .head ≡ 0
+OffEnd t R = t .head + 1 ≡ t .len
+OffEnd t N = ⊥
+
+pub record TapeFull (h : Held) (d : Dir) : Type 0 where
+  pub off : OffEnd (h .tape) d
+  pub passes : length (h .cells) < 2 * h .tape .len
+
+pub data OnSomeTape (m : Machine) (σ : Conf) (a : Action) : Type 0 where
+  on0 : TapeFull (tape0 σ) (a .dir0) → OnSomeTape m σ a
+  on1 : 1 < m .tapes → TapeFull (tape1 σ) (a .dir1) → OnSomeTape m σ a
+  on2 : 2 < m .tapes → TapeFull (tape2 σ) (a .dir2) → OnSomeTape m σ a
+
+pub record PlainFull (m : Machine) (s : List ℕ) (σ : Conf) : Type 0 where
+  pub act : Action
+  pub has : entry (tableOf m s) (configOf m σ) ≡ Defined act
+  pub full : OnSomeTape m σ act

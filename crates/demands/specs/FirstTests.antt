@@ -1,0 +1,107 @@
+-- What each operation turns away, in document 01's order. Definitions only.
+use mathlib.Core.List.{List, [], _∷_, _++_}
+use Prim.Native.Nat.{ℕ, _*_, _-_}
+use lib.Dec.{eqb, ltb, leb}
+use lib.ListN.{length}
+use Rattle.laws.specs.Choice.{both}
+use Rattle.laws.specs.Scan.{allIn}
+use Rattle.outcome.specs.declared.Refusal.the-variants as Why
+use Rattle.machine.specs.declared.Machine.{Machine}
+use Rattle.machine.specs.Layout.{entryCount}
+use Rattle.machine.specs.Check.{within, entryOk}
+use Rattle.machine.specs.Word.{symbolIn}
+use Rattle.before.specs.Sizes.{sizesFit, fuelFits, wordsRight, freshSizes}
+use Rattle.sim.specs.Engine as Plain
+use Rattle.sim.specs.Operations.{simFits}
+use Rattle.stacks.specs.Sides.{placesOf}
+use Rattle.rle.specs.Engine as Chain
+use Rattle.rle.specs.Fits.{placesFit, chainFits}
+use Rattle.rle.specs.Operations as Chains
+use Rattle.demands.specs.FirstClaims.{Test, or, lowest}
+
+-- "Table check, first in every operation that takes one: 1 tapes not 1 to 3; 2 symbols not 1 to 256; 3 states not 1 to 65,536; 4 start not below states; 5 table
+-- not 8 × n × k^t bytes; 6 an entry off its layout, or a state or symbol out of range (lowest entry number given)."
+abbrev pub tableTests : Machine → List ℕ → List Test
+tableTests m s =
+    or (within 1 3 (m .tapes)) Why.Tapes
+    ∷ or (within 1 256 (m .symbols)) Why.Symbols
+    ∷ or (within 1 65536 (m .states)) Why.States
+    ∷ or (ltb (m .start) (m .states)) Why.Start
+    ∷ or (eqb (length s) (8 * entryCount m)) Why.TableSize
+    ∷ or (allIn (entryOk m s) (entryCount m) 0) (Why.Entry (lowest (entryOk m s) (entryCount m)))
+    ∷ []
+
+-- "Packing: 7 for several tapes, 18 for too short an output."
+abbrev pub packTests : Machine → List ℕ → (room : ℕ) → List Test
+packTests m s room =
+    tableTests m s
+    ++ or (eqb (m .tapes) 1) Why.PackedWords
+    ∷ or (leb (entryCount m) room) Why.OutputSize
+    ∷ []
+
+-- "9 word over 1,048,576; 10 a word symbol not below k (first place given ..)"
+abbrev pub wordTests : (k : ℕ) → List ℕ → List Test
+wordTests k w =
+    or (leb (length w) 1048576) Why.WordLength
+    ∷ or (allIn (symbolIn k w) (length w) 0) (Why.WordSymbol (lowest (symbolIn k w) (length w)))
+    ∷ []
+
+-- ---- the plain engine
+
+-- "Fresh engine: .. 9 ..; 10 ..; 11 a cells buffer under word + 32 (other tapes 32) or over 2^30"
+abbrev pub plainNewTests : Machine → (s w c0 c1 c2 : List ℕ) → List Test
+plainNewTests m s w c0 c1 c2 =
+    tableTests m s
+    ++ wordTests (m .symbols) w
+    ++ or (freshSizes m (length w) (length c0) (length c1) (length c2)) Why.BufferSize
+    ∷ []
+
+module _ (m : Machine) (s : List ℕ) (σ : Plain.Conf) where
+  -- "11 for the upper sizes; 12 an engine value that doesn't fit"
+  abbrev pub plainSizes : Test
+  plainSizes = or (sizesFit m (length (σ .c0)) (length (σ .c1)) (length (σ .c2))) Why.BufferSize
+
+  abbrev pub plainFits : Test
+  plainFits = or (simFits m (σ .sim) (σ .c0) (σ .c1) (σ .c2)) Why.Misfit
+
+  -- "Step, run, fast run: .. 11 ..; 12 ..; 13 steps + fuel over 2^62 (a step counts as fuel 1)"
+  abbrev pub plainRunTests : (fuel : ℕ) → List Test
+  plainRunTests fuel = tableTests m s ++ plainSizes ∷ plainFits ∷ or (fuelFits (σ .sim .steps) fuel) Why.StepLimit ∷ []
+
+  -- "7 packed words not the table's (fast run; more than one tape also counts)"
+  abbrev pub plainFastTests : (words : List ℕ) → (fuel : ℕ) → List Test
+  plainFastTests words fuel =
+      tableTests m s
+      ++ or (wordsRight m s words) Why.PackedWords
+      ∷ plainSizes ∷ plainFits ∷ or (fuelFits (σ .sim .steps) fuel) Why.StepLimit ∷ []
+
+  -- "Tape questions: 8, 11, 12 (also a tape number not below t)"
+  abbrev pub plainAskTests : (tape : ℕ) → List Test
+  plainAskTests i = tableTests m s ++ plainSizes ∷ or (both (plainFits .holds) (ltb i (m .tapes))) Why.Misfit ∷ []
+
+-- ---- the run-length engine: "8 more than one tape (chain only)"
+
+abbrev pub oneTape : Machine → Test
+oneTape m = or (eqb (m .tapes) 1) Why.SeveralTapes
+
+-- "11 .. fewer right run places than the word's right stack has runs, or a run side over 1,048,576"
+abbrev pub chainNewTests : Machine → (s w ls ll rs rl : List ℕ) → List Test
+chainNewTests m s w ls ll rs rl =
+    tableTests m s
+    ++ oneTape m
+    ∷ wordTests (m .symbols) w
+    ++ or (Chains.freshSizes w (placesOf ls ll) (placesOf rs rl)) Why.BufferSize
+    ∷ []
+
+module _ (m : Machine) (s : List ℕ) (σ : Chain.Conf) where
+  -- "Tape questions: 8, 11, 12"
+  abbrev pub chainAskTests : List Test
+  chainAskTests = tableTests m s ++ oneTape m ∷ or (placesFit σ) Why.BufferSize ∷ or (chainFits m σ) Why.Misfit ∷ []
+
+  -- "then 18 for too short a record slice"
+  abbrev pub chainListTests : (count room : ℕ) → List Test
+  chainListTests count room = chainAskTests ++ or (leb count room) Why.OutputSize ∷ []
+
+  -- ".. 8; 11 for the upper sizes; 12 ..; 13 steps + fuel over 2^62"
+  abbrev pub chainRunTests : (fuel : ℕ) → List Test
+  chainRunTests fuel = chainAskTests ++ or (fuelFits (σ .sim .steps) fuel) Why.StepLimit ∷ []

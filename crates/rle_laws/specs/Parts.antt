@@ -1,0 +1,44 @@
+-- The run-length engine meets the timeline's laws, for one table and so many places. Assumes nothing.
+use mathlib.Core.Path.{_≡_, refl, ap}
+use mathlib.Core.List.{List}
+use Prim.Native.Nat.{ℕ}
+use Rattle.machine.specs.declared.Machine.{Machine}
+use Rattle.turing.specs.TableMachine.{Halted}
+use Rattle.turing.specs.Tables.{tableOf, TableOf}
+use Rattle.turing.specs.RunFacts.{step-halted, not-defined}
+use Rattle.timeline.specs.Parts.{Parts}
+use Rattle.rle_engine.specs.Slots.{bytesFor}
+use Rattle.rle_laws.specs.Family.{Meant, meant, meanOf, nextOf, NoRoom, chainFamily}
+use Rattle.rle_laws.specs.FitFacts.{Fits, advance-fits, advances}
+use Rattle.rle_laws.specs.SlotFacts.{slot-length, slot-back}
+
+module _ (m : Machine) (s : List ℕ) where
+  pub halted-stays : (x : Meant) → Halted (tableOf m s) (x .config) → nextOf m s x ≡ x
+  halted-stays x h = ap (λ c. meant c (x .lefts) (x .rights)) (step-halted (tableOf m s) (x .config) h)
+
+  pub full-runs : (x : Meant) → NoRoom m s x → ¬ Halted (tableOf m s) (x .config)
+  full-runs x f h = not-defined _ (f .act) h (f .has)
+
+  module _ (table : TableOf m (tableOf m s)) (lefts rights : ℕ) where
+    abbrev pub chainParts : Parts chainFamily m s table (bytesFor lefts rights)
+    chainParts = record {
+      Mean = Meant;
+      mean = meanOf;
+      config = λ x. x .config;
+      next = nextOf m s;
+      NoRoom = NoRoom m s;
+      Fits = Fits m s lefts rights;
+      -- a meaning is a configuration with places, and each has its next step
+      Good = λ x. Unit {0};
+      fits-check = λ u f. f .accepted;
+      fits-good = λ u f. tt;
+      now-is = λ u. refl;
+      next-good = λ x g r. tt;
+      next-is = λ x g r. refl;
+      next-stays = λ x g h. halted-stays x h;
+      no-room-runs = λ x g r. full-runs x r;
+      advances = advances m s lefts rights table;
+      advance-fits = advance-fits m s lefts rights table;
+      pack-length = slot-length m s lefts rights;
+      unpack-pack = slot-back m s lefts rights;
+    }

@@ -1,0 +1,68 @@
+// What the timeline's operations test before they begin: the table check, 8, 11, 12 of the engine, then 14, 15 and 13.
+use super::Timeline;
+use machine::Checked;
+use machine::Machine;
+use rle::ChainSim;
+use rle_engine::inner as engine;
+use times::inner as sums;
+ghost use mathlib.Core.Path.{_≡_};
+ghost use Rattle.rle.specs.Engine.{conf};
+ghost use Rattle.times.specs.Timeline.{callCheck, newCheck};
+ghost use Rattle.times.specs.Kind.{opsFor};
+ghost use Rattle.rle_engine.specs.Kind.{chainKind};
+ghost use Rattle.rle_timeline.specs.Worlds.{W};
+
+pub(crate) fn new_check(
+    sim: ChainSim,
+    m: Machine,
+    table: &[u8],
+    ls: &[u8],
+    ll: &[u64],
+    rs: &[u8],
+    rl: &[u64],
+    store: &[u8],
+    most: u64,
+    every: u64,
+) -> Checked
+    ensures { λ r. ⌜ r ≡ newCheck (opsFor chainKind m (now (table .entry)) (conf sim (now (ls .entry)) (now (ll .entry)) (now (rs .entry)) (now (rl .entry)))) most every (conf sim (now (ls .entry)) (now (ll .entry)) (now (rs .entry)) (now (rl .entry))) (now (store .entry)) ⌝ }
+{
+    let checked = sim.engine_check(m, table, ls, ll, rs, rl);
+    match checked {
+        Checked::Refused(why) => {
+            return Checked::Refused(why);
+        }
+        Checked::Accepted => {
+            let size = engine::slot_size(ls, ll, rs, rl);
+            return sums::first_check(most, every, store.len() / size);
+        }
+    }
+}
+
+impl Timeline {
+    pub(crate) fn call_check(
+        self,
+        m: Machine,
+        table: &[u8],
+        ls: &[u8],
+        ll: &[u64],
+        rs: &[u8],
+        rl: &[u64],
+        store: &[u8],
+        target: u64,
+    ) -> Checked
+        ensures { λ r. ⌜ r ≡ callCheck (opsFor chainKind m (now (table .entry)) (conf (self .engine) (now (ls .entry)) (now (ll .entry)) (now (rs .entry)) (now (rl .entry)))) (W self (now (ls .entry)) (now (ll .entry)) (now (rs .entry)) (now (rl .entry)) (now (store .entry))) target ⌝ }
+    {
+        let sim = self.engine;
+        let times = self.times;
+        let checked = sim.engine_check(m, table, ls, ll, rs, rl);
+        match checked {
+            Checked::Refused(why) => {
+                return Checked::Refused(why);
+            }
+            Checked::Accepted => {
+                let size = engine::slot_size(ls, ll, rs, rl);
+                return times.later_check(sim.steps, store.len() / size, target);
+            }
+        }
+    }
+}

@@ -1,0 +1,144 @@
+// A timeline over the run-length engine: seek, forward and back over slots in a lent store.
+use machine::Checked;
+use machine::Machine;
+use outcome::Refusal;
+use rle::ChainSim;
+use rle_engine::inner as engine;
+use sim::Answer;
+use times::Times;
+use times::inner as sums;
+ghost use mathlib.Core.Path.{_≡_};
+ghost use Rattle.rle.specs.Engine.{conf};
+ghost use Rattle.times.specs.Timeline.{seek, forward, back};
+ghost use Rattle.times.specs.Kind.{callOn, newWith};
+ghost use Rattle.rle_engine.specs.Kind.{chainKind};
+ghost use Rattle.rle_timeline.specs.Worlds.{W, replied, begun};
+
+mod checks;
+mod moves;
+mod turns;
+
+// The engine's value and the timeline's own numbers. The table, the engine's buffers and the store of slots are lent to
+// each call.
+pub struct Timeline {
+    pub engine: ChainSim,
+    pub times: Times,
+}
+
+// The timeline handed back, with the answer.
+pub struct Answered {
+    pub timeline: Timeline,
+    pub answer: Answer,
+}
+
+// A new timeline, or why there is none.
+pub enum Begun {
+    Made(Timeline),
+    Refused(Refusal),
+}
+
+impl Timeline {
+    // Saves the engine in slot 0: at most `most` slots are kept, `every` steps apart at first.
+    pub fn new(
+        engine: ChainSim,
+        m: Machine,
+        table: &[u8],
+        ls: &[u8],
+        ll: &[u64],
+        rs: &[u8],
+        rl: &[u64],
+        store: &mut [u8],
+        most: u64,
+        every: u64,
+    ) -> Begun
+        ensures { λ r. ⌜ begun r (now (ls .entry)) (now (ll .entry)) (now (rs .entry)) (now (rl .entry)) (now (store .exit)) ≡ newWith chainKind m (now (table .entry)) most every (conf engine (now (ls .entry)) (now (ll .entry)) (now (rs .entry)) (now (rl .entry))) (now (store .entry)) ⌝ }
+    {
+        let checked = checks::new_check(engine, m, table, ls, ll, rs, rl, store, most, every);
+        match checked {
+            Checked::Refused(why) => {
+                return Begun::Refused(why);
+            }
+            Checked::Accepted => {
+                let size = engine::slot_size(ls, ll, rs, rl);
+                turns::save_at(engine, m, ls, ll, rs, rl, store, size, 0);
+                let times = Times {
+                    most,
+                    first: engine.steps,
+                    count: 1,
+                    every,
+                };
+                return Begun::Made(Timeline { engine, times });
+            }
+        }
+    }
+
+    // Moves to the step `target`, or as far as the machine runs where it halts earlier; a target below the start counts as
+    // the start.
+    pub fn seek(
+        self,
+        m: Machine,
+        table: &[u8],
+        ls: &mut [u8],
+        ll: &mut [u64],
+        rs: &mut [u8],
+        rl: &mut [u64],
+        store: &mut [u8],
+        target: u64,
+    ) -> Answered
+        ensures { λ r. ⌜ replied (r .answer) (W (r .timeline) (now (ls .exit)) (now (ll .exit)) (now (rs .exit)) (now (rl .exit)) (now (store .exit))) ≡ callOn chainKind m (now (table .entry)) (W self (now (ls .entry)) (now (ll .entry)) (now (rs .entry)) (now (rl .entry)) (now (store .entry))) (seek target) ⌝ }
+    {
+        let checked = self.call_check(m, table, ls, ll, rs, rl, store, target);
+        match checked {
+            Checked::Refused(why) => {
+                return Answered {
+                    timeline: self,
+                    answer: Answer::Refused(why),
+                };
+            }
+            Checked::Accepted => {
+                let size = engine::slot_size(ls, ll, rs, rl);
+                let times = self.times;
+                let goal = sums::max(target, times.first);
+                return self.go_to(m, table, ls, ll, rs, rl, store, size, goal);
+            }
+        }
+    }
+
+    // Moves n steps forward.
+    pub fn forward(
+        self,
+        m: Machine,
+        table: &[u8],
+        ls: &mut [u8],
+        ll: &mut [u64],
+        rs: &mut [u8],
+        rl: &mut [u64],
+        store: &mut [u8],
+        n: u64,
+    ) -> Answered
+        ensures { λ r. ⌜ replied (r .answer) (W (r .timeline) (now (ls .exit)) (now (ll .exit)) (now (rs .exit)) (now (rl .exit)) (now (store .exit))) ≡ callOn chainKind m (now (table .entry)) (W self (now (ls .entry)) (now (ll .entry)) (now (rs .entry)) (now (rl .entry)) (now (store .entry))) (forward n) ⌝ }
+    {
+        let sim = self.engine;
+        let target = sums::forward_to(sim.steps, n);
+        self.seek(m, table, ls, ll, rs, rl, store, target)
+    }
+
+    // Moves n steps back, to step 0 at most.
+    pub fn back(
+        self,
+        m: Machine,
+        table: &[u8],
+        ls: &mut [u8],
+        ll: &mut [u64],
+        rs: &mut [u8],
+        rl: &mut [u64],
+        store: &mut [u8],
+        n: u64,
+    ) -> Answered
+        ensures { λ r. ⌜ replied (r .answer) (W (r .timeline) (now (ls .exit)) (now (ll .exit)) (now (rs .exit)) (now (rl .exit)) (now (store .exit))) ≡ callOn chainKind m (now (table .entry)) (W self (now (ls .entry)) (now (ll .entry)) (now (rs .entry)) (now (rl .entry)) (now (store .entry))) (back n) ⌝ }
+    {
+        let sim = self.engine;
+        let target = sums::back_to(sim.steps, n);
+        self.seek(m, table, ls, ll, rs, rl, store, target)
+    }
+}

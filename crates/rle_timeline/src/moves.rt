@@ -1,0 +1,135 @@
+// Where an accepted call goes: on from where the engine stands, back to a slot and on from there, or nowhere.
+use super::Answered;
+use super::Timeline;
+use machine::Machine;
+use outcome::Refusal;
+use rle_engine::inner as engine;
+use rle_engine::inner::Found;
+use sim::Answer;
+use times::Times;
+ghost use mathlib.Core.Path.{_≡_};
+ghost use Rattle.rle.specs.Engine.{conf};
+ghost use Rattle.times.specs.Timeline.{goOn, goBack, goTo};
+ghost use Rattle.times.specs.Kind.{opsOf};
+ghost use Rattle.times.specs.Sound.{LoopOk, GoOk, rewindOf};
+ghost use Rattle.rle_engine.specs.Kind.{chainKind};
+ghost use Rattle.rle_engine.specs.Code.{restored, restoredOn};
+ghost use Rattle.rle_timeline.specs.Worlds.{Fits, W, replied};
+
+impl Timeline {
+    fn go_on(
+        self,
+        m: Machine,
+        table: &[u8],
+        ls: &mut [u8],
+        ll: &mut [u64],
+        rs: &mut [u8],
+        rl: &mut [u64],
+        store: &mut [u8],
+        size: usize,
+        target: u64,
+    ) -> Answered
+        requires { ⌜ LoopOk chainKind size (Fits m (now table) size) target (W self (now ls) (now ll) (now rs) (now rl) (now store)) ⌝ }
+        ensures { λ r. ⌜ replied (r .answer) (W (r .timeline) (now (ls .exit)) (now (ll .exit)) (now (rs .exit)) (now (rl .exit)) (now (store .exit))) ≡ goOn (opsOf chainKind m (now (table .entry)) size) target (W self (now (ls .entry)) (now (ll .entry)) (now (rs .entry)) (now (rl .entry)) (now (store .entry))) ⌝ }
+    {
+        let sought = self.advance_to(m, table, ls, ll, rs, rl, store, size, target);
+        let timeline = sought.timeline;
+        let outcome = sought.outcome;
+        Answered {
+            timeline,
+            answer: Answer::Done(outcome),
+        }
+    }
+
+    // Restores the slot to go back to; nothing is written where it holds no fitting engine of its step.
+    fn rewind(
+        self,
+        m: Machine,
+        table: &[u8],
+        ls: &mut [u8],
+        ll: &mut [u64],
+        rs: &mut [u8],
+        rl: &mut [u64],
+        store: &[u8],
+        size: usize,
+        target: u64,
+    ) -> Found
+        requires { ⌜ GoOk chainKind size (Fits m (now table) size) target (W self (now ls) (now ll) (now rs) (now rl) (now store)) ⌝ }
+        ensures { λ r. ⌜ restored r (now (ls .exit)) (now (ll .exit)) (now (rs .exit)) (now (rl .exit)) ≡ restoredOn (rewindOf chainKind m (now (table .entry)) size target (W self (now (ls .entry)) (now (ll .entry)) (now (rs .entry)) (now (rl .entry)) (now (store .entry)))) (conf (self .engine) (now (ls .entry)) (now (ll .entry)) (now (rs .entry)) (now (rl .entry))) ⌝ }
+    {
+        let times = self.times;
+        let sim = self.engine;
+        let i = times.slot_for(target);
+        let step = times.first + i * times.every;
+        let at = (i as usize) * size;
+        let end = at + size;
+        engine::restore(m, &store[at..end], step, ls, ll, rs, rl)
+    }
+
+    fn go_back(
+        self,
+        m: Machine,
+        table: &[u8],
+        ls: &mut [u8],
+        ll: &mut [u64],
+        rs: &mut [u8],
+        rl: &mut [u64],
+        store: &mut [u8],
+        size: usize,
+        target: u64,
+    ) -> Answered
+        requires { ⌜ GoOk chainKind size (Fits m (now table) size) target (W self (now ls) (now ll) (now rs) (now rl) (now store)) ⌝ }
+        ensures { λ r. ⌜ replied (r .answer) (W (r .timeline) (now (ls .exit)) (now (ll .exit)) (now (rs .exit)) (now (rl .exit)) (now (store .exit))) ≡ goBack (opsOf chainKind m (now (table .entry)) size) target (W self (now (ls .entry)) (now (ll .entry)) (now (rs .entry)) (now (rl .entry)) (now (store .entry))) ⌝ }
+    {
+        let times = self.times;
+        let found = self.rewind(m, table, ls, ll, rs, rl, store, size, target);
+        match found {
+            Found::Nothing => {
+                return Answered {
+                    timeline: self,
+                    answer: Answer::Refused(Refusal::Slot),
+                };
+            }
+            Found::Holds(engine) => {
+                let there = Timeline { engine, times };
+                return there.go_on(m, table, ls, ll, rs, rl, store, size, target);
+            }
+        }
+    }
+
+    pub(crate) fn go_to(
+        self,
+        m: Machine,
+        table: &[u8],
+        ls: &mut [u8],
+        ll: &mut [u64],
+        rs: &mut [u8],
+        rl: &mut [u64],
+        store: &mut [u8],
+        size: usize,
+        target: u64,
+    ) -> Answered
+        requires { ⌜ GoOk chainKind size (Fits m (now table) size) target (W self (now ls) (now ll) (now rs) (now rl) (now store)) ⌝ }
+        ensures { λ r. ⌜ replied (r .answer) (W (r .timeline) (now (ls .exit)) (now (ll .exit)) (now (rs .exit)) (now (rl .exit)) (now (store .exit))) ≡ goTo (opsOf chainKind m (now (table .entry)) size) target (W self (now (ls .entry)) (now (ll .entry)) (now (rs .entry)) (now (rl .entry)) (now (store .entry))) ⌝ }
+    {
+        let sim = self.engine;
+        let times = self.times;
+        let here = sim.steps;
+        if target == here {
+            let told = engine::advance(sim, m, table, ls, ll, rs, rl, 0);
+            let next = told.sim;
+            let outcome = told.outcome;
+            return Answered {
+                timeline: Timeline {
+                    engine: next,
+                    times,
+                },
+                answer: Answer::Done(outcome),
+            };
+        }
+        if target < here {
+            return self.go_back(m, table, ls, ll, rs, rl, store, size, target);
+        }
+        self.go_on(m, table, ls, ll, rs, rl, store, size, target)
+    }
+}

@@ -1,0 +1,174 @@
+// The loop that goes forward: a turn records the engine where a slot is due, and advances.
+use super::Timeline;
+use machine::Machine;
+use outcome::Outcome;
+use rle::ChainSim;
+use rle_engine::inner as engine;
+use rle_engine::inner::Advanced;
+use times::Times;
+ghost use mathlib.Core.Path.{_≡_};
+ghost use Rattle.rle.specs.Engine.{conf};
+ghost use Rattle.times.specs.Timeline.{recordDue};
+ghost use Rattle.times.specs.Kind.{opsOf};
+ghost use Rattle.slots.specs.Slots.{slotOf, putSlot};
+ghost use Rattle.times.specs.Sound.{RecOk, LoopOk, strideOf, wayOf, TurnSays, LoopInv};
+ghost use Rattle.rle_engine.specs.Slots.{packOf};
+ghost use Rattle.rle_engine.specs.Kind.{chainKind};
+ghost use Rattle.rle_timeline.specs.Worlds.{SaveAt, StrideAt, Fits, W, tl};
+
+// Where a turn came to, how its advance ended, and whether it is the last.
+pub(crate) struct Turn {
+    pub timeline: Timeline,
+    pub outcome: Outcome,
+    pub done: bool,
+}
+
+// Where the loop ended, and how.
+pub(crate) struct Sought {
+    pub timeline: Timeline,
+    pub outcome: Outcome,
+}
+
+// The engine into slot i of the store.
+pub(crate) fn save_at(
+    sim: ChainSim,
+    m: Machine,
+    ls: &[u8],
+    ll: &[u64],
+    rs: &[u8],
+    rl: &[u64],
+    store: &mut [u8],
+    size: usize,
+    i: usize,
+)
+    requires { ⌜ SaveAt m (conf sim (now ls) (now ll) (now rs) (now rl)) size i (now store) ⌝ }
+    ensures { λ _. ⌜ now (store .exit) ≡ putSlot size i (packOf m (conf sim (now (ls .entry)) (now (ll .entry)) (now (rs .entry)) (now (rl .entry))) (slotOf size i (now (store .entry)))) (now (store .entry)) ⌝ }
+{
+    let at = i * size;
+    let end = at + size;
+    engine::save(sim, ls, ll, rs, rl, &mut store[at..end]);
+}
+
+// An advance to the target, or to where the next slot is due.
+fn stride(
+    sim: ChainSim,
+    m: Machine,
+    table: &[u8],
+    ls: &mut [u8],
+    ll: &mut [u64],
+    rs: &mut [u8],
+    rl: &mut [u64],
+    times: Times,
+    target: u64,
+) -> Advanced
+    requires { ⌜ StrideAt m (now table) target times (conf sim (now ls) (now ll) (now rs) (now rl)) ⌝ }
+    ensures { λ r. ⌜ (r .outcome, conf (r .sim) (now (ls .exit)) (now (ll .exit)) (now (rs .exit)) (now (rl .exit))) ≡ strideOf chainKind m (now (table .entry)) target times (conf sim (now (ls .entry)) (now (ll .entry)) (now (rs .entry)) (now (rl .entry))) ⌝ }
+{
+    let steps = sim.steps;
+    let stop = times.stop(target, steps);
+    engine::advance(sim, m, table, ls, ll, rs, rl, stop - steps)
+}
+
+impl Timeline {
+    // Records the engine where a slot is due. The engine and its buffers stay.
+    fn record_due(
+        self,
+        m: Machine,
+        table: &[u8],
+        ls: &[u8],
+        ll: &[u64],
+        rs: &[u8],
+        rl: &[u64],
+        store: &mut [u8],
+        size: usize,
+    ) -> Times
+        requires { ⌜ RecOk chainKind size (Fits m (now table) size) (W self (now ls) (now ll) (now rs) (now rl) (now store)) ⌝ }
+        ensures { λ r. ⌜ W (tl (self .engine) r) (now (ls .entry)) (now (ll .entry)) (now (rs .entry)) (now (rl .entry)) (now (store .exit)) ≡ recordDue (opsOf chainKind m (now (table .entry)) size) (W self (now (ls .entry)) (now (ll .entry)) (now (rs .entry)) (now (rl .entry)) (now (store .entry))) ⌝ }
+    {
+        let sim = self.engine;
+        let times = self.times;
+        if !times.is_due(sim.steps) {
+            return times;
+        }
+        save_at(sim, m, ls, ll, rs, rl, store, size, times.count as usize);
+        times.recorded(store, size)
+    }
+
+    // One turn of the loop. It is the last at the target, or where the engine does not move: halted or full.
+    fn turn(
+        self,
+        m: Machine,
+        table: &[u8],
+        ls: &mut [u8],
+        ll: &mut [u64],
+        rs: &mut [u8],
+        rl: &mut [u64],
+        store: &mut [u8],
+        size: usize,
+        target: u64,
+    ) -> Turn
+        requires { ⌜ LoopOk chainKind size (Fits m (now table) size) target (W self (now ls) (now ll) (now rs) (now rl) (now store)) ⌝ }
+        ensures { λ r. ⌜ TurnSays chainKind m (now (table .entry)) size (Fits m (now (table .entry)) size) target (W self (now (ls .entry)) (now (ll .entry)) (now (rs .entry)) (now (rl .entry)) (now (store .entry))) (r .outcome) (r .done) (W (r .timeline) (now (ls .exit)) (now (ll .exit)) (now (rs .exit)) (now (rl .exit)) (now (store .exit))) ⌝ }
+    {
+        let sim = self.engine;
+        let before = sim.steps;
+        let times = self.record_due(m, table, ls, ll, rs, rl, store, size);
+        let went = stride(sim, m, table, ls, ll, rs, rl, times, target);
+        let outcome = went.outcome;
+        let next = went.sim;
+        let reached = next.steps;
+        let timeline = Timeline {
+            engine: next,
+            times,
+        };
+        if target <= reached {
+            return Turn {
+                timeline,
+                outcome,
+                done: true,
+            };
+        }
+        if reached == before {
+            return Turn {
+                timeline,
+                outcome,
+                done: true,
+            };
+        }
+        Turn {
+            timeline,
+            outcome,
+            done: false,
+        }
+    }
+
+    pub(crate) fn advance_to(
+        self,
+        m: Machine,
+        table: &[u8],
+        ls: &mut [u8],
+        ll: &mut [u64],
+        rs: &mut [u8],
+        rl: &mut [u64],
+        store: &mut [u8],
+        size: usize,
+        target: u64,
+    ) -> Sought
+        requires { ⌜ LoopOk chainKind size (Fits m (now table) size) target (W self (now ls) (now ll) (now rs) (now rl) (now store)) ⌝ }
+        ensures { λ r. ⌜ (r .outcome, W (r .timeline) (now (ls .exit)) (now (ll .exit)) (now (rs .exit)) (now (rl .exit)) (now (store .exit))) ≡ wayOf chainKind m (now (table .entry)) size target (W self (now (ls .entry)) (now (ll .entry)) (now (rs .entry)) (now (rl .entry)) (now (store .entry))) ⌝ }
+    {
+        let mut timeline = self;
+        loop {
+            let turn = timeline.turn(m, table, ls, ll, rs, rl, store, size, target);
+            let next = turn.timeline;
+            if turn.done {
+                let outcome = turn.outcome;
+                return Sought {
+                    timeline: next,
+                    outcome,
+                };
+            }
+            timeline = next;
+        }
+    }
+}

@@ -1,0 +1,10 @@
+pub mod Advance
+pub mod Slots
+pub mod Kind
+pub mod SlotBytes
+pub mod RoundTrip
+pub mod Kept
+pub mod AdvanceFacts
+pub mod Code
+pub mod AdvanceCases
+pub mod SlotCases

@@ -1,0 +1,75 @@
+-- The engines of one list: those that pass the check, with buffers as long as the fresh engine's. An advance and a slot lead from one to another. Assumes nothing.
+use mathlib.Core.Path.{_≡_, sym, ap, _∙_}
+use mathlib.Core.List.{List}
+use mathlib.Core.Option.{some}
+use Prim.Native.Nat.{ℕ, _+_, _≤_}
+use lib.ListN.{length}
+use Rattle.symbol.specs.declared.State.{State}
+use Rattle.machine.specs.declared.Machine.{Machine}
+use Rattle.machine.specs.declared.Checked.the-variants.{Accepted}
+use Rattle.sim.specs.Engine.{Conf}
+use Rattle.sim.specs.Operations.{engineCheck}
+use Rattle.sim.specs.OperationCases.{engine-says}
+use Rattle.sim_engine.specs.Advance.{advanceOf}
+use Rattle.sim_engine.specs.Slots.{sizeOf, slotSize, packOf, unpackOf}
+use Rattle.sim_engine.specs.RoundTrip.{SameSizes, InBuffers, pack-length, unpack-pack}
+use Rattle.sim_engine.specs.AdvanceFacts.{advance-fits, advance-length0, advance-length1, advance-length2}
+use Rattle.sim_laws.specs.Family.{meanOf}
+use Rattle.sim_laws.specs.MeanFacts.{same-mean}
+
+-- u passes the check of every operation, and its buffers are as long as those of e
+pub record FitsLike (m : Machine) (s : List ℕ) (e u : Conf) : Type 0 where
+  pub accepted : engineCheck m s u ≡ Accepted
+  pub same0 : length (u .c0) ≡ length (e .c0)
+  pub same1 : length (u .c1) ≡ length (e .c1)
+  pub same2 : length (u .c2) ≡ length (e .c2)
+
+module _ (m : Machine) (s : List ℕ) (e : Conf) where
+  -- a slot is then as large
+  pub same-slot : (u : Conf) → FitsLike m s e u → slotSize m u ≡ slotSize m e
+  same-slot u f = λ i. sizeOf m (f .same0 i) (f .same1 i) (f .same2 i)
+
+  pub advanced-fits : (n : ℕ) (u : Conf) → FitsLike m s e u → u .sim .steps + n ≤ 4611686018427387904 → FitsLike m s e (advanceOf m s n u .1)
+  advanced-fits n u f small = record {
+    accepted = advance-fits m s n u (f .accepted) small;
+    same0 = advance-length0 m s n u (f .accepted) small ∙ f .same0;
+    same1 = advance-length1 m s n u (f .accepted) small ∙ f .same1;
+    same2 = advance-length2 m s n u (f .accepted) small ∙ f .same2;
+  }
+
+  -- what was packed fills the slot
+  pub packed-fills : (u : Conf) (old : List ℕ) → FitsLike m s e u → length old ≡ slotSize m e → length (packOf m u old) ≡ slotSize m e
+  packed-fills u old f long = pack-length m u old (engine-says m s u (f .accepted) .fits) (long ∙ sym (same-slot u f)) ∙ same-slot u f
+
+  -- and is unpacked into the buffers of t with the same meaning
+  module _ (u t : Conf) (old : List ℕ) (fu : FitsLike m s e u) (ft : FitsLike m s e t) where
+    same-sizes : SameSizes m u t
+    same-sizes = record {
+      same0 = ft .same0 ∙ sym (fu .same0);
+      same1 = λ h. ft .same1 ∙ sym (fu .same1);
+      same2 = λ h. ft .same2 ∙ sym (fu .same2);
+    }
+
+    kept-mean : (v : Conf) → InBuffers m s u t v → meanOf m v ≡ meanOf m u
+    kept-mean v b = same-mean m v u (record {
+      state = ap (λ (q : State). q .0) (b .state);
+      steps = b .steps;
+      alike0 = record { numbers = b .numbers0; cells = b .cells0; room = b .length0 ∙ same-sizes .same0 };
+      alike1 = λ h. record { numbers = b .numbers1 h; cells = b .cells1 h; room = b .length1 ∙ same-sizes .same1 h };
+      alike2 = λ h. record { numbers = b .numbers2 h; cells = b .cells2 h; room = b .length2 ∙ same-sizes .same2 h };
+    })
+
+    kept-fits : (v : Conf) → InBuffers m s u t v → FitsLike m s e v
+    kept-fits v b = record {
+      accepted = b .checked;
+      same0 = b .length0 ∙ ft .same0;
+      same1 = b .length1 ∙ ft .same1;
+      same2 = b .length2 ∙ ft .same2;
+    }
+
+    pub packed-back : length old ≡ slotSize m e
+        → (v : Conf) × (unpackOf m (packOf m u old) (meanOf m u .config .steps) t ≡ some v) × (meanOf m v ≡ meanOf m u) × FitsLike m s e v
+    unfolding meanOf
+    packed-back long =
+        let r = unpack-pack m s u t old (fu .accepted) (ft .accepted) same-sizes (long ∙ sym (same-slot u fu)) in
+        (r .0, r .1, kept-mean (r .0) (r .2), kept-fits (r .0) (r .2))

@@ -1,0 +1,10 @@
+pub mod Family
+pub mod Examples
+pub mod ExtentFacts
+pub mod StepFacts
+pub mod AdvanceFacts
+pub mod MeanFacts
+pub mod FitFacts
+pub mod FreshFacts
+pub mod Parts
+pub mod Instance

@@ -1,0 +1,74 @@
+-- Engines of the same meaning: what stands past the tapes' lengths, and the tapes that the machine lacks, are no part of it. Assumes nothing.
+use mathlib.Core.Path.{_≡_, refl, sym, ap, _∙_}
+use mathlib.Core.Bool.{Bool, true, false}
+use mathlib.Core.List.{List}
+use Prim.Native.Nat.{ℕ, _<_}
+use lib.IntN.{ℤ}
+use lib.ListN.{length, take, getD}
+use lib.Seq.{getD-take}
+use Rattle.machine.specs.declared.Machine.{Machine}
+use Rattle.turing.specs.NeverFacts.{tape-≡}
+use Rattle.tape.specs.declared.Tape.{Tape}
+use Rattle.tape.specs.Moves.{Held, held}
+use Rattle.tape.specs.Questions.{cellOf}
+use Rattle.tape.specs.CellPlaces.{Place, below, inside, past, place, cell-in, cell-below, cell-past}
+use Rattle.sim.specs.Engine.{Conf, tape0, tape1, tape2}
+use Rattle.sim_refines.specs.Meaning.{tapeOf, has, tapeIf}
+use Rattle.sim_laws.specs.Family.{extentOf, extentIf, meanOf}
+
+-- ---- one tape: the same numbers, the same cells up to its length, and a buffer of the same length
+
+pub record Alike (g h : Held) : Type 0 where
+  pub numbers : g .tape ≡ h .tape
+  pub cells : take (h .tape .len) (g .cells) ≡ take (h .tape .len) (h .cells)
+  pub room : length (g .cells) ≡ length (h .cells)
+
+live-tape : (t : Tape) (c d : List ℕ) → take (t .len) c ≡ take (t .len) d → tapeOf (held t c) ≡ tapeOf (held t d)
+live-tape t c d e = tape-≡ (tapeOf (held t c)) (tapeOf (held t d)) (λ z. by z (place (t .origin) (t .len) z)) refl refl refl
+  where
+    same : (i : ℕ) → i < t .len → getD c i 0 ≡ getD d i 0
+    same i l = sym (getD-take (t .len) c i 0 l) ∙ ap (λ x. getD x i 0) e ∙ getD-take (t .len) d i 0 l
+
+    by : (z : ℤ) → Place (t .origin) (t .len) z → cellOf (held t c) z ≡ cellOf (held t d) z
+    by z (below b) = cell-below _ _ _ z b ∙ sym (cell-below _ _ _ z b)
+    by z (past b) = cell-past _ _ _ z b ∙ sym (cell-past _ _ _ z b)
+    by z (inside i b q) = cell-in _ _ _ z i b q ∙ same i b ∙ sym (cell-in _ _ _ z i b q)
+
+module _ (g h : Held) (a : Alike g h) where
+  alike-tape : tapeOf g ≡ tapeOf h
+  alike-tape = ap (λ t. tapeOf (held t (g .cells))) (a .numbers) ∙ live-tape (h .tape) (g .cells) (h .cells) (a .cells)
+
+  alike-extent : extentOf g ≡ extentOf h
+  alike-extent = λ i. record { len = a .numbers i .len; head = a .numbers i .head; buffer = a .room i }
+
+tape-if : (b : Bool) (g h : Held) → (b ≡ true → Alike g h) → tapeIf b g ≡ tapeIf b h
+tape-if true g h a = alike-tape g h (a refl)
+tape-if false g h a = refl
+
+extent-if : (b : Bool) (g h : Held) → (b ≡ true → Alike g h) → extentIf b g ≡ extentIf b h
+extent-if true g h a = alike-extent g h (a refl)
+extent-if false g h a = refl
+
+-- ---- two engines
+
+pub record AlikeOn (m : Machine) (v u : Conf) : Type 0 where
+  pub state : v .sim .state .0 ≡ u .sim .state .0
+  pub steps : v .sim .steps ≡ u .sim .steps
+  pub alike0 : Alike (tape0 v) (tape0 u)
+  pub alike1 : has m 1 ≡ true → Alike (tape1 v) (tape1 u)
+  pub alike2 : has m 2 ≡ true → Alike (tape2 v) (tape2 u)
+
+pub same-mean : (m : Machine) (v u : Conf) → AlikeOn m v u → meanOf m v ≡ meanOf m u
+unfolding meanOf
+same-mean m v u a = λ i. record {
+  config = record {
+    state = a .state i;
+    steps = a .steps i;
+    tape0 = alike-tape (tape0 v) (tape0 u) (a .alike0) i;
+    tape1 = tape-if (has m 1) (tape1 v) (tape1 u) (a .alike1) i;
+    tape2 = tape-if (has m 2) (tape2 v) (tape2 u) (a .alike2) i;
+  };
+  extent0 = alike-extent (tape0 v) (tape0 u) (a .alike0) i;
+  extent1 = extent-if (has m 1) (tape1 v) (tape1 u) (a .alike1) i;
+  extent2 = extent-if (has m 2) (tape2 v) (tape2 u) (a .alike2) i;
+}

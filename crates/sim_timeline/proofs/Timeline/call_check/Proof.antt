@@ -1,0 +1,48 @@
+use Rattle.times.specs.CallCases.{call-check, call-later}
+use Rattle.sim_timeline.specs.CodeCases.{sizes-in, low-in}
+use Rattle.sim_engine.specs.Kind.{plainKind}
+use borrow.Author.Needs.{needs}
+use Rattle.sim_timeline.proofs.Timeline.call_check.Statement.{statement}
+use Rattle.sim_timeline.proofs.Timeline.call_check.Tie as tie
+use Rattle.sim_timeline.proofs.Timeline.call_check.Reads as reads
+use Rattle.sim_timeline.proofs.Timeline.call_check.Lts as lts
+use Rattle.sim.proofs.Simulator.engine_check.Reads as engine-check-reads
+use Rattle.sim_engine.proofs.inner.slot_size.Reads as slot-size-reads
+use Rattle.times.proofs.Times.later_check.Reads as later-check-reads
+
+engine-check-requires : tie.Need-engine-check-requires
+engine-check-requires c κs = search needs
+
+enum-known-checked : tie.Need-enum-known-checked
+enum-known-checked c = search needs
+
+returns : tie.Need-returns
+returns c = call-check plainKind _ _ _ _ _ _ _ _ (c .before .before .before .engine-check .ensures) _ (c .before .checked .given .1)
+
+enum-told : tie.Need-enum-told
+enum-told c = search needs
+
+slot-size-requires : tie.Need-slot-size-requires
+slot-size-requires c κs = sizes-in _ _ _ _ (c .before .before .engine-check .ensures) (c .enum-told .given .1)
+
+div-later-check : tie.Need-div-later-check
+div-later-check c = search needs
+
+later-check-requires : tie.Need-later-check-requires
+later-check-requires c κs = low-in _ _ _ _ (c .before .before .before .engine-check .ensures) (c .before .enum-told .given .1)
+
+returns-2 : tie.Need-returns-2
+returns-2 c = call-later plainKind _ _ _ _ _ _ _ _ (c .before .before .before .before .engine-check .ensures) _ _ (c .before .slot-size .ensures) (c .before .before .enum-told .given .1) (c .later-check .ensures)
+
+pub call-check-spec : {M : Type 1} → statement M
+call-check-spec =
+    tie.close
+    (tie.spec
+    engine-check-requires
+    enum-known-checked
+    returns
+    enum-told
+    slot-size-requires
+    div-later-check
+    later-check-requires
+    returns-2)

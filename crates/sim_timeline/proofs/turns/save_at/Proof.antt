@@ -1,0 +1,47 @@
+use Rattle.times.specs.TurnCases.{saved-is}
+use Rattle.sim_timeline.specs.CodeCases.{save-asks}
+use Rattle.sim_engine.specs.Kind.{plainKind}
+use native.Mathlib.Omega.{arith}
+use borrow.Author.Needs.{needs}
+use Rattle.sim_timeline.proofs.turns.save_at.Statement.{statement}
+use Rattle.sim_timeline.proofs.turns.save_at.Tie as tie
+use Rattle.sim_timeline.proofs.turns.save_at.Reads as reads
+use Rattle.sim_timeline.proofs.turns.save_at.Lts as lts
+use Rattle.sim_engine.proofs.inner.save.Reads as save-reads
+
+mul-at : tie.Need-mul-at
+mul-at c = search needs
+
+add-end : tie.Need-add-end
+add-end c = search needs
+
+sub-save : tie.Need-sub-save
+sub-save c = search needs
+
+part-save-start : tie.Need-part-save-start
+part-save-start c = search needs
+
+part-save-end : tie.Need-part-save-end
+part-save-end c = search needs
+
+save-requires : tie.Need-save-requires
+save-requires c κs = save-asks _ _ _ _ _ (c .before .before .before .before .before .pre)
+
+same-length : tie.Need-same-length
+same-length c = search needs
+
+returns : tie.Need-returns
+returns c = saved-is plainKind _ _ _ _ _ _ (c .before .before .save .ensures) (omega (arith, c .before .before .save .kept)) (c .before .before .before .before .before .before .before .before .pre .inside)
+
+pub save-at-spec : {M : Type 1} → statement M
+save-at-spec =
+    tie.close
+    (tie.spec
+    mul-at
+    add-end
+    sub-save
+    part-save-start
+    part-save-end
+    save-requires
+    same-length
+    returns)

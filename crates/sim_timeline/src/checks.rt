@@ -1,0 +1,66 @@
+// What the timeline's operations test before they begin: the table check, 11, 12 of the engine, then 14, 15 and 13.
+use super::Timeline;
+use machine::Checked;
+use machine::Machine;
+use sim::Simulator;
+use sim_engine::inner as engine;
+use times::inner as sums;
+ghost use mathlib.Core.Path.{_≡_};
+ghost use Rattle.sim.specs.Engine.{conf};
+ghost use Rattle.times.specs.Timeline.{callCheck, newCheck};
+ghost use Rattle.times.specs.Kind.{opsFor};
+ghost use Rattle.sim_engine.specs.Kind.{plainKind};
+ghost use Rattle.sim_timeline.specs.Worlds.{W};
+
+pub(crate) fn new_check(
+    sim: Simulator,
+    m: Machine,
+    table: &[u8],
+    c0: &[u8],
+    c1: &[u8],
+    c2: &[u8],
+    store: &[u8],
+    most: u64,
+    every: u64,
+) -> Checked
+    ensures { λ r. ⌜ r ≡ newCheck (opsFor plainKind m (now (table .entry)) (conf sim (now (c0 .entry)) (now (c1 .entry)) (now (c2 .entry)))) most every (conf sim (now (c0 .entry)) (now (c1 .entry)) (now (c2 .entry))) (now (store .entry)) ⌝ }
+{
+    let checked = sim.engine_check(m, table, c0, c1, c2);
+    match checked {
+        Checked::Refused(why) => {
+            return Checked::Refused(why);
+        }
+        Checked::Accepted => {
+            let size = engine::slot_size(m, c0.len(), c1.len(), c2.len());
+            return sums::first_check(most, every, store.len() / size);
+        }
+    }
+}
+
+impl Timeline {
+    pub(crate) fn call_check(
+        self,
+        m: Machine,
+        table: &[u8],
+        c0: &[u8],
+        c1: &[u8],
+        c2: &[u8],
+        store: &[u8],
+        target: u64,
+    ) -> Checked
+        ensures { λ r. ⌜ r ≡ callCheck (opsFor plainKind m (now (table .entry)) (conf (self .engine) (now (c0 .entry)) (now (c1 .entry)) (now (c2 .entry)))) (W self (now (c0 .entry)) (now (c1 .entry)) (now (c2 .entry)) (now (store .entry))) target ⌝ }
+    {
+        let sim = self.engine;
+        let times = self.times;
+        let checked = sim.engine_check(m, table, c0, c1, c2);
+        match checked {
+            Checked::Refused(why) => {
+                return Checked::Refused(why);
+            }
+            Checked::Accepted => {
+                let size = engine::slot_size(m, c0.len(), c1.len(), c2.len());
+                return times.later_check(sim.steps, store.len() / size, target);
+            }
+        }
+    }
+}

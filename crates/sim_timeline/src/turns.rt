@@ -1,0 +1,169 @@
+// The loop that goes forward: a turn records the engine where a slot is due, and advances.
+use super::Timeline;
+use machine::Machine;
+use outcome::Outcome;
+use sim::Simulator;
+use sim_engine::inner as engine;
+use sim_engine::inner::Advanced;
+use times::Times;
+ghost use mathlib.Core.Path.{_≡_};
+ghost use Rattle.sim.specs.Engine.{conf};
+ghost use Rattle.times.specs.Timeline.{recordDue};
+ghost use Rattle.times.specs.Kind.{opsOf};
+ghost use Rattle.slots.specs.Slots.{slotOf, putSlot};
+ghost use Rattle.times.specs.Sound.{RecOk, LoopOk, strideOf, wayOf, TurnSays, LoopInv};
+ghost use Rattle.sim_engine.specs.Slots.{packOf};
+ghost use Rattle.sim_engine.specs.Kind.{plainKind};
+ghost use Rattle.sim_timeline.specs.Worlds.{SaveAt, StrideAt, Fits, W, tl};
+
+// Where a turn came to, how its advance ended, and whether it is the last.
+pub(crate) struct Turn {
+    pub timeline: Timeline,
+    pub outcome: Outcome,
+    pub done: bool,
+}
+
+// Where the loop ended, and how.
+pub(crate) struct Sought {
+    pub timeline: Timeline,
+    pub outcome: Outcome,
+}
+
+// The engine into slot i of the store.
+pub(crate) fn save_at(
+    sim: Simulator,
+    m: Machine,
+    c0: &[u8],
+    c1: &[u8],
+    c2: &[u8],
+    store: &mut [u8],
+    size: usize,
+    i: usize,
+)
+    requires { ⌜ SaveAt m (conf sim (now c0) (now c1) (now c2)) size i (now store) ⌝ }
+    ensures { λ _. ⌜ now (store .exit) ≡ putSlot size i (packOf m (conf sim (now (c0 .entry)) (now (c1 .entry)) (now (c2 .entry))) (slotOf size i (now (store .entry)))) (now (store .entry)) ⌝ }
+{
+    let at = i * size;
+    let end = at + size;
+    engine::save(sim, m, c0, c1, c2, &mut store[at..end]);
+}
+
+// An advance to the target, or to where the next slot is due.
+fn stride(
+    sim: Simulator,
+    m: Machine,
+    table: &[u8],
+    c0: &mut [u8],
+    c1: &mut [u8],
+    c2: &mut [u8],
+    times: Times,
+    target: u64,
+) -> Advanced
+    requires { ⌜ StrideAt m (now table) target times (conf sim (now c0) (now c1) (now c2)) ⌝ }
+    ensures { λ r. ⌜ (r .outcome, conf (r .sim) (now (c0 .exit)) (now (c1 .exit)) (now (c2 .exit))) ≡ strideOf plainKind m (now (table .entry)) target times (conf sim (now (c0 .entry)) (now (c1 .entry)) (now (c2 .entry))) ⌝ }
+{
+    let steps = sim.steps;
+    let stop = times.stop(target, steps);
+    engine::advance(sim, m, table, c0, c1, c2, stop - steps)
+}
+
+impl Timeline {
+    // Records the engine where a slot is due. The engine and its buffers stay.
+    fn record_due(
+        self,
+        m: Machine,
+        table: &[u8],
+        c0: &[u8],
+        c1: &[u8],
+        c2: &[u8],
+        store: &mut [u8],
+        size: usize,
+    ) -> Times
+        requires { ⌜ RecOk plainKind size (Fits m (now table) size) (W self (now c0) (now c1) (now c2) (now store)) ⌝ }
+        ensures { λ r. ⌜ W (tl (self .engine) r) (now (c0 .entry)) (now (c1 .entry)) (now (c2 .entry)) (now (store .exit)) ≡ recordDue (opsOf plainKind m (now (table .entry)) size) (W self (now (c0 .entry)) (now (c1 .entry)) (now (c2 .entry)) (now (store .entry))) ⌝ }
+    {
+        let sim = self.engine;
+        let times = self.times;
+        if !times.is_due(sim.steps) {
+            return times;
+        }
+        save_at(sim, m, c0, c1, c2, store, size, times.count as usize);
+        times.recorded(store, size)
+    }
+
+    // One turn of the loop. It is the last at the target, or where the engine does not move: halted or full.
+    fn turn(
+        self,
+        m: Machine,
+        table: &[u8],
+        c0: &mut [u8],
+        c1: &mut [u8],
+        c2: &mut [u8],
+        store: &mut [u8],
+        size: usize,
+        target: u64,
+    ) -> Turn
+        requires { ⌜ LoopOk plainKind size (Fits m (now table) size) target (W self (now c0) (now c1) (now c2) (now store)) ⌝ }
+        ensures { λ r. ⌜ TurnSays plainKind m (now (table .entry)) size (Fits m (now (table .entry)) size) target (W self (now (c0 .entry)) (now (c1 .entry)) (now (c2 .entry)) (now (store .entry))) (r .outcome) (r .done) (W (r .timeline) (now (c0 .exit)) (now (c1 .exit)) (now (c2 .exit)) (now (store .exit))) ⌝ }
+    {
+        let sim = self.engine;
+        let before = sim.steps;
+        let times = self.record_due(m, table, c0, c1, c2, store, size);
+        let went = stride(sim, m, table, c0, c1, c2, times, target);
+        let outcome = went.outcome;
+        let next = went.sim;
+        let reached = next.steps;
+        let timeline = Timeline {
+            engine: next,
+            times,
+        };
+        if target <= reached {
+            return Turn {
+                timeline,
+                outcome,
+                done: true,
+            };
+        }
+        if reached == before {
+            return Turn {
+                timeline,
+                outcome,
+                done: true,
+            };
+        }
+        Turn {
+            timeline,
+            outcome,
+            done: false,
+        }
+    }
+
+    pub(crate) fn advance_to(
+        self,
+        m: Machine,
+        table: &[u8],
+        c0: &mut [u8],
+        c1: &mut [u8],
+        c2: &mut [u8],
+        store: &mut [u8],
+        size: usize,
+        target: u64,
+    ) -> Sought
+        requires { ⌜ LoopOk plainKind size (Fits m (now table) size) target (W self (now c0) (now c1) (now c2) (now store)) ⌝ }
+        ensures { λ r. ⌜ (r .outcome, W (r .timeline) (now (c0 .exit)) (now (c1 .exit)) (now (c2 .exit)) (now (store .exit))) ≡ wayOf plainKind m (now (table .entry)) size target (W self (now (c0 .entry)) (now (c1 .entry)) (now (c2 .entry)) (now (store .entry))) ⌝ }
+    {
+        let mut timeline = self;
+        loop {
+            let turn = timeline.turn(m, table, c0, c1, c2, store, size, target);
+            let next = turn.timeline;
+            if turn.done {
+                let outcome = turn.outcome;
+                return Sought {
+                    timeline: next,
+                    outcome,
+                };
+            }
+            timeline = next;
+        }
+    }
+}

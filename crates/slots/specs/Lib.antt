@@ -1,0 +1,5 @@
+pub mod Bytes
+pub mod ByteFacts
+pub mod Slots
+pub mod SlotFacts
+pub mod LoopCases

@@ -1,0 +1,43 @@
+-- The table machine as the timeline's proofs see it, and its run from a start. Definitions only.
+use mathlib.Core.Path.{_≡_}
+use Prim.Native.Nat.{ℕ, zero, suc}
+
+-- n times f
+unfoldable pub iterate : {A : Type 0} → (A → A) → ℕ → A → A
+iterate f zero a = a
+iterate f (suc n) a = f (iterate f n a)
+
+-- `step` leaves a halted configuration as it is, so `iterate step n c` is the configuration after n steps or at the halt
+pub record Automaton : Type 1 where
+  pub Config : Type 0
+  pub Out : Type 0
+  pub steps : Config → ℕ
+  pub step : Config → Config
+  pub Halted : Config → Type 0
+  pub Verdict : Config → Out → Type 0
+  -- the answers that tell of lack of space, and those that say never
+  pub Full : Out → Type 0
+  pub Never : Out → Type 0
+  -- the step count that an answer gives
+  pub counted : Out → ℕ
+  -- what a run can be in: the tapes that the machine lacks are blank
+  pub Real : Config → Type 0
+  -- laws
+  pub real-step : (c : Config) → Real c → Real (step c)
+  pub halted? : (c : Config) → Dec (Halted c)
+  pub stays : (c : Config) → Halted c → step c ≡ c
+  pub adds : (c : Config) → ¬ Halted c → steps (step c) ≡ suc (steps c)
+  pub one-verdict : (c : Config) (o p : Out) → Verdict c o → Verdict c p → o ≡ p
+  pub verdict-counts : (c : Config) (o : Out) → Verdict c o → counted o ≡ steps c
+  pub verdict-not-full : (c : Config) (o : Out) → Verdict c o → ¬ Full o
+  pub never-halts : (c : Config) (o : Out) → Real c → Verdict c o → Never o → (n : ℕ) → ¬ Halted (iterate step n c)
+
+-- the word's configuration
+pub record Start (M : Automaton) : Type 0 where
+  pub config : M .Config
+  pub zero : M .steps config ≡ 0
+  pub real : M .Real config
+
+-- the configuration after n steps, run without limits
+unfoldable pub run : {M : Automaton} → Start M → ℕ → M .Config
+run {M} S n = iterate (M .step) n (S .config)

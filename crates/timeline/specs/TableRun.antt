@@ -1,0 +1,82 @@
+-- The table machine of document 01 as the timeline's abstract machine, with the word's configuration as its start. Assumes nothing.
+use Prim.Native.Nat.{ℕ, zero, suc}
+use mathlib.Core.Path.{_≡_, refl, sym, ap, _∙_, subst}
+use mathlib.Core.List.{List}
+use Rattle.outcome.specs.declared.Outcome.{Outcome}
+use Rattle.outcome.specs.declared.Outcome.the-variants as Out
+use Rattle.outcome.specs.Numbers.{stepsOf}
+use Rattle.machine.specs.declared.Machine.{Machine}
+use Rattle.turing.specs.TableMachine.{Table, Config, step, run, Halted, Verdict, halts, stays, walks, goes, start}
+use Rattle.turing.specs.Tables.{tableOf, TableOf}
+use Rattle.turing.specs.RunFacts.{run-suc, step-halted, step-steps, dec-halted}
+use Rattle.turing.specs.VerdictFacts.{verdict-unique}
+use Rattle.turing.specs.NeverFacts.{Bare, bare-start, bare-step, never-sound-bare}
+use Rattle.timeline.specs.Automaton.{Automaton, Start, iterate}
+
+abbrev pub IsFull : Outcome → Type 0
+IsFull (Out.Halted n q) = ⊥
+IsFull (Out.OutOfFuel n) = ⊥
+IsFull (Out.NeverHalts n p) = ⊥
+IsFull (Out.Stopped n) = ⊥
+IsFull (Out.Full n) = Unit {0}
+
+abbrev pub IsNever : Outcome → Type 0
+IsNever (Out.Halted n q) = ⊥
+IsNever (Out.OutOfFuel n) = ⊥
+IsNever (Out.NeverHalts n p) = Unit {0}
+IsNever (Out.Stopped n) = ⊥
+IsNever (Out.Full n) = ⊥
+
+module _ (t : ℕ) (d : Table) (c : Config) where
+  pub verdict-counts : (o : Outcome) → Verdict t d c o → stepsOf o ≡ c .steps
+  verdict-counts o (halts h) = refl
+  verdict-counts o (stays a h r) = refl
+  verdict-counts o (walks a x h r) = refl
+  verdict-counts o (goes a h r u) = refl
+
+  pub verdict-not-full : (o : Outcome) → Verdict t d c o → ¬ IsFull o
+  verdict-not-full o (halts h) = λ f. f
+  verdict-not-full o (stays a h r) = λ f. f
+  verdict-not-full o (walks a x h r) = λ f. f
+  verdict-not-full o (goes a h r u) = λ f. f
+
+pub iterate-run : (d : Table) (n : ℕ) (c : Config) → iterate (step d) n c ≡ run d n c
+unfolding iterate run
+iterate-run d zero c = refl
+iterate-run d (suc n) c = ap (step d) (iterate-run d n c) ∙ sym (run-suc d n c)
+
+module _ (m : Machine) (s : List ℕ) (table : TableOf m (tableOf m s)) where
+  pub never-on : (c : Config) (o : Outcome) → Bare (m .tapes) c → Verdict (m .tapes) (tableOf m s) c o → IsNever o → (n : ℕ) → ¬ Halted (tableOf m s) (iterate (step (tableOf m s)) n c)
+  never-on c o b v u n = subst (λ x. ¬ Halted (tableOf m s) x) (sym (iterate-run (tableOf m s) n c)) (by o v u)
+    where
+      by : (o : Outcome) → Verdict (m .tapes) (tableOf m s) c o → IsNever o → ¬ Halted (tableOf m s) (run (tableOf m s) n c)
+      by (Out.Halted k q) v u = absurd u
+      by (Out.OutOfFuel k) v u = absurd u
+      by (Out.NeverHalts k p) v u = never-sound-bare m (tableOf m s) table c b k p v n
+      by (Out.Stopped k) v u = absurd u
+      by (Out.Full k) v u = absurd u
+
+  abbrev pub machine : Automaton
+  machine = record {
+    Config = Config;
+    Out = Outcome;
+    steps = λ c. c .steps;
+    step = step (tableOf m s);
+    Halted = Halted (tableOf m s);
+    Verdict = Verdict (m .tapes) (tableOf m s);
+    Full = IsFull;
+    Never = IsNever;
+    counted = stepsOf;
+    Real = Bare (m .tapes);
+    real-step = bare-step m (tableOf m s) table;
+    halted? = dec-halted (tableOf m s);
+    stays = step-halted (tableOf m s);
+    adds = step-steps (tableOf m s);
+    one-verdict = verdict-unique (m .tapes) (tableOf m s);
+    verdict-counts = verdict-counts (m .tapes) (tableOf m s);
+    verdict-not-full = verdict-not-full (m .tapes) (tableOf m s);
+    never-halts = never-on;
+  }
+
+  abbrev pub wordStart : List ℕ → Start machine
+  wordStart w = record { config = start (m .start) w; zero = refl; real = bare-start (m .tapes) (m .start) w }

@@ -1,0 +1,23 @@
+use Rattle.times.specs.CallCases.{first-settings, first-store, first-passed}
+use borrow.Author.Tests.{not-true, not-false}
+use borrow.Author.Needs.{needs}
+use Rattle.times.proofs.inner.first_check.Statement.{statement}
+use Rattle.times.proofs.inner.first_check.Tie as tie
+use Rattle.times.proofs.inner.first_check.Reads as reads
+use Rattle.times.proofs.inner.first_check.Lts as lts
+use Rattle.times.proofs.new_ok.Reads as new-ok-reads
+
+new-ok-requires : tie.Need-new-ok-requires
+new-ok-requires c κs = search needs
+
+returns : tie.Need-returns
+returns c = search (first-settings, not-true)
+
+returns-2 : tie.Need-returns-2
+returns-2 c = search (first-store, not-false)
+
+returns-3 : tie.Need-returns-3
+returns-3 c = search (first-passed, not-false)
+
+pub first-check-spec : {M : Type 1} → statement M
+first-check-spec = tie.close (tie.spec new-ok-requires returns returns-2 returns-3)

@@ -1,0 +1,9 @@
+pub mod Ops
+pub mod Timeline
+pub mod Due
+pub mod DueCases
+pub mod Kind
+pub mod Code
+pub mod Sound
+pub mod TurnCases
+pub mod CallCases
