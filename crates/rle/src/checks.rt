@@ -11,7 +11,7 @@ ghost use lib.ListN.{length};
 ghost use Rattle.laws.specs.Choice.{pick};
 ghost use Rattle.stacks.specs.Sides.{side, placesOf, cellsOf};
 ghost use Rattle.rle.specs.Engine.{conf};
-ghost use Rattle.rle.specs.Fits.{sideFits, headFits, reachFits, countsFit, chainFits, placesFit, valueCheck, engineCheck, runCheck};
+ghost use Rattle.rle.specs.Fits.{sideFits, chainFits, valueCheck, engineCheck, runCheck};
 
 // How many cells a side has, at most `most`; `most + 1` where it does not fit.
 fn measure(symbols: &[u8], lengths: &[u64], count: usize, places: usize, k: u64, most: u64) -> u64
@@ -28,55 +28,6 @@ fn measure(symbols: &[u8], lengths: &[u64], count: usize, places: usize, k: u64,
 }
 
 impl ChainSim {
-    fn counts_fit(self, m: Machine) -> bool
-        ensures { λ r. ⌜ r ≡ countsFit m self ⌝ }
-    {
-        let tape = self.tape;
-        let state = self.state.0 as u64;
-        let cur = tape.cur as u64;
-        if m.states <= state {
-            return false;
-        }
-        if 4611686018427387904 < self.steps {
-            return false;
-        }
-        if self.steps < self.macros {
-            return false;
-        }
-        cur < m.symbols
-    }
-
-    fn head_fits(self) -> bool
-        requires { ⌜ self .steps ≤ 4611686018427387904 ⌝ }
-        ensures { λ r. ⌜ r ≡ headFits self ⌝ }
-    {
-        let tape = self.tape;
-        if tape.head < self.lowest {
-            return false;
-        }
-        if self.highest < tape.head {
-            return false;
-        }
-        if self.lowest < 9223372036854775808 - self.steps {
-            return false;
-        }
-        self.highest <= 9223372036854775808 + self.steps
-    }
-
-    // Whether the furthest cell of each side is near enough to position 0.
-    fn reach_fits(self, lefts: u64, rights: u64) -> bool
-        requires { ⌜ self .steps ≤ 4611686018427387904 ⌝ }
-        requires { ⌜ (lefts ≤ self .steps + 1048576) × (rights ≤ self .steps + 1048576) ⌝ }
-        ensures { λ r. ⌜ r ≡ reachFits self lefts rights ⌝ }
-    {
-        let tape = self.tape;
-        let most = self.steps + 1048576;
-        if tape.head < 9223372036854775808 - (most - lefts) {
-            return false;
-        }
-        tape.head <= 9223372036854775808 + (most - rights)
-    }
-
     pub fn fits(self, m: Machine, ls: &[u8], ll: &[u64], rs: &[u8], rl: &[u64]) -> bool
         ensures { λ r. ⌜ r ≡ chainFits m (conf self (now (ls .entry)) (now (ll .entry)) (now (rs .entry)) (now (rl .entry))) ⌝ }
     {

@@ -1,4 +1,6 @@
 // The steps of the engine's operations, which ask that its live runs have places and that its counts are in bounds.
+pub mod fits;
+
 use super::ChainSim;
 use super::RunTape;
 use machine::Action;

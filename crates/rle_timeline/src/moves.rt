@@ -1,10 +1,10 @@
 // Where an accepted call goes: on from where the engine stands, back to a slot and on from there, or nowhere.
 use super::Answered;
 use super::Timeline;
-use machine::Machine;
-use outcome::Refusal;
 use rle_engine::inner as engine;
 use rle_engine::inner::Found;
+use machine::Machine;
+use outcome::Refusal;
 use sim::Answer;
 use times::Times;
 ghost use mathlib.Core.Path.{_≡_};
@@ -13,7 +13,8 @@ ghost use Rattle.times.specs.Timeline.{goOn, goBack, goTo};
 ghost use Rattle.times.specs.Kind.{opsOf};
 ghost use Rattle.times.specs.Sound.{LoopOk, GoOk, rewindOf};
 ghost use Rattle.rle_engine.specs.Kind.{chainKind};
-ghost use Rattle.rle_engine.specs.Code.{restored, restoredOn};
+ghost use Rattle.rle_engine.specs.Slots.{lent};
+ghost use Rattle.rle_engine.specs.Restored.{restored, restoredBy};
 ghost use Rattle.rle_timeline.specs.Worlds.{Fits, W, replied};
 
 impl Timeline {
@@ -55,7 +56,7 @@ impl Timeline {
         target: u64,
     ) -> Found
         requires { ⌜ GoOk chainKind size (Fits m (now table) size) target (W self (now ls) (now ll) (now rs) (now rl) (now store)) ⌝ }
-        ensures { λ r. ⌜ restored r (now (ls .exit)) (now (ll .exit)) (now (rs .exit)) (now (rl .exit)) ≡ restoredOn (rewindOf chainKind m (now (table .entry)) size target (W self (now (ls .entry)) (now (ll .entry)) (now (rs .entry)) (now (rl .entry)) (now (store .entry)))) (conf (self .engine) (now (ls .entry)) (now (ll .entry)) (now (rs .entry)) (now (rl .entry))) ⌝ }
+        ensures { λ r. ⌜ restored r (lent (now (ls .exit)) (now (ll .exit)) (now (rs .exit)) (now (rl .exit))) ≡ restoredBy (rewindOf chainKind m (now (table .entry)) size target (W self (now (ls .entry)) (now (ll .entry)) (now (rs .entry)) (now (rl .entry)) (now (store .entry)))) (lent (now (ls .entry)) (now (ll .entry)) (now (rs .entry)) (now (rl .entry))) ⌝ }
     {
         let times = self.times;
         let sim = self.engine;

@@ -1,0 +1,12 @@
+pub mod Advance
+pub mod Slots
+pub mod Kind
+pub mod Restored
+pub mod NumberFacts
+pub mod LiveFacts
+pub mod PackFacts
+pub mod RoundTrip
+pub mod AdvanceFacts
+pub mod AdvanceCases
+pub mod UnpackFacts
+pub mod SlotCases

@@ -1,0 +1,3 @@
+pub mod Worlds
+pub mod EngineFacts
+pub mod CodeCases
