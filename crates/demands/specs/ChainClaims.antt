@@ -11,8 +11,7 @@ use Rattle.turing.specs.TableMachine.{entry, Sideways, outOfFuelAt, Verdict}
 use Rattle.turing.specs.Tables.{tableOf}
 use Rattle.sim.specs.Engine.{Task}
 use Rattle.stacks.specs.Sides.{placesOf, aheadOf}
-use Rattle.rle.specs.declared.inner.Leap.{Leap}
-use Rattle.rle.specs.Engine.{Conf, leapOf, runOf}
+use Rattle.rle.specs.Engine.{Conf, leapOf, runOf, Leap}
 use Rattle.rle_refines.specs.Meaning.{configOf}
 use Rattle.rle_refines.specs.Full.{FullAt}
 use Rattle.rle_refines.specs.Statement.{tableIn, Went}

@@ -27,12 +27,7 @@ use Rattle.sim.specs.declared.StopRule.the-variants.{Never}
 use Rattle.sim.specs.declared.Answer.the-variants as Ans
 use Rattle.sim.specs.Engine.{Task, task, entryOf, matches}
 use Rattle.stacks.specs.Sides.{aheadOf}
-use Rattle.rle.specs.declared.inner.Sure.{Sure}
-use Rattle.rle.specs.declared.inner.Sure.the-variants.{Open, Loops}
-use Rattle.rle.specs.declared.inner.Leap.{Leap}
-use Rattle.rle.specs.declared.inner.Plan.{Plan}
-use Rattle.rle.specs.declared.inner.Plan.the-variants.{Stop, Go}
-use Rattle.rle.specs.Engine.{Conf, leftOf, rightOf, sureOf, chainFor, repeatsOf, leap, spaceOf, fuelOf, neverOf, planOn, planOf, leapOf, End, end, runOf}
+use Rattle.rle.specs.Engine.{Conf, leftOf, rightOf, sureOf, chainFor, repeatsOf, leap, spaceOf, fuelOf, neverOf, planOn, planOf, leapOf, End, end, runOf, Sure, Open, Loops, Leap, Plan, Stop, Go}
 use Rattle.rle.specs.Fits.{runCheck}
 use Rattle.rle.specs.Operations.{given, runOn, runAnswer}
 use Rattle.rle_refines.specs.Meaning.{configOf, Alike}

@@ -29,9 +29,7 @@ use Rattle.sim.specs.declared.questions.Counted.the-variants as Counted
 use Rattle.sim.specs.Engine.{task, matches}
 use Rattle.rle.specs.declared.ChainSim.{ChainSim}
 use Rattle.rle.specs.declared.Fresh.the-variants as New
-use Rattle.rle.specs.declared.inner.Leap.{Leap}
-use Rattle.rle.specs.declared.inner.Plan.the-variants.{Go}
-use Rattle.rle.specs.Engine.{Conf, conf, planOf, runOf}
+use Rattle.rle.specs.Engine.{Conf, conf, planOf, runOf, Leap, Go}
 use Rattle.rle.specs.Fits.{engineCheck, runCheck}
 use Rattle.rle.specs.Operations.{given, runAnswer, made, newAnswer}
 use Rattle.rle.specs.Questions.{getAnswer, extentAnswer, countAnswer, windowInto}

@@ -7,6 +7,7 @@ use Rattle.laws.specs.Choice.{pick, both}
 use Rattle.symbol.specs.declared.State.{State}
 use Rattle.symbol.specs.declared.Dir.{Dir}
 use Rattle.symbol.specs.declared.Dir.the-variants.{L, R, N}
+use Rattle.outcome.specs.declared.NonHaltProof.{NonHaltProof}
 use Rattle.outcome.specs.declared.NonHaltProof.the-variants.{StayLoop, ChainToInfinity}
 use Rattle.outcome.specs.declared.Outcome.{Outcome}
 use Rattle.outcome.specs.declared.Outcome.the-variants.{Halted, OutOfFuel, NeverHalts, Stopped, Full}
@@ -15,13 +16,10 @@ use Rattle.machine.specs.declared.Entry.{Entry}
 use Rattle.machine.specs.declared.Entry.the-variants.{Undefined, Defined}
 use Rattle.sim.specs.declared.StopRule.{StopRule}
 use Rattle.sim.specs.Engine.{Task, entryOf, matches}
-use Rattle.stacks.specs.Sides.{Side, side, placesOf, topOf, aheadOf, pushOf, lacks, takeOf}
+use Rattle.stacks.specs.Sides.{Side, side, placesOf}
 use Rattle.rle.specs.declared.ChainSim.{ChainSim}
-use Rattle.rle.specs.declared.inner.Sure.{Sure}
-use Rattle.rle.specs.declared.inner.Sure.the-variants.{Open, Loops}
-use Rattle.rle.specs.declared.inner.Leap.{Leap}
-use Rattle.rle.specs.declared.inner.Plan.{Plan}
-use Rattle.rle.specs.declared.inner.Plan.the-variants.{Stop, Go}
+pub use Rattle.spans.specs.Leaps.{Carried, carried}
+unfoldable pub use Rattle.spans.specs.Leaps.{chainFor, fullFor, carryOf}
 
 -- ---- the engine's value with its four slices: symbols and lengths of the left side, then of the right
 
@@ -43,6 +41,23 @@ rightOf σ = side (σ .rs) (σ .rl) (σ .sim .tape .right)
 
 -- ---- what comes next: "halted, never, fuel", "the stop rule .. after fuel and before space", space, a macro step
 
+-- a macro step: an entry of one tape, made so many times in a row
+pub record Leap : Type 0 where
+  pub write : ℕ
+  pub dir : Dir
+  pub next : State
+  pub repeats : ℕ
+
+-- the run's end, or a macro step
+pub data Plan : Type 0 where
+  Stop : Outcome → Plan
+  Go : Leap → Plan
+
+-- whether an entry is a proved loop
+pub data Sure : Type 0 where
+  Open : Sure
+  Loops : NonHaltProof → Sure
+
 -- a loop that is proved: the entry keeps the state, and stays and rewrites what it read, or walks from a blank into blanks
 abbrev pub walkOf : State → Dir → (cur runs : ℕ) → Sure
 walkOf q d cur n = pick (both (eqb cur 0) (eqb n 0)) (Loops (ChainToInfinity q d)) Open
@@ -55,22 +70,10 @@ patternOf q N w cur l r = pick (eqb w cur) (Loops (StayLoop q)) Open
 unfoldable pub sureOf : State → Action → (cur lefts rights : ℕ) → Sure
 sureOf q a cur l r = pick (eqb (a .next .0) (q .0)) (patternOf q (a .dir0) (a .write0 .0) cur l r) Open
 
--- "it is the run ahead (a top run of the symbol read) plus one, or the fuel if less"
-unfoldable pub chainFor : Dir → (cur fuel : ℕ) → (left right : Side) → ℕ
-chainFor L cur fuel l r = min (aheadOf cur l + 1) fuel
-chainFor R cur fuel l r = min (aheadOf cur r + 1) fuel
-chainFor N cur fuel l r = 1
-
 -- "A macro step is one step; where the entry keeps the state and moves, ..; a proved loop covers all the fuel."
 unfoldable pub repeatsOf : Sure → State → Action → (cur fuel : ℕ) → (left right : Side) → ℕ
 repeatsOf Open q a cur fuel l r = pick (eqb (a .next .0) (q .0)) (chainFor (a .dir0) cur fuel l r) 1
 repeatsOf (Loops p) q a cur fuel l r = fuel
-
--- "Full exactly when the step's push needs a new run on a side whose live runs fill its lent places."
-unfoldable pub fullFor : Dir → (write leftPlaces rightPlaces : ℕ) → (left right : Side) → Bool
-fullFor L w lp rp l r = lacks rp w r
-fullFor R w lp rp l r = lacks lp w l
-fullFor N w lp rp l r = false
 
 abbrev pub leap : Action → ℕ → Leap
 leap a n = record { write = a .write0 .0; dir = a .dir0; next = a .next; repeats = n }
@@ -102,19 +105,6 @@ planOf k fuel σ =
     planOn (entryOf (k .machine) (k .table) (σ .sim .state) (σ .sim .tape .cur) 0 0) (k .proves) (k .rule) fuel σ
 
 -- ---- a macro step
-
--- n cells are written behind the head, and n taken from the side ahead, the last of them under the head
-pub record Carried : Type 0 where
-  pub behind : Side
-  pub cur : ℕ
-  pub ahead : Side
-
-abbrev pub carried : Side → ℕ → Side → Carried
-carried b c a = record { behind = b; cur = c; ahead = a }
-
-unfoldable pub carryOf : (write n : ℕ) → (behind ahead : Side) → Carried
-carryOf w n b a =
-    carried (pushOf w n b) (topOf (takeOf (n - 1) a)) (takeOf 1 (takeOf (n - 1) a))
 
 -- "`macro_steps` adds one a macro step"
 abbrev pub landed : Leap → Conf → (head cur : ℕ) → (left right : Side) → Conf

@@ -11,16 +11,13 @@ use Rattle.machine.specs.declared.Checked.the-variants.{Accepted}
 use Rattle.machine.specs.Check.{demand, checkedOn, tableCheck}
 use Rattle.sim.specs.Operations.{stepsMost, fuelFits}
 use Rattle.stacks.specs.Sides.{Side, placesOf, runsFit, cellsOf}
+pub use Rattle.spans.specs.Words.{slack}
 use Rattle.rle.specs.declared.ChainSim.{ChainSim}
 use Rattle.rle.specs.Engine.{Conf, leftOf, rightOf}
 
 -- position 0, raised
 abbrev pub zeroAt : ℕ
 zeroAt = 9223372036854775808
-
--- a word's most symbols, and a side's most places
-abbrev pub slack : ℕ
-slack = 1048576
 
 -- "the stack rule, each side's sum .. at most steps + 2^20", and its live runs in its places
 unfoldable pub sideFits : (k places most : ℕ) → Side → Bool

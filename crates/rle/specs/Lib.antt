@@ -2,7 +2,6 @@ pub mod Engine
 pub mod Turns
 pub mod Fits
 pub mod FitsCases
-pub mod FreshCases
 pub mod OperationCases
 pub mod QuestionCases
 pub mod RecordCases

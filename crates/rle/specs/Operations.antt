@@ -1,27 +1,23 @@
 -- The run-length engine's operations: what they answer, and what they leave in the lent places. Definitions only.
-use mathlib.Core.Bool.{Bool, true}
+use mathlib.Core.Bool.{true}
 use mathlib.Core.List.{List}
-use Prim.Native.Nat.{ℕ, zero, suc, _+_, _-_}
-use lib.Dec.{eqb, leb}
+use Prim.Native.Nat.{ℕ, _-_}
 use lib.ListN.{length, getD}
-use Rattle.laws.specs.Choice.{pick, both}
 use Rattle.symbol.specs.Kinds.{stateOf}
-use Rattle.outcome.specs.declared.Refusal.the-variants as Why
 use Rattle.machine.specs.declared.Machine.{Machine}
 use Rattle.machine.specs.declared.Checked.{Checked}
 use Rattle.machine.specs.declared.Checked.the-variants.{Accepted, Refused}
-use Rattle.machine.specs.Check.{demand, checkedOn, tableCheck}
-use Rattle.machine.specs.Word.{wordCheck}
 use Rattle.sim.specs.declared.StopRule.{StopRule}
 use Rattle.sim.specs.declared.Answer.{Answer}
 use Rattle.sim.specs.declared.Answer.the-variants as Ans
 use Rattle.sim.specs.Engine.{task}
-use Rattle.stacks.specs.Sides.{Side, side, placesOf, pushOf}
+use Rattle.stacks.specs.Sides.{Side, side, placesOf}
+unfoldable pub use Rattle.spans.specs.Words.{laidOf, runsOf, freshSizes, freshCheck}
 use Rattle.rle.specs.declared.ChainSim.{ChainSim}
 use Rattle.rle.specs.declared.Fresh.{Fresh}
 use Rattle.rle.specs.declared.Fresh.the-variants as New
 use Rattle.rle.specs.Engine.{Conf, End, runOf}
-use Rattle.rle.specs.Fits.{zeroAt, slack, runCheck}
+use Rattle.rle.specs.Fits.{zeroAt, runCheck}
 
 -- ---- the run: an answer, with the engine and the places as they are left
 
@@ -39,29 +35,7 @@ runOn Accepted σ e = given (e .at) (Ans.Done (e .outcome))
 unfoldable pub runAnswer : Machine → List ℕ → StopRule → ℕ → Conf → Given
 runAnswer m s rule fuel σ = runOn (runCheck m s fuel σ) σ (runOf (task m s true rule) fuel σ)
 
--- ---- a fresh engine: the table check, 8, the word's 9 and 10, then 11
-
--- symbols n to 1 of the word are pushed, in this order
-unfoldable pub laidOf : List ℕ → ℕ → Side → Side
-laidOf w zero x = x
-laidOf w (suc n) x = laidOf w n (pushOf (getD w (suc n) 0) 1 x)
-
--- how many runs that makes of a side of `count` with symbol `top` on top
-unfoldable pub runsOf : List ℕ → ℕ → (top count : ℕ) → ℕ
-runsOf w zero top count = count
-runsOf w (suc n) top count =
-    let s : ℕ = getD w (suc n) 0 in
-    pick (eqb s top) (runsOf w n top count) (runsOf w n s (count + 1))
-
--- "fewer right run places than the word's right stack has runs, or a run side over 1,048,576"
-unfoldable pub freshSizes : List ℕ → (lefts rights : ℕ) → Bool
-freshSizes w l r = both (leb l slack) (both (leb r slack) (leb (runsOf w (length w - 1) 0 0) r))
-
-unfoldable pub freshCheck : Machine → (s w : List ℕ) → (lefts rights : ℕ) → Checked
-freshCheck m s w l r =
-    checkedOn (tableCheck m s)
-    (demand (eqb (m .tapes) 1) Why.SeveralTapes
-    (checkedOn (wordCheck (m .symbols) w) (demand (freshSizes w l r) Why.BufferSize Accepted)))
+-- ---- a fresh engine
 
 abbrev pub freshSim : Machine → List ℕ → ℕ → ChainSim
 freshSim m w rights = record {

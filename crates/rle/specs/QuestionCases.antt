@@ -2,11 +2,12 @@
 use mathlib.Core.Path.{_≡_, refl, sym, _∙_, ap}
 use mathlib.Core.Bool.{Bool, true, false}
 use mathlib.Core.List.{List}
-use Prim.Native.Nat.{ℕ, zero, suc, _+_, _-_, _≤_, _<_, _^_, min}
+use Prim.Native.Nat.{ℕ, zero, suc, _+_, _-_, _≤_, _<_, min}
 use native.Mathlib.Omega.{arith}
-use borrow.Author.Tests.{leb-true, lt-ltb, le-ltb, eq-eqb, ne-eqb}
+use borrow.Author.Tests.{leb-true, eq-eqb, ne-eqb}
 use lib.Dec.{eqb}
 use lib.IntN.{ℤ}
+use lib.ListN.{length}
 use Rattle.laws.specs.Choice.{pick, both}
 use Rattle.laws.specs.Position.{_⊖_}
 use Rattle.laws.specs.Tests.{both-split, both-true, clash}
@@ -21,37 +22,16 @@ use Rattle.tape.specs.declared.Span.the-variants.{Empty, Cells}
 use Rattle.sim.specs.declared.questions.Got.the-variants as Got
 use Rattle.sim.specs.declared.questions.Extent.the-variants as Extent
 use Rattle.sim.specs.declared.questions.Counted.the-variants as Counted
-use Rattle.stacks.specs.Sides.{cellAt, cellsOf, writtenOf, nearOf}
+use Rattle.stacks.specs.Sides.{cellsOf, nearOf}
 use Rattle.rle.specs.declared.ChainSim.{ChainSim}
 use Rattle.rle.specs.Engine.{Conf, conf, leftOf, rightOf}
 use Rattle.rle.specs.Turns.{AskOk}
 use Rattle.rle.specs.Fits.{zeroAt, slack, reachFits, chainFits, engineCheck}
 use Rattle.rle.specs.OperationCases.{Passed, engine-says, fits-sides, fits-counts, fits-steps}
-use Rattle.rle.specs.Questions.{raisedCell, windowCell, windowFrom, lowestOf, highestOf, blankTape, spanOf, countOf, getAnswer, extentAnswer, countAnswer, windowInto}
+use Rattle.spans.specs.Asks.{cellOn, windowAll, countOn}
+use Rattle.rle.specs.Questions.{raisedCell, windowFrom, lowestOf, highestOf, blankTape, spanOf, countOf, getAnswer, extentAnswer, countAnswer, windowInto}
 
 -- ---- the tape
-
-module _ (σ : Conf) (p : ℕ) where
-  pub cell-head : p ≡ σ .sim .tape .head → σ .sim .tape .cur ≡ raisedCell σ p
-  unfolding raisedCell pick
-  cell-head e = simp (eq-eqb p (σ .sim .tape .head) e)
-
-  pub cell-left : (p ≡ σ .sim .tape .head → ⊥) → p < σ .sim .tape .head → (x : ℕ) → x ≡ cellAt (leftOf σ) (σ .sim .tape .head - p - 1) → x ≡ raisedCell σ p
-  unfolding raisedCell pick
-  cell-left h l x e = e ∙ sym (rw (ne-eqb p (σ .sim .tape .head) h, lt-ltb p (σ .sim .tape .head) l))
-
-  pub cell-right : (p ≡ σ .sim .tape .head → ⊥) → σ .sim .tape .head ≤ p → (x : ℕ) → x ≡ cellAt (rightOf σ) (p - σ .sim .tape .head - 1) → x ≡ raisedCell σ p
-  unfolding raisedCell pick
-  cell-right h l x e = e ∙ sym (rw (ne-eqb p (σ .sim .tape .head) h, le-ltb p (σ .sim .tape .head) l))
-
-module _ (σ : Conf) (p j : ℕ) where
-  pub window-past : p < 18446744073709551616 → 18446744073709551615 - p < j → 0 ≡ windowCell σ p j
-  unfolding windowCell pick
-  window-past l h = rw (le-ltb (p + j) (2 ^ 64) (omega arith))
-
-  pub window-cell : p < 18446744073709551616 → j ≤ 18446744073709551615 - p → (x : ℕ) → x ≡ raisedCell σ (p + j) → x ≡ windowCell σ p j
-  unfolding windowCell pick
-  window-cell l h x e = e ∙ sym (rw (lt-ltb (p + j) (2 ^ 64) (omega arith)))
 
 module _ (v : ChainSim) (ls ll rs rl : List ℕ) where
   abbrev at : Conf
@@ -124,19 +104,6 @@ pub span-cells : (σ : Conf) (b : Bool) → b ≡ blankTape σ → b ≡ false �
 unfolding spanOf pick
 span-cells σ b p e l h x y el eh ex ey = (λ i. Cells ((ex ∙ ap (λ (n : ℕ). n ⊖ zeroAt) el) i) ((ey ∙ ap (λ (n : ℕ). n ⊖ zeroAt) eh) i)) ∙ sym (rw (← p, e))
 
-module _ (σ : Conf) (l r : ℕ) (el : l ≡ writtenOf (leftOf σ)) (er : r ≡ writtenOf (rightOf σ)) where
-  pub count-blank : σ .sim .tape .cur ≡ 0 → l + r ≡ countOf σ
-  unfolding countOf pick
-  count-blank e =
-      let z : l + r ≡ writtenOf (leftOf σ) + 0 + writtenOf (rightOf σ) = omega (arith, el, er) in
-      z ∙ sym (rw (eq-eqb (σ .sim .tape .cur) 0 e))
-
-  pub count-one : (σ .sim .tape .cur ≡ 0 → ⊥) → l + 1 + r ≡ countOf σ
-  unfolding countOf pick
-  count-one e =
-      let z : l + 1 + r ≡ writtenOf (leftOf σ) + 1 + writtenOf (rightOf σ) = omega (arith, el, er) in
-      z ∙ sym (rw (ne-eqb (σ .sim .tape .cur) 0 e))
-
 -- ---- the operations
 
 module _ (m : Machine) (s : List ℕ) (σ : Conf) (r : Checked) (checked : r ≡ engineCheck m s σ) where
@@ -172,18 +139,33 @@ module _ (m : Machine) (s : List ℕ) (σ : Conf) (r : Checked) (checked : r ≡
           right-far = leb-true (σ .sim .tape .head + cellsOf (rightOf σ)) (zeroAt + σ .sim .steps + slack) (both-split (reach p) .1);
         }
 
-    pub get-done : (y z : ℤ) (p x : ℕ) → p ≡ raisedOf y → y ≡ z → x ≡ raisedCell σ p → Got.Found (symbolOf x) ≡ getAnswer m s z σ
-    unfolding getAnswer
+    -- what the questions on the sides ask for
+    pub asked-places : (σ .sim .tape .left ≤ length (σ .ls)) × (σ .sim .tape .left ≤ length (σ .ll)) × (σ .sim .tape .right ≤ length (σ .rs)) × (σ .sim .tape .right ≤ length (σ .rl))
+    asked-places = (
+      omega (arith, asked-ok .sides .left .live, asked-ok .sides .left .symbols-in),
+      omega (arith, asked-ok .sides .left .live, asked-ok .sides .left .lengths-in),
+      omega (arith, asked-ok .sides .right .live, asked-ok .sides .right .symbols-in),
+      omega (arith, asked-ok .sides .right .live, asked-ok .sides .right .lengths-in),
+    )
+
+    pub asked-sums : (cellsOf (leftOf σ) < 9223372036854775807) × (cellsOf (rightOf σ) < 9223372036854775807)
+    asked-sums = (
+      omega (arith, asked-ok .sides .left .cells-in, asked-ok .counts .steps-in),
+      omega (arith, asked-ok .sides .right .cells-in, asked-ok .counts .steps-in),
+    )
+
+    pub get-done : (y z : ℤ) (p x : ℕ) → p ≡ raisedOf y → y ≡ z → x ≡ cellOn (σ .sim .tape .head) (σ .sim .tape .cur) (leftOf σ) (rightOf σ) p → Got.Found (symbolOf x) ≡ getAnswer m s z σ
+    unfolding getAnswer raisedCell
     get-done y z p x e k h = (λ i. Got.Found (symbolOf ((h ∙ ap (raisedCell σ) (e ∙ ap raisedOf k)) i))) ∙ sym (rw (← checked, passed))
 
     pub extent-done : (x : Span) → x ≡ spanOf σ → Extent.Found x ≡ extentAnswer m s σ
     unfolding extentAnswer
     extent-done x e = ap Extent.Found e ∙ sym (rw (← checked, passed))
 
-    pub count-done : (x : ℕ) → x ≡ countOf σ → Counted.Found x ≡ countAnswer m s σ
-    unfolding countAnswer
+    pub count-done : (x : ℕ) → x ≡ countOn (σ .sim .tape .cur) (leftOf σ) (rightOf σ) → Counted.Found x ≡ countAnswer m s σ
+    unfolding countAnswer countOf
     count-done x e = ap Counted.Found e ∙ sym (rw (← checked, passed))
 
-    pub window-done : (y z : ℤ) (p : ℕ) (out out₁ : List ℕ) → p ≡ raisedOf y → y ≡ z → out₁ ≡ windowFrom σ p out → out₁ ≡ windowInto m s z σ out
-    unfolding windowInto
+    pub window-done : (y z : ℤ) (p : ℕ) (out out₁ : List ℕ) → p ≡ raisedOf y → y ≡ z → out₁ ≡ windowAll (σ .sim .tape .head) (σ .sim .tape .cur) (leftOf σ) (rightOf σ) p out → out₁ ≡ windowInto m s z σ out
+    unfolding windowInto windowFrom
     window-done y z p out out₁ e k h = h ∙ ap (λ (n : ℕ). windowFrom σ n out) (e ∙ ap raisedOf k) ∙ sym (rw (← checked, passed))

@@ -1,12 +1,10 @@
 -- Questions on the tape of a run-length engine. Definitions only.
 use mathlib.Core.Bool.{Bool}
 use mathlib.Core.List.{List}
-use Prim.Native.Nat.{ℕ, _+_, _-_, _^_}
-use lib.Dec.{eqb, ltb}
+use Prim.Native.Nat.{ℕ, _+_, _-_}
+use lib.Dec.{eqb}
 use lib.IntN.{ℤ}
-use lib.ListN.{length}
 use Rattle.laws.specs.Choice.{pick, both}
-use Rattle.laws.specs.Fill.{fillFrom}
 use Rattle.laws.specs.Position.{_⊖_}
 use Rattle.symbol.specs.Kinds.{symbolOf}
 use Rattle.symbol.specs.Places.{raisedOf}
@@ -20,24 +18,23 @@ use Rattle.sim.specs.declared.questions.Extent.the-variants as Extent
 use Rattle.sim.specs.declared.questions.Counted.{Counted}
 use Rattle.sim.specs.declared.questions.Counted.the-variants as Counted
 use Rattle.sim.specs.Questions.{askedOn}
-use Rattle.stacks.specs.Sides.{cellAt, cellsOf, writtenOf, nearOf}
+use Rattle.stacks.specs.Sides.{cellsOf, nearOf}
+unfoldable pub use Rattle.spans.specs.Asks.{cellOn, windowOn, windowAll, countOn}
 use Rattle.rle.specs.Engine.{Conf, leftOf, rightOf}
 use Rattle.rle.specs.Fits.{zeroAt, engineCheck}
 
 -- ---- the tape
 
--- the symbol at position raised − 2^63: under the head, or so far to one side
+-- the symbol at position raised − 2^63
 unfoldable pub raisedCell : Conf → (raised : ℕ) → ℕ
-raisedCell σ p =
-    pick (eqb p (σ .sim .tape .head)) (σ .sim .tape .cur)
-    (pick (ltb p (σ .sim .tape .head)) (cellAt (leftOf σ) (σ .sim .tape .head - p - 1)) (cellAt (rightOf σ) (p - σ .sim .tape .head - 1)))
+raisedCell σ p = cellOn (σ .sim .tape .head) (σ .sim .tape .cur) (leftOf σ) (rightOf σ) p
 
--- positions past i64, from 2^64 on, are blank
+-- the symbol j places above it; positions past i64 are blank
 unfoldable pub windowCell : Conf → (raised j : ℕ) → ℕ
-windowCell σ raised j = pick (ltb (raised + j) (2 ^ 64)) (raisedCell σ (raised + j)) 0
+windowCell σ raised j = windowOn (σ .sim .tape .head) (σ .sim .tape .cur) (leftOf σ) (rightOf σ) raised j
 
 unfoldable pub windowFrom : Conf → (raised : ℕ) → List ℕ → List ℕ
-windowFrom σ raised out = fillFrom (windowCell σ raised) (length out) 0 out
+windowFrom σ raised out = windowAll (σ .sim .tape .head) (σ .sim .tape .cur) (leftOf σ) (rightOf σ) raised out
 
 -- the lowest and the highest cell that is not blank, raised: the furthest of its side; else the head's; else the nearest of the other side
 unfoldable pub lowestOf : Conf → ℕ
@@ -59,7 +56,7 @@ unfoldable pub spanOf : Conf → Span
 spanOf σ = pick (blankTape σ) Empty (Cells (lowestOf σ ⊖ zeroAt) (highestOf σ ⊖ zeroAt))
 
 unfoldable pub countOf : Conf → ℕ
-countOf σ = writtenOf (leftOf σ) + pick (eqb (σ .sim .tape .cur) 0) 0 1 + writtenOf (rightOf σ)
+countOf σ = countOn (σ .sim .tape .cur) (leftOf σ) (rightOf σ)
 
 -- ---- the operations: the table check, 8, 11, 12
 

@@ -1,15 +1,18 @@
 -- A run: what a macro step that was decided keeps, and the loop's arms. Assumes nothing.
 use mathlib.Core.Path.{_≡_, refl, sym, _∙_, ap, subst}
-use mathlib.Core.Bool.{Bool, false}
+use mathlib.Core.Bool.{Bool, true, false}
 use Prim.Native.Nat.{ℕ, zero, suc, _+_, _-_, _≤_, _<_, min}
 use native.Mathlib.Omega.{arith}
 use lib.Dec.{eqb}
 use borrow.Author.Tests.{eqb-false}
-use Rattle.laws.specs.Tests.{pick-cases}
+use Rattle.laws.specs.Choice.{pick, both}
+use Rattle.laws.specs.Tests.{by-test, pick-cases, pick-true, pick-false}
 use Rattle.symbol.specs.declared.State.{State}
 use Rattle.symbol.specs.declared.Dir.{Dir}
 use Rattle.symbol.specs.declared.Dir.the-variants.{L, R, N}
+use Rattle.outcome.specs.declared.NonHaltProof.{NonHaltProof}
 use Rattle.outcome.specs.declared.Outcome.{Outcome}
+use Rattle.outcome.specs.declared.Outcome.the-variants.{OutOfFuel, NeverHalts, Stopped, Full}
 use Rattle.machine.specs.declared.Machine.{Machine}
 use Rattle.machine.specs.declared.Action.{Action}
 use Rattle.machine.specs.declared.Entry.{Entry}
@@ -18,13 +21,14 @@ use Rattle.sim.specs.declared.StopRule.{StopRule}
 use Rattle.sim.specs.Engine.{Task, entryOf, matches}
 use Rattle.stacks.specs.Sides.{Side, placesOf, pushOf, lacks, takeOf}
 use Rattle.stacks.specs.SideFacts.{SideOk, SameLengths, push-ok, push-same, take-ok, take-same}
-use Rattle.rle.specs.declared.inner.Sure.{Sure}
-use Rattle.rle.specs.declared.inner.Sure.the-variants.{Open, Loops}
-use Rattle.rle.specs.declared.inner.Leap.{Leap}
-use Rattle.rle.specs.declared.inner.Plan.{Plan}
-use Rattle.rle.specs.declared.inner.Plan.the-variants.{Stop, Go}
-use Rattle.rle.specs.Engine.{Conf, leftOf, rightOf, sureOf, chainFor, repeatsOf, fullFor, spaceOf, fuelOf, neverOf, planOn, planOf, carryOf, landed, leapTo, leapOf, end, onPlan, runWithin, runOf}
-use Rattle.rle.specs.Turns.{SidesOk, CountsOk, LeapOk, RunOk, SameSizes, Going}
+use Rattle.spans.specs.declared.inner.leaps.Step.{Step}
+use Rattle.spans.specs.Leaps.{loopsFor, proofOf, headFor, Made, moved, makeOf, MakeOk}
+use Rattle.spans.specs.LeapFacts.{movedBy, moved-times, timesFor, make-full, make-goes}
+use Rattle.rle.specs.declared.ChainSim.{ChainSim}
+use Rattle.rle.specs.declared.inner.Turn.{Turn}
+use Rattle.rle.specs.declared.inner.Turn.the-variants.{Ends, Takes}
+use Rattle.rle.specs.Engine.{Conf, conf, leftOf, rightOf, Leap, Plan, Stop, Go, Sure, Open, Loops, walkOf, patternOf, sureOf, chainFor, repeatsOf, fullFor, leap, spaceOf, fuelOf, neverOf, planOn, planOf, carryOf, landed, leapTo, leapOf, end, onPlan, runWithin, runOf}
+use Rattle.rle.specs.Turns.{SidesOk, CountsOk, RunOk, SameSizes, Going, loopsOf, stepOf, fueledOf, provedOf, turnOn, turnOf, landedBy}
 
 -- ---- a macro step that was decided
 
@@ -196,38 +200,199 @@ module _ (j : Leap) (σ : Conf) where
     counts = leap-counts (j .dir) fuel (h .counts) (f .some-steps) (f .no-more);
   }
 
+-- ---- what the code asks first, and then whether there is space
+
+-- the test of an entry by its parts
+pattern-is : (q : State) (d : Dir) (w cur l r : ℕ) → patternOf q d w cur l r ≡ pick (loopsFor d w cur l r) (Loops (proofOf q d)) Open
+unfolding patternOf loopsFor proofOf
+pattern-is q L w cur l r = refl
+pattern-is q R w cur l r = refl
+pattern-is q N w cur l r = refl
+
+within : (b c : Bool) (x y : Sure) → pick b (pick c x y) y ≡ pick (both b c) x y
+unfolding pick both
+within true c x y = refl
+within false c x y = refl
+
+sure-is : (q : State) (a : Action) (cur l r : ℕ) → sureOf q a cur l r ≡ pick (loopsOf q a cur l r) (Loops (proofOf q (a .dir0))) Open
+unfolding sureOf
+sure-is q a cur l r =
+    ap (λ (x : Sure). pick (eqb (a .next .0) (q .0)) x Open) (pattern-is q (a .dir0) (a .write0 .0) cur l r)
+    ∙ within (eqb (a .next .0) (q .0)) (loopsFor (a .dir0) (a .write0 .0) cur l r) (Loops (proofOf q (a .dir0))) Open
+
+abbrev leapBy : Step → ℕ → Leap
+leapBy s n = record { write = s .write; dir = s .dir; next = s .next; repeats = n }
+
+abbrev timesOf : Step → ℕ → Conf → ℕ
+timesOf s fuel σ = timesFor (s .dir) (s .loops) (s .keeps) (σ .sim .tape .cur) fuel (leftOf σ) (rightOf σ)
+
+abbrev fullAt : Step → Conf → Bool
+fullAt s σ = fullFor (s .dir) (s .write) (placesOf (σ .ls) (σ .ll)) (placesOf (σ .rs) (σ .rl)) (leftOf σ) (rightOf σ)
+
+abbrev spaceFor : Step → ℕ → Conf → Plan
+spaceFor s fuel σ = pick (fullAt s σ) (Stop (Full (σ .sim .steps))) (Go (leapBy s (timesOf s fuel σ)))
+
+abbrev planBy : Turn → ℕ → Conf → Plan
+planBy (Ends o) fuel σ = Stop o
+planBy (Takes s) fuel σ = spaceFor s fuel σ
+
+module _ (fuel : ℕ) (σ : Conf) where
+  by-pick : (b : Bool) (x y : Turn) → planBy (pick b x y) fuel σ ≡ pick b (planBy x fuel σ) (planBy y fuel σ)
+  unfolding pick
+  by-pick true x y = refl
+  by-pick false x y = refl
+
+  module _ (rule : StopRule) (a : Action) (x : NonHaltProof) where
+    space-by : (loops : Bool) → spaceOf (pick loops (Loops x) Open) a fuel σ ≡ spaceFor (stepOf loops a (σ .sim .state)) fuel σ
+    unfolding spaceOf repeatsOf pick
+    space-by true = refl
+    space-by false = refl
+
+    fuel-by : (loops : Bool) → fuelOf (pick loops (Loops x) Open) rule a fuel σ ≡ planBy (fueledOf loops rule a fuel (σ .sim)) fuel σ
+    unfolding fuelOf fueledOf
+    fuel-by loops =
+        ap (λ (p : Plan). pick (eqb fuel 0) (Stop (OutOfFuel (σ .sim .steps))) (pick (matches rule (σ .sim .state)) (Stop (Stopped (σ .sim .steps))) p)) (space-by loops)
+        ∙ sym (ap (pick (eqb fuel 0) (Stop (OutOfFuel (σ .sim .steps)))) (by-pick (matches rule (σ .sim .state)) _ _))
+        ∙ sym (by-pick (eqb fuel 0) _ _)
+
+    never-by : (proves loops : Bool) → neverOf proves (pick loops (Loops x) Open) rule a fuel σ
+        ≡ pick (both loops proves) (Stop (NeverHalts (σ .sim .steps) x)) (planBy (fueledOf loops rule a fuel (σ .sim)) fuel σ)
+    unfolding neverOf pick both
+    never-by true true = refl
+    never-by false true = fuel-by true
+    never-by true false = fuel-by false
+    never-by false false = fuel-by false
+
+  on-by : (e : Entry) (proves : Bool) (rule : StopRule) → planOn e proves rule fuel σ ≡ planBy (turnOn e proves rule fuel (σ .sim)) fuel σ
+  unfolding planOn turnOn provedOf
+  on-by Undefined proves rule = refl
+  on-by (Defined a) proves rule =
+      ap (λ (p : Sure). neverOf proves p rule a fuel σ) (sure-is (σ .sim .state) a (σ .sim .tape .cur) (σ .sim .tape .left) (σ .sim .tape .right))
+      ∙ never-by rule a (proofOf (σ .sim .state) (a .dir0)) proves _
+      ∙ sym (by-pick _ _ _)
+
+  pub turn-plans : (k : Task) → planOf k fuel σ ≡ planBy (turnOf k fuel (σ .sim)) fuel σ
+  unfolding planOf turnOf
+  turn-plans k = on-by (entryOf (k .machine) (k .table) (σ .sim .state) (σ .sim .tape .cur) 0 0) (k .proves) (k .rule)
+
+-- an entry is made only with fuel
+abbrev IfTakes : ℕ → Turn → Type 0
+IfTakes fuel (Ends o) = Unit {0}
+IfTakes fuel (Takes s) = 1 ≤ fuel
+
+fueled-fuel : (loops : Bool) (rule : StopRule) (a : Action) (fuel : ℕ) (v : ChainSim) → IfTakes fuel (fueledOf loops rule a fuel v)
+unfolding fueledOf
+fueled-fuel loops rule a fuel v =
+    pick-cases (eqb fuel 0) _ _ (IfTakes fuel) (λ e. tt)
+    (λ e. pick-cases (matches rule (v .state)) _ _ (IfTakes fuel) (λ m. tt) (λ m. some-fuel fuel (eqb-false fuel 0 e)))
+
+takes-fuel : (e : Entry) (proves : Bool) (rule : StopRule) (fuel : ℕ) (v : ChainSim) → IfTakes fuel (turnOn e proves rule fuel v)
+unfolding turnOn provedOf
+takes-fuel Undefined proves rule fuel v = tt
+takes-fuel (Defined a) proves rule fuel v = pick-cases (both (loopsOf (v .state) a (v .tape .cur) (v .tape .left) (v .tape .right)) proves) _ _ (IfTakes fuel) (λ e. tt)
+    (λ e. fueled-fuel (loopsOf (v .state) a (v .tape .cur) (v .tape .left) (v .tape .right)) rule a fuel v)
+
+turn-fuel : (k : Task) (fuel : ℕ) (v : ChainSim) → IfTakes fuel (turnOf k fuel v)
+unfolding turnOf
+turn-fuel k fuel v = takes-fuel (entryOf (k .machine) (k .table) (v .state) (v .tape .cur) 0 0) (k .proves) (k .rule) fuel v
+
+-- ---- the value and the sides after a macro step that was made
+
+abbrev madeAt : Dir → Step → Conf → Made → Conf
+madeAt d s σ w = conf (landedBy d (s .next) (σ .sim) (w .left .count) (w .cur) (w .right .count) (w .repeats)) (w .left .symbols) (w .left .lengths) (w .right .symbols) (w .right .lengths)
+
+made-leaps : (d : Dir) (s : Step) (σ : Conf) (n : ℕ) → madeAt d s σ (movedBy d (s .write) n (leftOf σ) (rightOf σ)) ≡ leapTo d (leapBy s n) σ
+unfolding leapTo headFor
+made-leaps L s σ n = refl
+made-leaps R s σ n = refl
+made-leaps N s σ n = refl
+
 -- ---- the loop's arms
 
 pub going-start : (k : Task) (stride lp rp : ℕ) (σ : Conf) (fuel : ℕ) → RunOk (k .machine) stride σ fuel → lp ≡ placesOf (σ .ls) (σ .ll) → rp ≡ placesOf (σ .rs) (σ .rl)
     → Going k stride lp rp σ fuel σ fuel
 going-start k stride lp rp σ fuel h l r = record { ok = h; lefts = l; rights = r; sizes = record { ls = refl; ll = refl; rs = refl; rl = refl }; same = refl }
 
-module _ (k : Task) (stride lp rp : ℕ) (σ₀ : Conf) (fuel : ℕ) (σ : Conf) (left : ℕ) (g : Going k stride lp rp σ₀ fuel σ left) (p : Plan) (pp : p ≡ planOf k left σ) where
-  pub going-ends : (o : Outcome) → p ≡ Stop o → end σ o ≡ runOf k fuel σ₀
-  going-ends o e = run-ends k left σ o (sym pp ∙ e) ∙ g .same
+module _ (k : Task) (stride lp rp : ℕ) (σ₀ : Conf) (fuel : ℕ) (σ : Conf) (left : ℕ) (g : Going k stride lp rp σ₀ fuel σ left) (t : Turn) (tp : t ≡ turnOf k left (σ .sim)) where
+  plan-by : planOf k left σ ≡ planBy t left σ
+  plan-by = turn-plans left σ k ∙ ap (λ (x : Turn). planBy x left σ) (sym tp)
 
-  module _ (j : Leap) (e : p ≡ Go j) where
-    pub going-fine : Fine left σ j
-    going-fine = decided k left σ j (sym pp ∙ e)
+  pub going-ends : (o : Outcome) → t ≡ Ends o → end σ o ≡ runOf k fuel σ₀
+  going-ends o e = run-ends k left σ o (plan-by ∙ ap (λ (x : Turn). planBy x left σ) e) ∙ g .same
 
-    pub going-leap : LeapOk j σ
-    going-leap =
-        let f : Fine left σ j = going-fine in
-        record {
-          sides = g .ok .sides;
-          counts = record { steps-in = omega (arith, g .ok .counts .steps-in, f .no-more); fewer = g .ok .counts .fewer; above = g .ok .counts .above; below = g .ok .counts .below };
-          some-steps = f .some-steps;
-          place = f .place;
-        }
+  module _ (s : Step) (e : t ≡ Takes s) where
+    pub going-make : MakeOk lp rp left (leftOf σ) (rightOf σ)
+    going-make = record {
+      lefts = g .lefts;
+      rights = g .rights;
+      left-live = omega (arith, g .ok .sides .left .live, g .lefts);
+      right-live = omega (arith, g .ok .sides .right .live, g .rights);
+      left-cells = omega (arith, g .ok .sides .left .cells-in, g .ok .counts .steps-in);
+      right-cells = omega (arith, g .ok .sides .right .cells-in, g .ok .counts .steps-in);
+      some-fuel = subst (IfTakes left) (sym tp ∙ e) (turn-fuel k left (σ .sim));
+    }
 
-    pub going-on : (τ : Conf) → τ ≡ leapOf j σ → Going k stride lp rp σ₀ fuel τ (left - j .repeats)
-    going-on τ t =
-        let z : SameSizes σ (leapOf j σ) = leap-sizes j σ (j .dir) in
-        subst (λ (τ : Conf). Going k stride lp rp σ₀ fuel τ (left - j .repeats)) (sym t)
-        (record {
-          ok = leap-ok j σ (k .machine) stride left (g .ok) going-fine;
-          lefts = g .lefts ∙ (λ i. min (sym (z .ls) i) (sym (z .ll) i));
-          rights = g .rights ∙ (λ i. min (sym (z .rs) i) (sym (z .rl) i));
-          sizes = record { ls = z .ls ∙ g .sizes .ls; ll = z .ll ∙ g .sizes .ll; rs = z .rs ∙ g .sizes .rs; rl = z .rl ∙ g .sizes .rl };
-          same = run-goes k left σ j (sym pp ∙ e) ∙ g .same;
-        })
+    plan-space : planOf k left σ ≡ spaceFor s left σ
+    plan-space = plan-by ∙ ap (λ (x : Turn). planBy x left σ) e
+
+    module _ (w : Made) (wp : w ≡ makeOf s (σ .sim .tape .cur) lp rp left (leftOf σ) (rightOf σ)) where
+      here : w ≡ makeOf s (σ .sim .tape .cur) (placesOf (σ .ls) (σ .ll)) (placesOf (σ .rs) (σ .rl)) left (leftOf σ) (rightOf σ)
+      here = wp ∙ (λ i. makeOf s (σ .sim .tape .cur) (g .lefts i) (g .rights i) left (leftOf σ) (rightOf σ))
+
+      module _ (f : fullAt s σ ≡ true) where
+        full-made : w ≡ moved (leftOf σ) (σ .sim .tape .cur) (rightOf σ) 0
+        full-made = here ∙ make-full s (σ .sim .tape .cur) (placesOf (σ .ls) (σ .ll)) (placesOf (σ .rs) (σ .rl)) left (leftOf σ) (rightOf σ) (s .dir) f
+
+        full-ends : end (conf (σ .sim) (w .left .symbols) (w .left .lengths) (w .right .symbols) (w .right .lengths)) (Full (σ .sim .steps)) ≡ runOf k fuel σ₀
+        full-ends =
+            ap (λ (w : Made). end (conf (σ .sim) (w .left .symbols) (w .left .lengths) (w .right .symbols) (w .right .lengths)) (Full (σ .sim .steps))) full-made
+            ∙ run-ends k left σ (Full (σ .sim .steps)) (plan-space ∙ pick-true (fullAt s σ) _ _ f)
+            ∙ g .same
+
+      module _ (f : fullAt s σ ≡ false) where
+        goes-made : w ≡ movedBy (s .dir) (s .write) (timesOf s left σ) (leftOf σ) (rightOf σ)
+        goes-made = here ∙ make-goes s (σ .sim .tape .cur) (placesOf (σ .ls) (σ .ll)) (placesOf (σ .rs) (σ .rl)) left (leftOf σ) (rightOf σ) (s .dir) f
+
+        times : w .repeats ≡ timesOf s left σ
+        times = ap (λ (w : Made). w .repeats) goes-made ∙ moved-times (s .dir) (s .write) (timesOf s left σ) (leftOf σ) (rightOf σ)
+
+        planned : planOf k left σ ≡ Go (leapBy s (w .repeats))
+        planned = plan-space ∙ pick-false (fullAt s σ) _ _ f ∙ ap (λ (n : ℕ). Go (leapBy s n)) (sym times)
+
+        fine : Fine left σ (leapBy s (w .repeats))
+        fine = decided k left σ (leapBy s (w .repeats)) planned
+
+        goes-on : (v : ChainSim) → v ≡ landedBy (s .dir) (s .next) (σ .sim) (w .left .count) (w .cur) (w .right .count) (w .repeats)
+            → conf v (w .left .symbols) (w .left .lengths) (w .right .symbols) (w .right .lengths) ≡ leapOf (leapBy s (w .repeats)) σ
+        goes-on v p =
+            ap (λ (v : ChainSim). conf v (w .left .symbols) (w .left .lengths) (w .right .symbols) (w .right .lengths)) p
+            ∙ ap (madeAt (s .dir) s σ) goes-made
+            ∙ made-leaps (s .dir) s σ (timesOf s left σ)
+            ∙ ap (λ (n : ℕ). leapTo (s .dir) (leapBy s n) σ) (sym times)
+
+      pub going-full : w .repeats ≡ 0 → end (conf (σ .sim) (w .left .symbols) (w .left .lengths) (w .right .symbols) (w .right .lengths)) (Full (σ .sim .steps)) ≡ runOf k fuel σ₀
+      going-full z = by-test (fullAt s σ) full-ends (λ f. absurd (omega (arith, fine f .some-steps)))
+
+      module _ (nz : w .repeats ≡ 0 → ⊥) where
+        roomy : fullAt s σ ≡ false
+        roomy = by-test (fullAt s σ) (λ f. absurd (nz (ap (λ (w : Made). w .repeats) (full-made f)))) (λ f. f)
+
+        pub going-fine : Fine left σ (leapBy s (w .repeats))
+        going-fine = fine roomy
+
+        pub going-counts : CountsOk (σ .sim) (w .repeats)
+        going-counts =
+            record { steps-in = omega (arith, g .ok .counts .steps-in, going-fine .no-more); fewer = g .ok .counts .fewer; above = g .ok .counts .above; below = g .ok .counts .below }
+
+        pub going-on : (v : ChainSim) → v ≡ landedBy (s .dir) (s .next) (σ .sim) (w .left .count) (w .cur) (w .right .count) (w .repeats)
+            → Going k stride lp rp σ₀ fuel (conf v (w .left .symbols) (w .left .lengths) (w .right .symbols) (w .right .lengths)) (left - w .repeats)
+        going-on v p =
+            let z : SameSizes σ (leapOf (leapBy s (w .repeats)) σ) = leap-sizes (leapBy s (w .repeats)) σ (s .dir) in
+            subst (λ (τ : Conf). Going k stride lp rp σ₀ fuel τ (left - w .repeats)) (sym (goes-on roomy v p))
+            (record {
+              ok = leap-ok (leapBy s (w .repeats)) σ (k .machine) stride left (g .ok) going-fine;
+              lefts = g .lefts ∙ (λ i. min (sym (z .ls) i) (sym (z .ll) i));
+              rights = g .rights ∙ (λ i. min (sym (z .rs) i) (sym (z .rl) i));
+              sizes = record { ls = z .ls ∙ g .sizes .ls; ll = z .ll ∙ g .sizes .ll; rs = z .rs ∙ g .sizes .rs; rl = z .rl ∙ g .sizes .rl };
+              same = run-goes k left σ (leapBy s (w .repeats)) (planned roomy) ∙ g .same;
+            })

@@ -4,6 +4,7 @@ use machine::Machine;
 use outcome::Refusal;
 use sim::Answer;
 use sim::StopRule;
+use spans::inner::word;
 use stacks::inner as stack;
 use symbol::State;
 ghost use mathlib.Core.Path.{_≡_};
@@ -14,7 +15,6 @@ mod checks;
 pub mod inner;
 mod questions;
 mod sides;
-mod word;
 
 // The tape. The runs of each side stand in lent places, of which so many are live. The head's position is raised by
 // 2^63.

@@ -5,6 +5,7 @@ use machine::Machine;
 use sim::questions::Counted;
 use sim::questions::Extent;
 use sim::questions::Got;
+use spans::inner::asks;
 use stacks::inner as stack;
 use symbol::Symbol;
 use symbol::position;
@@ -14,52 +15,11 @@ ghost use mathlib.Core.Bool.{false};
 ghost use mathlib.Core.List.{List};
 ghost use Prim.Native.Nat.{ℕ};
 ghost use Rattle.rle.specs.Engine.{conf};
-ghost use Rattle.rle.specs.Turns.{SidesOk, AskOk};
+ghost use Rattle.rle.specs.Turns.{AskOk};
 ghost use Rattle.rle.specs.Fits.{engineCheck};
-ghost use Rattle.rle.specs.Questions.{raisedCell, windowCell, windowFrom, lowestOf, highestOf, blankTape, spanOf, countOf, getAnswer, extentAnswer, countAnswer, windowInto};
+ghost use Rattle.rle.specs.Questions.{lowestOf, highestOf, blankTape, spanOf, getAnswer, extentAnswer, countAnswer, windowInto};
 
 impl ChainSim {
-    // The symbol at a raised position.
-    fn cell(self, ls: &[u8], ll: &[u64], rs: &[u8], rl: &[u64], raised: u64) -> u8
-        requires { ⌜ SidesOk (conf self (now ls) (now ll) (now rs) (now rl)) ⌝ }
-        ensures { λ r. ⌜ r ≡ raisedCell (conf self (now (ls .entry)) (now (ll .entry)) (now (rs .entry)) (now (rl .entry))) raised ⌝ }
-    {
-        let tape = self.tape;
-        if raised == tape.head {
-            return tape.cur;
-        }
-        if raised < tape.head {
-            return stack::symbol_at(ls, ll, tape.left, tape.head - raised - 1);
-        }
-        stack::symbol_at(rs, rl, tape.right, raised - tape.head - 1)
-    }
-
-    // The symbol j places above a raised position; positions past i64 are blank.
-    fn window_cell(self, ls: &[u8], ll: &[u64], rs: &[u8], rl: &[u64], raised: u64, j: usize) -> u8
-        requires { ⌜ SidesOk (conf self (now ls) (now ll) (now rs) (now rl)) ⌝ }
-        ensures { λ r. ⌜ r ≡ windowCell (conf self (now (ls .entry)) (now (ll .entry)) (now (rs .entry)) (now (rl .entry))) raised j ⌝ }
-    {
-        let above = j as u64;
-        if 18446744073709551615 - raised < above {
-            return 0;
-        }
-        self.cell(ls, ll, rs, rl, raised + above)
-    }
-
-    // The symbols from a raised position on, into the whole of `out`.
-    fn fill_window(self, ls: &[u8], ll: &[u64], rs: &[u8], rl: &[u64], raised: u64, out: &mut [u8])
-        requires { ⌜ SidesOk (conf self (now ls) (now ll) (now rs) (now rl)) ⌝ }
-        ensures { λ _. ⌜ now (out .exit) ≡ windowFrom (conf self (now (ls .entry)) (now (ll .entry)) (now (rs .entry)) (now (rl .entry))) raised (now (out .entry)) ⌝ }
-    {
-        let n = out.len();
-        let mut j = 0;
-        while j < n {
-            let x = self.window_cell(ls, ll, rs, rl, raised, j);
-            out[j] = x;
-            j += 1;
-        }
-    }
-
     // Whether every cell is blank.
     fn blank(self) -> bool
         ensures { λ r. ⌜ ((ls ll rs rl : List ℕ) → r ≡ blankTape (conf self ls ll rs rl)) ⌝ }
@@ -116,19 +76,6 @@ impl ChainSim {
         Span::Cells { from, to }
     }
 
-    fn count(self, ls: &[u8], ll: &[u64], rs: &[u8], rl: &[u64]) -> u64
-        requires { ⌜ AskOk (conf self (now ls) (now ll) (now rs) (now rl)) ⌝ }
-        ensures { λ r. ⌜ r ≡ countOf (conf self (now (ls .entry)) (now (ll .entry)) (now (rs .entry)) (now (rl .entry))) ⌝ }
-    {
-        let tape = self.tape;
-        let lefts = stack::written(ls, ll, tape.left);
-        let rights = stack::written(rs, rl, tape.right);
-        if tape.cur == 0 {
-            return lefts + rights;
-        }
-        lefts + 1 + rights
-    }
-
     // The symbol at a position; a cell past the stacks is blank.
     pub fn get(
         self,
@@ -148,7 +95,20 @@ impl ChainSim {
                 return Got::Refused(why);
             }
             Checked::Accepted => {
-                return Got::Found(Symbol(self.cell(ls, ll, rs, rl, position::raised(at))));
+                let tape = self.tape;
+                let raised = position::raised(at);
+                let found = asks::cell(
+                    tape.head,
+                    tape.cur,
+                    ls,
+                    ll,
+                    tape.left,
+                    rs,
+                    rl,
+                    tape.right,
+                    raised,
+                );
+                return Got::Found(Symbol(found));
             }
         }
     }
@@ -194,7 +154,9 @@ impl ChainSim {
                 return Counted::Refused(why);
             }
             Checked::Accepted => {
-                return Counted::Found(self.count(ls, ll, rs, rl));
+                let tape = self.tape;
+                let found = asks::count(tape.cur, ls, ll, tape.left, rs, rl, tape.right);
+                return Counted::Found(found);
             }
         }
     }
@@ -219,7 +181,20 @@ impl ChainSim {
                 return Checked::Refused(why);
             }
             Checked::Accepted => {
-                self.fill_window(ls, ll, rs, rl, position::raised(from), out);
+                let tape = self.tape;
+                let raised = position::raised(from);
+                asks::fill_window(
+                    tape.head,
+                    tape.cur,
+                    ls,
+                    ll,
+                    tape.left,
+                    rs,
+                    rl,
+                    tape.right,
+                    raised,
+                    out,
+                );
                 return Checked::Accepted;
             }
         }

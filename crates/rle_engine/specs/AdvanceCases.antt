@@ -5,21 +5,18 @@ use mathlib.Core.List.{List}
 use Prim.Native.Nat.{ℕ, zero, suc, _-_, _≤_}
 use native.Mathlib.Omega.{arith}
 use Rattle.outcome.specs.declared.Outcome.{Outcome}
-use Rattle.outcome.specs.declared.Outcome.the-variants.{Halted, OutOfFuel, NeverHalts, Stopped, Full}
 use Rattle.machine.specs.declared.Machine.{Machine}
 use Rattle.machine.specs.declared.Checked.the-variants.{Accepted}
 use Rattle.machine.specs.Layout.{strideOf}
 use Rattle.sim.specs.declared.StopRule.the-variants as Rule
 use Rattle.sim.specs.Engine.{Task, task}
-use Rattle.rle.specs.declared.inner.Leap.{Leap}
-use Rattle.rle.specs.declared.inner.Plan.{Plan}
-use Rattle.rle.specs.declared.inner.Plan.the-variants.{Stop, Go}
-use Rattle.rle.specs.Engine.{Conf, planOf, leapOf, End, end, onPlan, runWithin, runOf}
+use Rattle.rle.specs.Engine.{Conf, Leap, Plan, Stop, Go, planOf, leapOf, End, end, onPlan, runWithin, runOf}
 use Rattle.rle.specs.Turns.{RunOk}
 use Rattle.rle.specs.Fits.{runCheck}
 use Rattle.rle.specs.OperationCases.{stride-ok, run-ok}
 use Rattle.rle.specs.RunCases.{Fine, decided, leap-ok}
-use Rattle.times.specs.Kind.{verdictOr}
+use Rattle.times.specs.Kind.{verdictOr, spent}
+use Rattle.times.specs.VerdictFacts.{spent-verdict, other-verdict}
 use Rattle.rle_engine.specs.Advance.{ranFrom, tested, advanceOf}
 
 -- ---- the first run
@@ -67,37 +64,15 @@ module _ (m : Machine) (s : List ℕ) (fuel : ℕ) (σ τ : Conf) (o : Outcome) 
 
 -- ---- the returns
 
--- whether a run has used its fuel
-abbrev pub spentOf : Outcome → Bool
-spentOf (OutOfFuel n) = true
-spentOf (Halted n q) = false
-spentOf (NeverHalts n p) = false
-spentOf (Stopped n) = false
-spentOf (Full n) = false
-
-spent-verdict : (o v : Outcome) → spentOf o ≡ true → verdictOr o v ≡ v
-spent-verdict (OutOfFuel n) v e = refl
-spent-verdict (Halted n q) v e = let z : _≡_ {A = ℕ} 0 1 = cc in absurd (omega arith)
-spent-verdict (NeverHalts n p) v e = let z : _≡_ {A = ℕ} 0 1 = cc in absurd (omega arith)
-spent-verdict (Stopped n) v e = let z : _≡_ {A = ℕ} 0 1 = cc in absurd (omega arith)
-spent-verdict (Full n) v e = let z : _≡_ {A = ℕ} 0 1 = cc in absurd (omega arith)
-
-other-verdict : (o v : Outcome) → spentOf o ≡ false → verdictOr o v ≡ o
-other-verdict (OutOfFuel n) v e = let z : _≡_ {A = ℕ} 0 1 = cc in absurd (omega arith)
-other-verdict (Halted n q) v e = refl
-other-verdict (NeverHalts n p) v e = refl
-other-verdict (Stopped n) v e = refl
-other-verdict (Full n) v e = refl
-
-module _ (m : Machine) (s : List ℕ) (fuel : ℕ) (σ τ : Conf) (o : Outcome) (ran : end τ o ≡ runOf (task m s false Rule.Never) fuel σ) (b : Bool) (spent : b ≡ spentOf o) where
+module _ (m : Machine) (s : List ℕ) (fuel : ℕ) (σ τ : Conf) (o : Outcome) (ran : end τ o ≡ runOf (task m s false Rule.Never) fuel σ) (b : Bool) (asked : b ≡ spent o) where
   advance-is : (verdictOr o (runOf (task m s true Rule.Never) 0 τ .outcome), τ) ≡ advanceOf m s fuel σ
   unfolding advanceOf ranFrom
   advance-is i = tested m s (ran i)
 
   pub advance-ends : b ≡ false → (o, τ) ≡ advanceOf m s fuel σ
-  advance-ends e = (λ i. (sym (other-verdict o (runOf (task m s true Rule.Never) 0 τ .outcome) (sym spent ∙ e)) i, τ)) ∙ advance-is
+  advance-ends e = (λ i. (sym (other-verdict o (runOf (task m s true Rule.Never) 0 τ .outcome) (sym asked ∙ e)) i, τ)) ∙ advance-is
 
   pub advance-told : (υ : Conf) (v : Outcome) → b ≡ true → end υ v ≡ runOf (task m s true Rule.Never) 0 τ → (v, υ) ≡ advanceOf m s fuel σ
   advance-told υ v e told =
       (λ i. (ap (λ (x : End). x .outcome) told i, (ap (λ (x : End). x .at) told ∙ stands (task m s true Rule.Never) τ) i))
-      ∙ (λ i. (sym (spent-verdict o (runOf (task m s true Rule.Never) 0 τ .outcome) (sym spent ∙ e)) i, τ)) ∙ advance-is
+      ∙ (λ i. (sym (spent-verdict o (runOf (task m s true Rule.Never) 0 τ .outcome) (sym asked ∙ e)) i, τ)) ∙ advance-is

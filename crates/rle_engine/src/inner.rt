@@ -9,6 +9,7 @@ use rle::ChainSim;
 use sim::StopRule;
 use slots::inner as little;
 use stacks::inner as stack;
+use times::inner::is_spent;
 ghost use mathlib.Core.Path.{_≡_};
 ghost use Prim.Native.Nat.{_+_, _*_, _≤_};
 ghost use lib.ListN.{length};
@@ -18,7 +19,6 @@ ghost use Rattle.stacks.specs.Sides.{placesOf};
 ghost use Rattle.rle.specs.Engine.{conf};
 ghost use Rattle.rle.specs.Fits.{runCheck};
 ghost use Rattle.rle_engine.specs.Advance.{advanceOf};
-ghost use Rattle.rle_engine.specs.AdvanceCases.{spentOf};
 ghost use Rattle.rle_engine.specs.Slots.{bytesFor, putValue, packed, part, numbersIn, lent};
 ghost use Rattle.rle_engine.specs.Restored.{restored, restoredOf};
 
@@ -32,19 +32,6 @@ pub struct Advanced {
 pub enum Found {
     Nothing,
     Holds(ChainSim),
-}
-
-// Whether a run has used its fuel.
-fn spent(outcome: Outcome) -> bool
-    ensures { λ r. ⌜ r ≡ spentOf outcome ⌝ }
-{
-    match outcome {
-        Outcome::OutOfFuel { steps: _ } => true,
-        Outcome::Halted { steps: _, state: _ } => false,
-        Outcome::NeverHalts { steps: _, proof: _ } => false,
-        Outcome::Stopped { steps: _ } => false,
-        Outcome::Full { steps: _ } => false,
-    }
 }
 
 // Runs without the never test; where the fuel is used, a run without fuel makes that test and gives the verdict.
@@ -76,7 +63,7 @@ pub fn advance(
     );
     let after = ran.sim;
     let outcome = ran.outcome;
-    if !spent(outcome) {
+    if !is_spent(outcome) {
         return Advanced {
             sim: after,
             outcome,

@@ -12,7 +12,7 @@ use Rattle.symbol.specs.Places.{raisedOf}
 use Rattle.machine.specs.declared.Machine.{Machine}
 use Rattle.stacks.specs.Sides.{cellsOf}
 use Rattle.rle.specs.Engine.{Conf, leftOf, rightOf}
-use Rattle.rle.specs.Questions.{raisedCell}
+use Rattle.rle.specs.Questions.{raisedCell, cellOn}
 use Rattle.rle_refines.specs.Meaning.{stackOf, Stream, streamOf, distance, look, tapeOf, ChainFits}
 use Rattle.rle_refines.specs.SideFacts.{total-is}
 use Rattle.rle_refines.specs.TapeFacts.{diff-distance, cell-left, cell-right}
@@ -78,7 +78,7 @@ module _ (σ : Conf) where
 
   -- the code's cell, of any engine value
   pub cell-is : (p : ℕ) → raisedCell σ p ≡ tapeOf σ .cell (p ⊖ 2 ^ 63)
-  unfolding raisedCell
+  unfolding raisedCell cellOn
   cell-is p = pick-cases (eqb p head) cur _ (λ x. x ≡ tapeOf σ .cell (p ⊖ 2 ^ 63))
       (λ t. sym (at-head (p ⊖ 2 ^ 63) (omega (arith, diff-⊖ p (2 ^ 63), eqb-true p head t))))
       (λ t. let n = eqb-false p head t in

@@ -15,7 +15,7 @@ use Rattle.laws.specs.ScanDown.{countFails}
 use Rattle.machine.specs.declared.Machine.{Machine}
 use Rattle.stacks.specs.Sides.{sumOf, weightOf, cellsOf, writtenOf}
 use Rattle.rle.specs.Engine.{Conf, leftOf, rightOf}
-use Rattle.rle.specs.Questions.{countOf}
+use Rattle.rle.specs.Questions.{countOf, countOn}
 use Rattle.rle_refines.specs.Meaning.{stackUpto, Stream, stream, tapeOf, ChainFits}
 use Rattle.rle_refines.specs.EndFacts.{prepend-in, prepend-past}
 use Rattle.rle_refines.specs.CellFacts.{here, leftward, rightward, left, right, Stands, seen, at-head, at-left, at-right, left-past, right-past, left-in}
@@ -123,7 +123,7 @@ module _ (m : Machine) (σ : Conf) (f : ChainFits m σ) where
       ∙ weight-is (σ .rs) (σ .rl) (σ .sim .tape .right)
 
   all-counted : countFails blankFrom (lefts + 1 + rights) ≡ countOf σ
-  unfolding countFails countOf
+  unfolding countFails countOf countOn
   all-counted =
       let e : lefts + 1 ≡ suc lefts = omega arith in
       let h : pick {A = ℕ} (blankFrom lefts) 0 1 ≡ pick {A = ℕ} (eqb (σ .sim .tape .cur) 0) 0 1 = rw head-blank in

@@ -12,8 +12,7 @@ use Rattle.tables.specs.WellFormed.{ActionOf}
 use Rattle.turing.specs.TableMachine.{Table, Config, readT, entry, run, Sideways}
 use Rattle.turing.specs.Tables.{TableOf}
 use Rattle.stacks.specs.Sides.{Side, placesOf, lacks}
-use Rattle.rle.specs.declared.inner.Leap.{Leap}
-use Rattle.rle.specs.Engine.{Conf, leftOf, rightOf, Carried, carryOf, fullFor, leap, leapTo, leapOf}
+use Rattle.rle.specs.Engine.{Conf, leftOf, rightOf, Carried, carryOf, fullFor, leap, leapTo, leapOf, Leap}
 use Rattle.rle_refines.specs.Meaning.{stackOf, Stream, tail, prepend, stream, streamOf, tapeAround, tapeOf, configOf, SideFits, ChainFits}
 use Rattle.rle_refines.specs.Statement.{isFull, Kept}
 use Rattle.rle_refines.specs.StackFacts.{take, Reach}

@@ -16,8 +16,7 @@ use Rattle.turing.specs.TableMachine.{Config, readT, entry, run, Stays, Sideway
 use Rattle.turing.specs.Tables.{TableOf}
 use Rattle.sim.specs.Engine.{Task, matches}
 use Rattle.stacks.specs.Sides.{placesOf, topOf, lacks}
-use Rattle.rle.specs.declared.inner.Leap.{Leap}
-use Rattle.rle.specs.Engine.{Conf, leftOf, rightOf, carryOf, fullFor, leap, leapTo, leapOf}
+use Rattle.rle.specs.Engine.{Conf, leftOf, rightOf, carryOf, fullFor, leap, leapTo, leapOf, Leap}
 use Rattle.rle_refines.specs.Meaning.{Stack, stackOf, Stream, blanks, tail, prepend, stream, streamOf, configOf, ChainFits}
 use Rattle.rle_refines.specs.Statement.{tableIn, after, Judged, Unproved, hasRule, isFull, FullAfter, Kept}
 use Rattle.rle_refines.specs.Full.{FullAt}

@@ -23,11 +23,7 @@ use Rattle.tables.specs.WellFormed.{ActionOf}
 use Rattle.turing.specs.TableMachine.{entry, Halted, haltedAt, Stays, Sideways, Beyond, Walks, stays, walks, goes}
 use Rattle.turing.specs.Tables.{tableOf, TableOf}
 use Rattle.sim.specs.Engine.{Task, entryOf, matches}
-use Rattle.rle.specs.declared.inner.Sure.{Sure}
-use Rattle.rle.specs.declared.inner.Sure.the-variants.{Open, Loops}
-use Rattle.rle.specs.declared.inner.Plan.{Plan}
-use Rattle.rle.specs.declared.inner.Plan.the-variants.{Stop, Go}
-use Rattle.rle.specs.Engine.{Conf, leftOf, rightOf, patternOf, sureOf, chainFor, repeatsOf, leap, spaceOf, fuelOf, neverOf, planOn, planOf}
+use Rattle.rle.specs.Engine.{Conf, leftOf, rightOf, patternOf, sureOf, chainFor, repeatsOf, leap, spaceOf, fuelOf, neverOf, planOn, planOf, Sure, Open, Loops, Plan, Stop, Go}
 use Rattle.rle_refines.specs.Meaning.{Stack, empty, stackUpto, stackOf, blanks, stream, streamOf, tapeOf, configOf, RunsFit, ChainFits}
 use Rattle.rle_refines.specs.Statement.{tableIn, Judged, Unproved, hasRule, isFull}
 use Rattle.rle_refines.specs.StackFacts.{Reach, reach-blank, reach-none, reach-run, empty-of-blank}

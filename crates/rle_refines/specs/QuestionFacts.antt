@@ -26,7 +26,7 @@ use Rattle.sim.specs.declared.questions.Counted.the-variants as Counted
 use Rattle.sim.specs.Questions.{askedOn}
 use Rattle.rle.specs.Engine.{Conf}
 use Rattle.rle.specs.Fits.{engineCheck}
-use Rattle.rle.specs.Questions.{windowCell, windowFrom, blankTape, spanOf, getAnswer, extentAnswer, countAnswer, windowInto}
+use Rattle.rle.specs.Questions.{raisedCell, windowCell, windowFrom, windowOn, windowAll, blankTape, spanOf, getAnswer, extentAnswer, countAnswer, windowInto}
 use Rattle.rle_refines.specs.Meaning.{tapeOf, ChainFits}
 use Rattle.rle_refines.specs.CellFacts.{here, leftward, rightward, Stands, seen, right-past, cell-is, raised-is}
 use Rattle.rle_refines.specs.SpanFacts.{all-blank, lowest-is, highest-is}
@@ -43,7 +43,7 @@ diff-+pos (pos a) j = omega arith
 diff-+pos (negsuc a) j = omega (arith, diff-⊖ j (suc a))
 
 pub window-length : (σ : Conf) (z : ℤ) (out : List ℕ) → length (windowFrom σ (raisedOf z) out) ≡ length out
-unfolding windowFrom
+unfolding windowFrom windowAll windowCell
 window-length σ z out = length-fill (windowCell σ (raisedOf z)) (length out) 0 out
 
 module _ (m : Machine) (σ : Conf) (f : ChainFits m σ) (z : ℤ) (out : List ℕ) where
@@ -58,7 +58,7 @@ module _ (m : Machine) (σ : Conf) (f : ChainFits m σ) (z : ℤ) (out : List �
 
   -- place j holds the cell at z + j
   pub window-is : dn z ≤ 2 ^ 63 → (j : ℕ) → j < length out → getD (windowFrom σ (raisedOf z) out) j 0 ≡ tapeOf σ .cell (z +ℤ pos j)
-  unfolding windowFrom windowCell
+  unfolding windowFrom windowAll windowCell windowOn raisedCell
   window-is low j there =
       fill-in (windowCell σ (raisedOf z)) (length out) 0 out j 0 (omega arith) (omega arith) there
       ∙ pick-cases (ltb (raisedOf z + j) (2 ^ 64)) _ 0 (λ x. x ≡ tapeOf σ .cell (z +ℤ pos j))

@@ -15,10 +15,7 @@ use Rattle.turing.specs.RunFacts.{not-defined, run-add}
 use Rattle.turing.specs.TableFacts.{accepted-table}
 use Rattle.sim.specs.Engine.{Task, task}
 use Rattle.stacks.specs.Sides.{placesOf}
-use Rattle.rle.specs.declared.inner.Leap.{Leap}
-use Rattle.rle.specs.declared.inner.Plan.{Plan}
-use Rattle.rle.specs.declared.inner.Plan.the-variants.{Stop}
-use Rattle.rle.specs.Engine.{Conf, leap, leapOf, End, end, onPlan, runWithin, runOf}
+use Rattle.rle.specs.Engine.{Conf, leap, leapOf, End, end, onPlan, runWithin, runOf, Leap, Plan, Stop}
 use Rattle.rle_refines.specs.Meaning.{configOf, ChainFits}
 use Rattle.rle_refines.specs.Full.{FullAt}
 use Rattle.rle_refines.specs.Statement.{tableIn, after, Unproved, hasRule, isFull, Kept, Went, Answers, verdict, halted, spent, stopped, full, Refines, ChainRefines}

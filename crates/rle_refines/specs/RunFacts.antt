@@ -21,10 +21,7 @@ use Rattle.turing.specs.NeverFacts.{Bare, never-sound-bare}
 use Rattle.turing.specs.TableFacts.{accepted-table}
 use Rattle.sim.specs.declared.StopRule.{StopRule}
 use Rattle.sim.specs.Engine.{Task, task}
-use Rattle.rle.specs.declared.inner.Leap.{Leap}
-use Rattle.rle.specs.declared.inner.Plan.{Plan}
-use Rattle.rle.specs.declared.inner.Plan.the-variants.{Stop, Go}
-use Rattle.rle.specs.Engine.{Conf, leapOf, planOf, End, end, onPlan, runWithin, runOf}
+use Rattle.rle.specs.Engine.{Conf, leapOf, planOf, End, end, onPlan, runWithin, runOf, Leap, Plan, Stop, Go}
 use Rattle.rle_refines.specs.Meaning.{configOf, ChainFits}
 use Rattle.rle_refines.specs.Statement.{tableIn, Judged, Kept, Answers, verdict, Refines}
 use Rattle.rle_refines.specs.PlanFacts as P

@@ -1,9 +1,9 @@
 // What the timeline's operations test before they begin: the table check, 8, 11, 12 of the engine, then 14, 15 and 13.
 use super::Timeline;
-use rle::ChainSim;
-use rle_engine::inner as engine;
 use machine::Checked;
 use machine::Machine;
+use rle::ChainSim;
+use rle_engine::inner as engine;
 use times::inner as sums;
 ghost use mathlib.Core.Path.{_≡_};
 ghost use Rattle.rle.specs.Engine.{conf};

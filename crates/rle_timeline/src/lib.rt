@@ -1,12 +1,12 @@
 // A timeline over the run-length engine: seek, forward and back over slots in a lent store.
-use rle::ChainSim;
-use rle_engine::inner as engine;
 use machine::Checked;
 use machine::Machine;
 use outcome::Refusal;
+use rle::ChainSim;
+use rle_engine::inner as engine;
 use sim::Answer;
-use times::inner as sums;
 use times::Times;
+use times::inner as sums;
 ghost use mathlib.Core.Path.{_≡_};
 ghost use Rattle.rle.specs.Engine.{conf};
 ghost use Rattle.times.specs.Timeline.{seek, forward, back};

@@ -1,10 +1,10 @@
 // The loop that goes forward: a turn records the engine where a slot is due, and advances.
 use super::Timeline;
-use rle_engine::inner as engine;
-use rle_engine::inner::Advanced;
-use rle::ChainSim;
 use machine::Machine;
 use outcome::Outcome;
+use rle::ChainSim;
+use rle_engine::inner as engine;
+use rle_engine::inner::Advanced;
 use times::Times;
 ghost use mathlib.Core.Path.{_≡_};
 ghost use Rattle.rle.specs.Engine.{conf};

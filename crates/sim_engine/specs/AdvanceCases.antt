@@ -16,24 +16,11 @@ use Rattle.sim.specs.Engine.{Conf, conf}
 use Rattle.sim.specs.Operations.{runCheck, Given, given}
 use Rattle.sim.specs.OperationCases.{run-says}
 use Rattle.sim.specs.Runs.{answerOf}
-use Rattle.times.specs.Kind.{verdictOr}
+use Rattle.times.specs.Kind.{verdictOr, spent}
+use Rattle.times.specs.VerdictFacts.{spent-verdict, other-verdict}
 use Rattle.sim_engine.specs.Advance.{ranFrom, advanceOf}
-use Rattle.sim_engine.specs.Code.{outcomeIn, spent}
+use Rattle.sim_engine.specs.Code.{outcomeIn}
 use Rattle.sim_engine.specs.AdvanceFacts.{ran-passed, ran-within, no-fuel-at, run-holds}
-
-verdict-ran : (o v : Outcome) → spent o ≡ false → verdictOr o v ≡ o
-verdict-ran (OutOfFuel n) v e = absurd (clash refl e)
-verdict-ran (Halted n q) v e = refl
-verdict-ran (NeverHalts n p) v e = refl
-verdict-ran (Stopped n) v e = refl
-verdict-ran (Full n) v e = refl
-
-verdict-spent : (o v : Outcome) → spent o ≡ true → verdictOr o v ≡ v
-verdict-spent (OutOfFuel n) v e = refl
-verdict-spent (Halted n q) v e = absurd (clash e refl)
-verdict-spent (NeverHalts n p) v e = absurd (clash e refl)
-verdict-spent (Stopped n) v e = absurd (clash e refl)
-verdict-spent (Full n) v e = absurd (clash e refl)
 
 -- what a run of the code answers is what an advance makes of it
 module _ (m : Machine) (s : List ℕ) (proves : Bool) (n : ℕ) (σ τ : Conf) (a : Answer) (ran : given τ a ≡ answerOf Accepted m s proves Rule.Never n σ) where
@@ -67,7 +54,7 @@ module _ (m : Machine) (s : List ℕ) (n : ℕ) (v w : Simulator) (c0 c1 c2 d0 d
     unfolding advanceOf
     ends-ran e =
         let k : verdictOr (ranFrom m s false n σ .outcome) (ranFrom m s true 0 (ranFrom m s false n σ .at) .outcome) ≡ ranFrom m s false n σ .outcome
-        = verdict-ran (ranFrom m s false n σ .outcome) _ (ap spent (sym is-ran) ∙ e) in
+        = other-verdict (ranFrom m s false n σ .outcome) _ (ap spent (sym is-ran) ∙ e) in
         λ i. ((is-ran ∙ sym k) i, ran-at m s false n σ τ a ran i)
 
     pub ends-tested : spent o ≡ true → (x : Simulator) (e0 e1 e2 : List ℕ) (b : Answer) (p : Outcome)
@@ -75,7 +62,7 @@ module _ (m : Machine) (s : List ℕ) (n : ℕ) (v w : Simulator) (c0 c1 c2 d0 d
     unfolding advanceOf
     ends-tested e x e0 e1 e2 b p again r =
         let k : verdictOr (ranFrom m s false n σ .outcome) (ranFrom m s true 0 (ranFrom m s false n σ .at) .outcome) ≡ ranFrom m s true 0 (ranFrom m s false n σ .at) .outcome
-        = verdict-spent (ranFrom m s false n σ .outcome) _ (ap spent (sym is-ran) ∙ e) in
+        = spent-verdict (ranFrom m s false n σ .outcome) _ (ap spent (sym is-ran) ∙ e) in
         let here : τ ≡ ranFrom m s false n σ .at = ran-at m s false n σ τ a ran in
         let said : p ≡ ranFrom m s true 0 (ranFrom m s false n σ .at) .outcome
         = r ∙ ran-outcome m s true 0 τ (conf x e0 e1 e2) b again ∙ ap (λ (y : Conf). ranFrom m s true 0 y .outcome) here in

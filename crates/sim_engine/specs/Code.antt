@@ -6,7 +6,7 @@ use mathlib.Core.Option.{Option, none, some}
 use Prim.Native.Nat.{ℕ, _+_, _≤_}
 use lib.ListN.{length}
 use Rattle.outcome.specs.declared.Outcome.{Outcome}
-use Rattle.outcome.specs.declared.Outcome.the-variants.{Halted, OutOfFuel, NeverHalts, Stopped, Full}
+use Rattle.outcome.specs.declared.Outcome.the-variants.{OutOfFuel}
 use Rattle.machine.specs.declared.Machine.{Machine}
 use Rattle.tape.specs.declared.Tape.{Tape}
 use Rattle.tape.specs.Moves.{Held}
@@ -25,13 +25,6 @@ use Rattle.sim_engine.specs.Slots.{sizeOf, slotSize, part0, part1, part2
 abbrev pub outcomeIn : Answer → Outcome
 outcomeIn (Ans.Done o) = o
 outcomeIn (Ans.Refused why) = OutOfFuel 0
-
-abbrev pub spent : Outcome → Bool
-spent (OutOfFuel n) = true
-spent (Halted n q) = false
-spent (NeverHalts n p) = false
-spent (Stopped n) = false
-spent (Full n) = false
 
 -- ---- saving
 

@@ -13,6 +13,7 @@ use slots::inner::put_32;
 use slots::inner::put_64;
 use symbol::State;
 use tape::Tape;
+use times::inner::is_spent;
 ghost use mathlib.Core.Path.{_≡_};
 ghost use mathlib.Core.Bool.{true};
 ghost use Prim.Native.Nat.{_+_, _≤_, _<_};
@@ -26,7 +27,7 @@ ghost use Rattle.sim.specs.Engine.{conf};
 ghost use Rattle.sim.specs.Operations.{ifHas, sizesFit, simFits, runCheck};
 ghost use Rattle.sim_engine.specs.Advance.{advanceOf};
 ghost use Rattle.sim_engine.specs.Slots.{sizeIf, sizeOf, putTape, putHeld, putIf, packOf, tapeAt, simIn, partOf, part0, part1, part2, holdsOne, fillIf, filled, unpackOf};
-ghost use Rattle.sim_engine.specs.Code.{outcomeIn, spent, PutOk, PutIf, SaveOk, FillOk, FillIf, FilledOk, restored, restoredOn};
+ghost use Rattle.sim_engine.specs.Code.{outcomeIn, PutOk, PutIf, SaveOk, FillOk, FillIf, FilledOk, restored, restoredOn};
 
 // An engine after an advance, and how the advance ended.
 pub struct Advanced {
@@ -41,18 +42,6 @@ fn outcome_in(answer: Answer) -> Outcome
     match answer {
         Answer::Done(outcome) => outcome,
         Answer::Refused(_) => Outcome::OutOfFuel { steps: 0 },
-    }
-}
-
-fn is_spent(outcome: Outcome) -> bool
-    ensures { λ r. ⌜ r ≡ spent outcome ⌝ }
-{
-    match outcome {
-        Outcome::Halted { steps: _, state: _ } => false,
-        Outcome::OutOfFuel { steps: _ } => true,
-        Outcome::NeverHalts { steps: _, proof: _ } => false,
-        Outcome::Stopped { steps: _ } => false,
-        Outcome::Full { steps: _ } => false,
     }
 }
 

@@ -3,6 +3,7 @@ pub mod Timeline
 pub mod Due
 pub mod DueCases
 pub mod Kind
+pub mod VerdictFacts
 pub mod Code
 pub mod Sound
 pub mod TurnCases

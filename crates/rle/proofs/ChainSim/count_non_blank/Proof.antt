@@ -1,4 +1,4 @@
-use Rattle.rle.specs.QuestionCases.{asked-ok, count-refused, count-done}
+use Rattle.rle.specs.QuestionCases.{asked-places, asked-sums, count-refused, count-done}
 use borrow.Author.Needs.{needs}
 use Rattle.rle.proofs.ChainSim.count_non_blank.Statement.{statement}
 use Rattle.rle.proofs.ChainSim.count_non_blank.Tie as tie
@@ -16,10 +16,10 @@ enum-told : tie.Need-enum-told
 enum-told c = search needs
 
 count-requires : tie.Need-count-requires
-count-requires c κs = asked-ok _ _ _ _ (c .before .before .engine-check .ensures) (c .enum-told .given .1)
+count-requires c κs = (asked-places _ _ _ _ (c .before .before .before .engine-check .ensures) (c .before .enum-told .given .1), asked-sums _ _ _ _ (c .before .before .before .engine-check .ensures) (c .before .enum-told .given .1))
 
 returns-2 : tie.Need-returns-2
-returns-2 c = count-done _ _ _ _ (c .before .before .before .engine-check .ensures) (c .before .enum-told .given .1) _ (c .count .ensures)
+returns-2 c = count-done _ _ _ _ (c .before .before .before .before .engine-check .ensures) (c .before .before .enum-told .given .1) _ (c .count .ensures)
 
 pub count-non-blank-spec : {M : Type 1} → statement M
 count-non-blank-spec =

@@ -1,5 +1,4 @@
-use native.Mathlib.Omega.{arith}
-use Rattle.rle.specs.EngineCases.{plan-halts, plan-never, plan-goes}
+use Rattle.rle.specs.EngineCases.{turn-halts, turn-never, turn-goes}
 use borrow.Author.Needs.{needs}
 use Rattle.rle.proofs.ChainSim.decide.Statement.{statement}
 use Rattle.rle.proofs.ChainSim.decide.Tie as tie
@@ -11,31 +10,28 @@ enum-told : tie.Need-enum-told
 enum-told c = search needs
 
 returns : tie.Need-returns
-returns c = plan-halts _ _ _ _ (c .before .before .entry-of .ensures) (c .enum-told .given .1)
+returns c = turn-halts _ _ _ _ (c .before .before .entry-of .ensures) (c .enum-told .given .1)
 
 enum-known-found : tie.Need-enum-known-found
 enum-known-found c = search needs
 
-sure-of-requires : tie.Need-sure-of-requires
-sure-of-requires c κs = search needs
+loops-on-requires : tie.Need-loops-on-requires
+loops-on-requires c κs = search needs
 
 asked-requires : tie.Need-asked-requires
 asked-requires c κs = search needs
 
-enum-known-known : tie.Need-enum-known-known
-enum-known-known c = search needs
+proof-of-requires : tie.Need-proof-of-requires
+proof-of-requires c κs = search needs
 
 returns-2 : tie.Need-returns-2
-returns-2 c = plan-never _ _ _ _ (c .before .before .before .before .before .before .before .before .entry-of .ensures) _ (c .before .before .before .before .before .before .found .given .1) _ _ (c .before .before .before .before .sure-of .ensures) (c .before .before .before .asked .ensures) _ (c .before .known .given .1)
-
-enum-told-2 : tie.Need-enum-told-2
-enum-told-2 c = search needs
+returns-2 c = turn-never _ _ _ _ (c .before .before .before .before .before .before .before .entry-of .ensures) _ (c .before .before .before .before .before .found .given .1) _ (c .before .before .before .loops-on .ensures) _ (c .before .before .asked .ensures) (c .before .if1 .taken) _ (c .proof-of .ensures)
 
 fueled-requires : tie.Need-fueled-requires
-fueled-requires c κs = ((c .before .before .before .before .before .before .before .before .before .before .before .before .before .before .before .pre .0 .sides, omega (arith, c .before .before .before .before .before .before .before .before .before .before .before .before .before .before .before .pre .0 .counts .steps-in)), c .before .before .before .before .before .before .before .before .before .before .before .before .before .before .before .pre .1)
+fueled-requires c κs = search needs
 
 returns-3 : tie.Need-returns-3
-returns-3 c = plan-goes _ _ _ _ (c .before .before .before .before .before .before .before .before .entry-of .ensures) _ (c .before .before .before .before .before .before .found .given .1) _ _ (c .before .before .before .before .sure-of .ensures) (c .before .before .before .asked .ensures) (c .before .enum-told2 .given .1) _ (c .fueled .ensures)
+returns-3 c = turn-goes _ _ _ _ (c .before .before .before .before .before .before .before .entry-of .ensures) _ (c .before .before .before .before .before .found .given .1) _ (c .before .before .before .loops-on .ensures) _ (c .before .before .asked .ensures) (c .before .if1 .left) _ (c .fueled .ensures)
 
 pub decide-spec : {M : Type 1} → statement M
 decide-spec =
@@ -45,10 +41,9 @@ decide-spec =
     enum-told
     returns
     enum-known-found
-    sure-of-requires
+    loops-on-requires
     asked-requires
-    enum-known-known
+    proof-of-requires
     returns-2
-    enum-told-2
     fueled-requires
     returns-3)

@@ -12,11 +12,8 @@ matches-requires c κs = search needs
 returns-2 : tie.Need-returns-2
 returns-2 c = fuel-stops _ _ _ _ _ (c .before .before .if1 .left) _ (c .before .matches .ensures) (c .if2 .taken)
 
-space-requires : tie.Need-space-requires
-space-requires c κs = search needs
-
 returns-3 : tie.Need-returns-3
-returns-3 c = fuel-goes _ _ _ _ _ (c .before .before .before .if1 .left) _ (c .before .before .matches .ensures) (c .before .if2 .left) _ (c .space .ensures)
+returns-3 c = fuel-goes _ _ _ _ _ (c .before .before .before .before .before .if1 .left) _ (c .before .before .before .before .matches .ensures) (c .before .before .before .if2 .left)
 
 pub fueled-spec : {M : Type 1} → statement M
-fueled-spec = tie.close (tie.spec returns matches-requires returns-2 space-requires returns-3)
+fueled-spec = tie.close (tie.spec returns matches-requires returns-2 returns-3)

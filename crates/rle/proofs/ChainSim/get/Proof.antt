@@ -1,6 +1,6 @@
 use mir.ValLaws.{toZ-ofZ}
 use mir.Syntax.{w64}
-use Rattle.rle.specs.QuestionCases.{asked-ok, get-refused, get-done}
+use Rattle.rle.specs.QuestionCases.{asked-places, get-refused, get-done}
 use borrow.Author.Needs.{needs}
 use Rattle.rle.proofs.ChainSim.get.Statement.{statement}
 use Rattle.rle.proofs.ChainSim.get.Tie as tie
@@ -21,10 +21,10 @@ raised-requires : tie.Need-raised-requires
 raised-requires c κs = search needs
 
 cell-requires : tie.Need-cell-requires
-cell-requires c κs = asked-ok _ _ _ _ (c .before .before .before .engine-check .ensures) (c .before .enum-told .given .1) .sides
+cell-requires c κs = asked-places _ _ _ _ (c .before .before .before .before .engine-check .ensures) (c .before .before .enum-told .given .1)
 
 returns-2 : tie.Need-returns-2
-returns-2 c = get-done _ _ _ _ (c .before .before .before .before .engine-check .ensures) (c .before .before .enum-told .given .1) _ _ _ _ (c .before .raised .ensures .0) (toZ-ofZ w64 _ (c .before .before .before .before .before .before .before .before .before .before .fits .at)) (c .cell .ensures)
+returns-2 c = get-done _ _ _ _ (c .before .before .before .before .before .engine-check .ensures) (c .before .before .before .enum-told .given .1) _ _ _ _ (c .before .raised .ensures .0) (toZ-ofZ w64 _ (c .before .before .before .before .before .before .before .before .before .before .before .fits .at)) (c .cell .ensures)
 
 pub get-spec : {M : Type 1} → statement M
 get-spec =

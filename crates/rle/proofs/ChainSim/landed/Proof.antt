@@ -3,6 +3,9 @@ use borrow.Author.Needs.{needs}
 use Rattle.rle.proofs.ChainSim.landed.Statement.{statement}
 use Rattle.rle.proofs.ChainSim.landed.Tie as tie
 
+head-for-requires : tie.Need-head-for-requires
+head-for-requires c κs = search needs
+
 lower-requires : tie.Need-lower-requires
 lower-requires c κs = search needs
 
@@ -16,7 +19,8 @@ add-t11 : tie.Need-add-t11
 add-t11 c = search needs
 
 returns : tie.Need-returns
-returns c = λ ls ll rs rl σ e. landed-made (c .before .before .before .before .before .before .args .j) _ _ _ _ _ _ _ (c .before .before .before .before .lower .ensures) (c .before .before .before .upper .ensures) ls ll rs rl σ e
+returns c = landed-made (c .before .before .before .before .before .before .before .before .args .s .dir) (c .before .before .before .before .before .before .before .before .args .s .next) (c .before .before .before .before .before .before .before .before .args .self) (c .before .before .before .before .before .before .before .before .args .w .left) (c .before .before .before .before .before .before .before .before .args .w .cur) (c .before .before .before .before .before .before .before .before .args .w .right) (c .before .before .before .before .before .before .before .before .args .w .repeats) _ _ _ (c .before .before .before .before .before .head-for .ensures) (c .before .before .before .before .lower .ensures) (c .before .before .before .upper .ensures)
 
 pub landed-spec : {M : Type 1} → statement M
-landed-spec = tie.close (tie.spec lower-requires upper-requires add-t10 add-t11 returns)
+landed-spec =
+    tie.close (tie.spec head-for-requires lower-requires upper-requires add-t10 add-t11 returns)

@@ -2,7 +2,7 @@ use native.Mathlib.Omega.{arith}
 use Rattle.sim.specs.Engine.{task}
 use Rattle.rle.specs.Engine.{conf}
 use Rattle.rle.specs.Turns.{Going}
-use Rattle.rle.specs.RunCases.{going-start, going-ends, going-fine, going-leap, going-on}
+use Rattle.rle.specs.RunCases.{going-start, going-ends, going-make, going-full, going-fine, going-counts, going-on}
 use borrow.Author.Needs.{needs}
 use Rattle.rle.proofs.ChainSim.run_all.Statement.{statement}
 use Rattle.rle.proofs.ChainSim.run_all.Tie as tie
@@ -24,40 +24,58 @@ loop-holds : tie.Need-loop-holds Inv-loop μ-loop
 loop-holds c = going-start _ _ _ _ _ _ (c .before .before .before .before .before .before .before .before .before .before .before .pre) (c .before .before .before .places .ensures) (c .places2 .ensures)
 
 decide-requires : tie.Need-decide-requires Inv-loop μ-loop
-decide-requires c κs = (c .before .before .before .before .loop .inv .ok, (c .before .before .before .before .loop .inv .lefts, c .before .before .before .before .loop .inv .rights))
+decide-requires c κs = c .loop .inv .ok .table
 
-enum-known-plan : tie.Need-enum-known-plan Inv-loop μ-loop
-enum-known-plan c = search needs
+enum-known-turn : tie.Need-enum-known-turn Inv-loop μ-loop
+enum-known-turn c = search needs
 
 same-length : tie.Need-same-length Inv-loop μ-loop
-same-length c = omega (arith, c .before .before .before .before .before .before .before .before .loop .inv .sizes .ls)
+same-length c = omega (arith, c .before .before .before .before .loop .inv .sizes .ls)
 
 same-length-2 : tie.Need-same-length-2 Inv-loop μ-loop
-same-length-2 c = omega (arith, c .before .before .before .before .before .before .before .before .loop .inv .sizes .ll)
+same-length-2 c = omega (arith, c .before .before .before .before .loop .inv .sizes .ll)
 
 same-length-3 : tie.Need-same-length-3 Inv-loop μ-loop
-same-length-3 c = omega (arith, c .before .before .before .before .before .before .before .before .loop .inv .sizes .rs)
+same-length-3 c = omega (arith, c .before .before .before .before .loop .inv .sizes .rs)
 
 same-length-4 : tie.Need-same-length-4 Inv-loop μ-loop
-same-length-4 c = omega (arith, c .before .before .before .before .before .before .before .before .loop .inv .sizes .rl)
+same-length-4 c = omega (arith, c .before .before .before .before .loop .inv .sizes .rl)
 
 returns : tie.Need-returns Inv-loop μ-loop
-returns c = going-ends _ _ _ _ _ _ _ _ (c .before .before .before .before .before .before .before .before .loop .inv) _ (c .before .before .before .decide .ensures) _ (c .before .plan .given .1)
+returns c = going-ends _ _ _ _ _ _ _ _ (c .before .before .before .before .loop .inv) _ (c .before .before .before .decide .ensures) _ (c .before .turn .given .1)
 
-enum-known-plan-2 : tie.Need-enum-known-plan-2 Inv-loop μ-loop
-enum-known-plan-2 c = search needs
+enum-known-turn-2 : tie.Need-enum-known-turn-2 Inv-loop μ-loop
+enum-known-turn-2 c = search needs
 
-leap-requires : tie.Need-leap-requires Inv-loop μ-loop
-leap-requires c κs = going-leap _ _ _ _ _ _ _ _ (c .before .before .before .before .before .before .before .before .before .before .before .before .loop .inv) _ (c .before .before .before .before .before .before .before .decide .ensures) _ (c .before .before .before .before .before .plan2 .given .1)
+make-requires : tie.Need-make-requires Inv-loop μ-loop
+make-requires c κs = going-make _ _ _ _ _ _ _ _ (c .before .before .before .before .before .before .before .before .before .loop .inv) _ (c .before .before .before .before .before .before .before .before .decide .ensures) _ (c .before .before .before .before .before .before .turn2 .given .1)
+
+same-length-5 : tie.Need-same-length-5 Inv-loop μ-loop
+same-length-5 c = omega (arith, c .before .before .before .before .before .before .before .before .before .before .before .before .before .before .before .before .before .before .before .before .loop .inv .sizes .ls, c .before .before .before .before .before .before .before .before .before .before .make .kept)
+
+same-length-6 : tie.Need-same-length-6 Inv-loop μ-loop
+same-length-6 c = omega (arith, c .before .before .before .before .before .before .before .before .before .before .before .before .before .before .before .before .before .before .before .before .loop .inv .sizes .ll, c .before .before .before .before .before .before .before .before .before .before .make .kept)
+
+same-length-7 : tie.Need-same-length-7 Inv-loop μ-loop
+same-length-7 c = omega (arith, c .before .before .before .before .before .before .before .before .before .before .before .before .before .before .before .before .before .before .before .before .loop .inv .sizes .rs, c .before .before .before .before .before .before .before .before .before .before .make .kept)
+
+same-length-8 : tie.Need-same-length-8 Inv-loop μ-loop
+same-length-8 c = omega (arith, c .before .before .before .before .before .before .before .before .before .before .before .before .before .before .before .before .before .before .before .before .loop .inv .sizes .rl, c .before .before .before .before .before .before .before .before .before .before .make .kept)
+
+returns-2 : tie.Need-returns-2 Inv-loop μ-loop
+returns-2 c = going-full _ _ _ _ _ _ _ _ (c .before .before .before .before .before .before .before .before .before .before .before .before .before .before .before .before .before .before .before .before .loop .inv) _ (c .before .before .before .before .before .before .before .before .before .before .before .before .before .before .before .before .before .before .before .decide .ensures) _ (c .before .before .before .before .before .before .before .before .before .before .before .before .before .before .before .before .before .turn2 .given .1) _ (c .before .before .before .before .before .before .before .before .before .before .make .ensures) (c .if1 .taken)
+
+landed-requires : tie.Need-landed-requires Inv-loop μ-loop
+landed-requires c κs = going-counts _ _ _ _ _ _ _ _ (c .before .before .before .before .before .before .before .before .before .before .before .before .before .before .before .before .before .before .before .before .loop .inv) _ (c .before .before .before .before .before .before .before .before .before .before .before .before .before .before .before .before .before .before .before .decide .ensures) _ (c .before .before .before .before .before .before .before .before .before .before .before .before .before .before .before .before .before .turn2 .given .1) _ (c .before .before .before .before .before .before .before .before .before .before .make .ensures) (c .if1 .left)
 
 sub-left : tie.Need-sub-left Inv-loop μ-loop
-sub-left c = going-fine _ _ _ _ _ _ _ _ (c .before .before .before .before .before .before .before .before .before .before .before .before .before .before .before .before .before .before .before .before .before .before .loop .inv) _ (c .before .before .before .before .before .before .before .before .before .before .before .before .before .before .before .before .before .decide .ensures) _ (c .before .before .before .before .before .before .before .before .before .before .before .before .before .before .before .plan2 .given .1) .no-more
+sub-left c = going-fine _ _ _ _ _ _ _ _ (c .before .before .before .before .before .before .before .before .before .before .before .before .before .before .before .before .before .before .before .before .before .before .loop .inv) _ (c .before .before .before .before .before .before .before .before .before .before .before .before .before .before .before .before .before .before .before .before .before .decide .ensures) _ (c .before .before .before .before .before .before .before .before .before .before .before .before .before .before .before .before .before .before .before .turn2 .given .1) _ (c .before .before .before .before .before .before .before .before .before .before .before .before .make .ensures) (c .before .before .if1 .left) .no-more
 
 loop-less : tie.Need-loop-less Inv-loop μ-loop
-loop-less c = omega (arith, going-fine _ _ _ _ _ _ _ _ (c .before .before .before .before .before .before .before .before .before .before .before .before .before .before .before .before .before .before .before .before .before .before .loop .inv) _ (c .before .before .before .before .before .before .before .before .before .before .before .before .before .before .before .before .before .decide .ensures) _ (c .before .before .before .before .before .before .before .before .before .before .before .before .before .before .before .plan2 .given .1) .some-steps, going-fine _ _ _ _ _ _ _ _ (c .before .before .before .before .before .before .before .before .before .before .before .before .before .before .before .before .before .before .before .before .before .before .loop .inv) _ (c .before .before .before .before .before .before .before .before .before .before .before .before .before .before .before .before .before .decide .ensures) _ (c .before .before .before .before .before .before .before .before .before .before .before .before .before .before .before .plan2 .given .1) .no-more)
+loop-less c = omega (arith, going-fine _ _ _ _ _ _ _ _ (c .before .before .before .before .before .before .before .before .before .before .before .before .before .before .before .before .before .before .before .before .before .before .loop .inv) _ (c .before .before .before .before .before .before .before .before .before .before .before .before .before .before .before .before .before .before .before .before .before .decide .ensures) _ (c .before .before .before .before .before .before .before .before .before .before .before .before .before .before .before .before .before .before .before .turn2 .given .1) _ (c .before .before .before .before .before .before .before .before .before .before .before .before .make .ensures) (c .before .before .if1 .left) .some-steps, going-fine _ _ _ _ _ _ _ _ (c .before .before .before .before .before .before .before .before .before .before .before .before .before .before .before .before .before .before .before .before .before .before .loop .inv) _ (c .before .before .before .before .before .before .before .before .before .before .before .before .before .before .before .before .before .before .before .before .before .decide .ensures) _ (c .before .before .before .before .before .before .before .before .before .before .before .before .before .before .before .before .before .before .before .turn2 .given .1) _ (c .before .before .before .before .before .before .before .before .before .before .before .before .make .ensures) (c .before .before .if1 .left) .no-more)
 
 loop-again : tie.Need-loop-again Inv-loop μ-loop
-loop-again c = going-on _ _ _ _ _ _ _ _ (c .before .before .before .before .before .before .before .before .before .before .before .before .before .before .before .before .before .before .before .before .before .before .loop .inv) _ (c .before .before .before .before .before .before .before .before .before .before .before .before .before .before .before .before .before .decide .ensures) _ (c .before .before .before .before .before .before .before .before .before .before .before .before .before .before .before .plan2 .given .1) _ (c .before .before .before .before .before .before .before .before .before .leap .ensures)
+loop-again c = going-on _ _ _ _ _ _ _ _ (c .before .before .before .before .before .before .before .before .before .before .before .before .before .before .before .before .before .before .before .before .before .before .loop .inv) _ (c .before .before .before .before .before .before .before .before .before .before .before .before .before .before .before .before .before .before .before .before .before .decide .ensures) _ (c .before .before .before .before .before .before .before .before .before .before .before .before .before .before .before .before .before .before .before .turn2 .given .1) _ (c .before .before .before .before .before .before .before .before .before .before .before .before .make .ensures) (c .before .before .if1 .left) _ (c .before .landed .ensures)
 
 pub run-all-spec : {M : Type 1} → statement M
 run-all-spec =
@@ -69,14 +87,20 @@ run-all-spec =
     places-requires-2
     loop-holds
     decide-requires
-    enum-known-plan
+    enum-known-turn
     same-length
     same-length-2
     same-length-3
     same-length-4
     returns
-    enum-known-plan-2
-    leap-requires
+    enum-known-turn-2
+    make-requires
+    same-length-5
+    same-length-6
+    same-length-7
+    same-length-8
+    returns-2
+    landed-requires
     sub-left
     loop-less
     loop-again)

@@ -1,7 +1,7 @@
 use mathlib.Core.Path.{sym, _∙_}
 use mir.ValLaws.{toZ-ofZ}
 use mir.Syntax.{w64}
-use Rattle.rle.specs.QuestionCases.{asked-ok, window-refused, window-done}
+use Rattle.rle.specs.QuestionCases.{asked-places, window-refused, window-done}
 use borrow.Author.Needs.{needs}
 use Rattle.rle.proofs.ChainSim.window.Statement.{statement}
 use Rattle.rle.proofs.ChainSim.window.Tie as tie
@@ -22,13 +22,13 @@ raised-requires : tie.Need-raised-requires
 raised-requires c κs = search needs
 
 fill-window-requires : tie.Need-fill-window-requires
-fill-window-requires c κs = asked-ok _ _ _ _ (c .before .before .before .before .engine-check .ensures) (c .before .before .enum-told .given .1) .sides
+fill-window-requires c κs = asked-places _ _ _ _ (c .before .before .before .before .before .engine-check .ensures) (c .before .before .before .enum-told .given .1)
 
 same-length : tie.Need-same-length
 same-length c = search needs
 
 returns-2 : tie.Need-returns-2
-returns-2 c = (sym (c .before .before .before .before .before .enum-told .given .1) ∙ c .before .before .before .before .before .before .before .engine-check .ensures, window-done _ _ _ _ (c .before .before .before .before .before .before .before .engine-check .ensures) (c .before .before .before .before .before .enum-told .given .1) _ _ _ _ _ (c .before .before .before .before .raised .ensures .0) (toZ-ofZ w64 _ (c .before .before .before .before .before .before .before .before .before .before .before .before .before .before .fits .from)) (c .before .before .fill-window .ensures))
+returns-2 c = (sym (c .before .before .before .before .before .before .enum-told .given .1) ∙ c .before .before .before .before .before .before .before .before .engine-check .ensures, window-done _ _ _ _ (c .before .before .before .before .before .before .before .before .engine-check .ensures) (c .before .before .before .before .before .before .enum-told .given .1) _ _ _ _ _ (c .before .before .before .before .raised .ensures .0) (toZ-ofZ w64 _ (c .before .before .before .before .before .before .before .before .before .before .before .before .before .before .before .fits .from)) (c .before .before .fill-window .ensures))
 
 pub window-spec : {M : Type 1} → statement M
 window-spec =

@@ -10,8 +10,8 @@ stride-requires c κs = advance-stride _ _ _ _ (c .before .before .before .befor
 run-all-requires : tie.Need-run-all-requires
 run-all-requires c κs = advance-ok _ _ _ _ _ (c .before .before .before .before .before .before .before .before .before .before .pre) (c .before .before .before .before .stride .ensures)
 
-spent-requires : tie.Need-spent-requires
-spent-requires c κs = search needs
+is-spent-requires : tie.Need-is-spent-requires
+is-spent-requires c κs = search needs
 
 same-length : tie.Need-same-length
 same-length c = search needs
@@ -26,7 +26,7 @@ same-length-4 : tie.Need-same-length-4
 same-length-4 c = search needs
 
 returns : tie.Need-returns
-returns c = advance-ends _ _ _ _ _ _ (c .before .before .before .before .before .before .before .before .before .before .before .run-all .ensures) _ (c .before .spent .ensures) (not-true _ (c .if1 .taken))
+returns c = advance-ends _ _ _ _ _ _ (c .before .before .before .before .before .before .before .before .before .before .before .run-all .ensures) _ (c .before .is-spent .ensures) (not-true _ (c .if1 .taken))
 
 run-all-requires-2 : tie.Need-run-all-requires-2
 run-all-requires-2 c κs = verdict-ok _ _ _ _ _ _ (c .before .before .before .before .before .before .before .before .before .before .before .before .before .before .before .run-all .ensures) _ (advance-ok _ _ _ _ _ (c .before .before .before .before .before .before .before .before .before .before .before .before .before .before .before .before .before .before .before .before .before .before .before .before .before .before .pre) (c .before .before .before .before .before .before .before .before .before .before .before .before .before .before .before .before .before .before .before .before .stride .ensures))
@@ -44,7 +44,7 @@ same-length-8 : tie.Need-same-length-8
 same-length-8 c = search needs
 
 returns-2 : tie.Need-returns-2
-returns-2 c = advance-told _ _ _ _ _ _ (c .before .before .before .before .before .before .before .before .before .before .before .before .before .before .before .before .before .before .before .before .before .before .before .before .before .run-all .ensures) _ (c .before .before .before .before .before .before .before .before .before .before .before .before .before .before .before .spent .ensures) _ _ (not-false _ (c .before .before .before .before .before .before .before .before .before .before .before .before .before .before .if1 .left)) (c .before .before .before .before .before .before .before .before .before .run-all2 .ensures)
+returns-2 c = advance-told _ _ _ _ _ _ (c .before .before .before .before .before .before .before .before .before .before .before .before .before .before .before .before .before .before .before .before .before .before .before .before .before .run-all .ensures) _ (c .before .before .before .before .before .before .before .before .before .before .before .before .before .before .before .is-spent .ensures) _ _ (not-false _ (c .before .before .before .before .before .before .before .before .before .before .before .before .before .before .if1 .left)) (c .before .before .before .before .before .before .before .before .before .run-all2 .ensures)
 
 pub advance-spec : {M : Type 1} → statement M
 advance-spec =
@@ -52,7 +52,7 @@ advance-spec =
     (tie.spec
     stride-requires
     run-all-requires
-    spent-requires
+    is-spent-requires
     same-length
     same-length-2
     same-length-3
