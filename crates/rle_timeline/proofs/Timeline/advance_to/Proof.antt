@@ -1,3 +1,12 @@
+use Rattle.times.specs.TurnCases.{loop-start, loop-stop, loop-fall, loop-next}
+use Rattle.rle_engine.specs.Kind.{chainKind}
+use native.Mathlib.Omega.{arith}
+use mathlib.Core.Path.{refl}
+use Rattle.rle_timeline.specs.Worlds.{Fits, W}
+use Rattle.times.specs.Sound.{LoopInv}
+use Prim.Native.Nat.{_-_}
+use mathlib.Core.Path.{_≡_}
+use lib.ListN.{length}
 use Rattle.rle_timeline.proofs.Timeline.advance_to.Statement.{statement}
 use Rattle.rle_timeline.proofs.Timeline.advance_to.Tie as tie
 use Rattle.rle_timeline.proofs.Timeline.advance_to.Reads as reads
@@ -5,50 +14,40 @@ use Rattle.rle_timeline.proofs.Timeline.advance_to.Lts as lts
 use Rattle.rle_timeline.proofs.Timeline.turn.Reads as turn-reads
 
 abbrev Inv-loop : tie.InvT-loop
-Inv-loop m table ls₀ ll₀ rs₀ rl₀ store₀ size target timeline₀ ls ll rs rl store timeline = ?
+Inv-loop m table ls₀ ll₀ rs₀ rl₀ store₀ size target timeline₀ ls ll rs rl store timeline = (LoopInv chainKind m table size (Fits m table size) target (W timeline₀ ls₀ ll₀ rs₀ rl₀ store₀) (W timeline ls ll rs rl store)) × (length ls ≡ length ls₀) × (length ll ≡ length ll₀) × (length rs ≡ length rs₀) × (length rl ≡ length rl₀) × (length store ≡ length store₀)
 
 abbrev μ-loop : tie.MeasureT-loop
-μ-loop m table ls₀ ll₀ rs₀ rl₀ store₀ size target timeline₀ ls ll rs rl store timeline = ?
+μ-loop m table ls₀ ll₀ rs₀ rl₀ store₀ size target timeline₀ ls ll rs rl store timeline = target - timeline .engine .steps
 
--- src/turns.rt:161:9
 loop-holds : tie.Need-loop-holds Inv-loop μ-loop
-loop-holds c = ?
+loop-holds c = (loop-start chainKind _ _ _ _ _ _ (c .before .before .before .before .before .before .pre), refl, refl, refl, refl, refl)
 
--- src/turns.rt:162:17
 turn-requires : tie.Need-turn-requires Inv-loop μ-loop
-turn-requires c κs = ?
+turn-requires c κs = c .before .before .before .before .before .loop .inv .0 .ok
 
--- src/turns.rt:166:17
 same-length : tie.Need-same-length Inv-loop μ-loop
-same-length c = ?
+same-length c = omega (arith, c .before .before .before .before .before .before .before .before .before .before .before .before .turn .kept, c .before .before .before .before .before .before .before .before .before .before .before .before .before .before .before .before .before .before .loop .inv .1)
 
--- src/turns.rt:166:17
 same-length-2 : tie.Need-same-length-2 Inv-loop μ-loop
-same-length-2 c = ?
+same-length-2 c = omega (arith, c .before .before .before .before .before .before .before .before .before .before .before .before .turn .kept, c .before .before .before .before .before .before .before .before .before .before .before .before .before .before .before .before .before .before .loop .inv .2)
 
--- src/turns.rt:166:17
 same-length-3 : tie.Need-same-length-3 Inv-loop μ-loop
-same-length-3 c = ?
+same-length-3 c = omega (arith, c .before .before .before .before .before .before .before .before .before .before .before .before .turn .kept, c .before .before .before .before .before .before .before .before .before .before .before .before .before .before .before .before .before .before .loop .inv .3)
 
--- src/turns.rt:166:17
 same-length-4 : tie.Need-same-length-4 Inv-loop μ-loop
-same-length-4 c = ?
+same-length-4 c = omega (arith, c .before .before .before .before .before .before .before .before .before .before .before .before .turn .kept, c .before .before .before .before .before .before .before .before .before .before .before .before .before .before .before .before .before .before .loop .inv .4)
 
--- src/turns.rt:166:17
 same-length-5 : tie.Need-same-length-5 Inv-loop μ-loop
-same-length-5 c = ?
+same-length-5 c = omega (arith, c .before .before .before .before .before .before .before .before .before .before .before .before .turn .kept, c .before .before .before .before .before .before .before .before .before .before .before .before .before .before .before .before .before .before .loop .inv .5)
 
--- src/turns.rt:166:17
 returns : tie.Need-returns Inv-loop μ-loop
-returns c = ?
+returns c = loop-stop chainKind _ _ _ _ _ _ _ _ _ _ (c .before .before .before .before .before .before .before .before .before .before .before .before .turn .ensures) (c .before .before .before .before .before .before .before .before .before .before .before .before .before .before .before .before .before .before .loop .inv .0) (c .if1 .taken)
 
--- src/turns.rt:161:9
 loop-less : tie.Need-loop-less Inv-loop μ-loop
-loop-less c = ?
+loop-less c = loop-fall chainKind _ _ _ _ _ _ _ _ _ _ (c .before .before .before .before .before .before .before .before .before .before .before .before .turn .ensures) (c .before .before .before .before .before .before .before .before .before .before .before .before .before .before .before .before .before .before .loop .inv .0) (c .if1 .left)
 
--- src/turns.rt:161:9
 loop-again : tie.Need-loop-again Inv-loop μ-loop
-loop-again c = ?
+loop-again c = (loop-next chainKind _ _ _ _ _ _ _ _ _ _ (c .before .before .before .before .before .before .before .before .before .before .before .before .turn .ensures) (c .before .before .before .before .before .before .before .before .before .before .before .before .before .before .before .before .before .before .loop .inv .0) (c .if1 .left), omega (arith, c .before .before .before .before .before .before .before .before .before .before .before .before .turn .kept, c .before .before .before .before .before .before .before .before .before .before .before .before .before .before .before .before .before .before .loop .inv .1), omega (arith, c .before .before .before .before .before .before .before .before .before .before .before .before .turn .kept, c .before .before .before .before .before .before .before .before .before .before .before .before .before .before .before .before .before .before .loop .inv .2), omega (arith, c .before .before .before .before .before .before .before .before .before .before .before .before .turn .kept, c .before .before .before .before .before .before .before .before .before .before .before .before .before .before .before .before .before .before .loop .inv .3), omega (arith, c .before .before .before .before .before .before .before .before .before .before .before .before .turn .kept, c .before .before .before .before .before .before .before .before .before .before .before .before .before .before .before .before .before .before .loop .inv .4), omega (arith, c .before .before .before .before .before .before .before .before .before .before .before .before .turn .kept, c .before .before .before .before .before .before .before .before .before .before .before .before .before .before .before .before .before .before .loop .inv .5))
 
 pub advance-to-spec : {M : Type 1} → statement M
 advance-to-spec =

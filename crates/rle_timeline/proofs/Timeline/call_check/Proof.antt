@@ -1,3 +1,6 @@
+use Rattle.times.specs.CallCases.{call-check, call-later}
+use Rattle.rle_timeline.specs.CodeCases.{sizes-in, low-in}
+use Rattle.rle_engine.specs.Kind.{chainKind}
 use borrow.Author.Needs.{needs}
 use Rattle.rle_timeline.proofs.Timeline.call_check.Statement.{statement}
 use Rattle.rle_timeline.proofs.Timeline.call_check.Tie as tie
@@ -7,37 +10,29 @@ use Rattle.rle.proofs.ChainSim.engine_check.Reads as engine-check-reads
 use Rattle.rle_engine.proofs.inner.slot_size.Reads as slot-size-reads
 use Rattle.times.proofs.Times.later_check.Reads as later-check-reads
 
--- src/checks.rt:57:13
 engine-check-requires : tie.Need-engine-check-requires
 engine-check-requires c κs = search needs
 
--- src/checks.rt:59:30
 enum-known-checked : tie.Need-enum-known-checked
 enum-known-checked c = search needs
 
--- src/checks.rt:60:17
 returns : tie.Need-returns
-returns c = ?
+returns c = call-check chainKind _ _ _ _ _ _ _ _ (c .before .before .before .engine-check .ensures) _ (c .before .checked .given .1)
 
--- src/checks.rt:63:21
 enum-told : tie.Need-enum-told
 enum-told c = search needs
 
--- src/checks.rt:63:21
 slot-size-requires : tie.Need-slot-size-requires
-slot-size-requires c κs = ?
+slot-size-requires c κs = sizes-in _ _ _ _ (c .before .before .engine-check .ensures) (c .enum-told .given .1)
 
--- src/checks.rt:64:53
 div-later-check : tie.Need-div-later-check
 div-later-check c = search needs
 
--- src/checks.rt:64:17
 later-check-requires : tie.Need-later-check-requires
-later-check-requires c κs = ?
+later-check-requires c κs = low-in _ _ _ _ (c .before .before .before .engine-check .ensures) (c .before .enum-told .given .1)
 
--- src/checks.rt:64:17
 returns-2 : tie.Need-returns-2
-returns-2 c = ?
+returns-2 c = call-later chainKind _ _ _ _ _ _ _ _ (c .before .before .before .before .engine-check .ensures) _ _ (c .before .slot-size .ensures) (c .before .before .enum-told .given .1) (c .later-check .ensures)
 
 pub call-check-spec : {M : Type 1} → statement M
 call-check-spec =

@@ -1,3 +1,8 @@
+use Rattle.times.specs.CallCases.{new-refused, new-passed, new-room, new-made}
+use Rattle.rle_timeline.specs.CodeCases.{passed-sizes, new-save}
+use Rattle.rle_engine.specs.Kind.{chainKind}
+use mathlib.Core.Path.{refl}
+use Rattle.rle.specs.Engine.{conf}
 use borrow.Author.Needs.{needs}
 use Rattle.rle_timeline.proofs.Timeline.new.Statement.{statement}
 use Rattle.rle_timeline.proofs.Timeline.new.Tie as tie
@@ -7,41 +12,32 @@ use Rattle.rle_engine.proofs.inner.slot_size.Reads as slot-size-reads
 use Rattle.rle_timeline.proofs.checks.new_check.Reads as new-check-reads
 use Rattle.rle_timeline.proofs.turns.save_at.Reads as save-at-reads
 
--- src/lib.rt:56:13
 new-check-requires : tie.Need-new-check-requires
 new-check-requires c κs = search needs
 
--- src/lib.rt:58:30
 enum-known-checked : tie.Need-enum-known-checked
 enum-known-checked c = search needs
 
--- src/lib.rt:59:17
 same-length : tie.Need-same-length
 same-length c = search needs
 
--- src/lib.rt:59:17
 returns : tie.Need-returns
-returns c = ?
+returns c = new-refused chainKind _ _ _ _ _ _ _ refl _ (c .before .before .before .new-check .ensures) _ (c .before .checked .given .1)
 
--- src/lib.rt:62:21
 enum-told : tie.Need-enum-told
 enum-told c = search needs
 
--- src/lib.rt:62:21
 slot-size-requires : tie.Need-slot-size-requires
-slot-size-requires c κs = ?
+slot-size-requires c κs = passed-sizes _ _ _ (new-passed chainKind (c .before .before .before .before .before .before .before .before .before .before .args .m) (c .before .before .before .before .before .before .before .before .before .before .args .table .now) (c .before .before .before .before .before .before .before .before .before .before .args .most) (c .before .before .before .before .before .before .before .before .before .before .args .every) (conf (c .before .before .before .before .before .before .before .before .before .before .args .engine) (c .before .before .before .before .before .before .before .before .before .before .args .ls .now) (c .before .before .before .before .before .before .before .before .before .before .args .ll .now) (c .before .before .before .before .before .before .before .before .before .before .args .rs .now) (c .before .before .before .before .before .before .before .before .before .before .args .rl .now)) (c .before .before .before .before .before .before .before .before .before .before .args .store .now) _ (c .before .before .new-check .ensures) (c .enum-told .given .1))
 
--- src/lib.rt:63:17
 save-at-requires : tie.Need-save-at-requires
-save-at-requires c κs = ?
+save-at-requires c κs = new-save _ _ _ _ _ (new-passed chainKind (c .before .before .before .before .before .before .before .before .before .before .before .before .args .m) (c .before .before .before .before .before .before .before .before .before .before .before .before .args .table .now) (c .before .before .before .before .before .before .before .before .before .before .before .before .args .most) (c .before .before .before .before .before .before .before .before .before .before .before .before .args .every) (conf (c .before .before .before .before .before .before .before .before .before .before .before .before .args .engine) (c .before .before .before .before .before .before .before .before .before .before .before .before .args .ls .now) (c .before .before .before .before .before .before .before .before .before .before .before .before .args .ll .now) (c .before .before .before .before .before .before .before .before .before .before .before .before .args .rs .now) (c .before .before .before .before .before .before .before .before .before .before .before .before .args .rl .now)) (c .before .before .before .before .before .before .before .before .before .before .before .before .args .store .now) _ (c .before .before .before .before .new-check .ensures) (c .before .before .enum-told .given .1)) (c .before .slot-size .ensures) (new-room chainKind (c .before .before .before .before .before .before .before .before .before .before .before .before .args .m) (c .before .before .before .before .before .before .before .before .before .before .before .before .args .table .now) (c .before .before .before .before .before .before .before .before .before .before .before .before .args .most) (c .before .before .before .before .before .before .before .before .before .before .before .before .args .every) (conf (c .before .before .before .before .before .before .before .before .before .before .before .before .args .engine) (c .before .before .before .before .before .before .before .before .before .before .before .before .args .ls .now) (c .before .before .before .before .before .before .before .before .before .before .before .before .args .ll .now) (c .before .before .before .before .before .before .before .before .before .before .before .before .args .rs .now) (c .before .before .before .before .before .before .before .before .before .before .before .before .args .rl .now)) (c .before .before .before .before .before .before .before .before .before .before .before .before .args .store .now) _ (c .before .before .before .before .new-check .ensures) _ (c .before .slot-size .ensures) (c .before .before .enum-told .given .1))
 
--- src/lib.rt:70:17
 same-length-2 : tie.Need-same-length-2
 same-length-2 c = search needs
 
--- src/lib.rt:70:17
 returns-2 : tie.Need-returns-2
-returns-2 c = ?
+returns-2 c = new-made chainKind (c .before .before .before .before .before .before .before .before .before .before .before .before .before .before .before .args .m) (c .before .before .before .before .before .before .before .before .before .before .before .before .before .before .before .args .table .now) (c .before .before .before .before .before .before .before .before .before .before .before .before .before .before .before .args .most) (c .before .before .before .before .before .before .before .before .before .before .before .before .before .before .before .args .every) (conf (c .before .before .before .before .before .before .before .before .before .before .before .before .before .before .before .args .engine) (c .before .before .before .before .before .before .before .before .before .before .before .before .before .before .before .args .ls .now) (c .before .before .before .before .before .before .before .before .before .before .before .before .before .before .before .args .ll .now) (c .before .before .before .before .before .before .before .before .before .before .before .before .before .before .before .args .rs .now) (c .before .before .before .before .before .before .before .before .before .before .before .before .before .before .before .args .rl .now)) (c .before .before .before .before .before .before .before .before .before .before .before .before .before .before .before .args .store .now) _ (c .before .before .before .before .before .before .before .new-check .ensures) _ (c .before .before .before .before .slot-size .ensures) (c .before .before .before .before .before .enum-told .given .1) _ (c .before .before .save-at .ensures)
 
 pub new-spec : {M : Type 1} → statement M
 new-spec =

@@ -1,3 +1,9 @@
+use Rattle.times.specs.TurnCases.{rec-fit, rec-low, rec-not, rec-more, rec-yes}
+use Rattle.rle_timeline.specs.CodeCases.{rec-save}
+use Rattle.rle_timeline.specs.EngineFacts.{chain-sound}
+use Rattle.rle_engine.specs.Kind.{chainKind}
+use borrow.Author.Tests.{not-true, not-false}
+use native.Mathlib.Omega.{arith}
 use borrow.Author.Needs.{needs}
 use Rattle.rle_timeline.proofs.Timeline.record_due.Statement.{statement}
 use Rattle.rle_timeline.proofs.Timeline.record_due.Tie as tie
@@ -7,29 +13,23 @@ use Rattle.rle_timeline.proofs.turns.save_at.Reads as save-at-reads
 use Rattle.times.proofs.Times.is_due.Reads as is-due-reads
 use Rattle.times.proofs.Times.recorded.Reads as recorded-reads
 
--- src/turns.rt:90:13
 is-due-requires : tie.Need-is-due-requires
-is-due-requires c κs = ?
+is-due-requires c κs = (rec-fit chainKind _ _ _ _ (chain-sound _ _ _ (λ j. c .before .before .before .before .before .before .before .shared-slice-known .given j .fits)) _ (c .before .before .before .before .before .before .before .before .pre), rec-low chainKind _ _ _ _ (chain-sound _ _ _ (λ j. c .before .before .before .before .before .before .before .shared-slice-known .given j .fits)) _ (c .before .before .before .before .before .before .before .before .pre))
 
--- src/turns.rt:91:13
 returns : tie.Need-returns
-returns c = ?
+returns c = rec-not chainKind _ _ _ _ (chain-sound _ _ _ (λ j. c .before .before .before .before .before .before .before .before .before .shared-slice-known .given j .fits)) _ _ _ _ (c .before .is-due .ensures) (not-true _ (c .if1 .taken))
 
--- src/turns.rt:93:9
 save-at-requires : tie.Need-save-at-requires
-save-at-requires c κs = ?
+save-at-requires c κs = rec-save _ _ _ _ (λ j. c .before .before .before .before .before .before .before .before .before .before .shared-slice-known .given j .fits) (c .before .before .before .before .before .before .before .before .before .before .before .pre)
 
--- src/turns.rt:94:9
 recorded-requires : tie.Need-recorded-requires
-recorded-requires c κs = ?
+recorded-requires c κs = rec-more chainKind _ _ _ _ (chain-sound _ _ _ (λ j. c .before .before .before .before .before .before .before .before .before .before .before .before .before .before .shared-slice-known .given j .fits)) _ _ _ _ (c .before .before .before .before .before .before .is-due .ensures) (not-false _ (c .before .before .before .before .before .if1 .left)) _ (c .before .before .before .before .before .before .before .before .before .before .before .before .before .before .before .pre) (omega (arith, c .before .before .before .save-at .kept))
 
--- src/turns.rt:74:5
 same-length : tie.Need-same-length
 same-length c = search needs
 
--- src/turns.rt:74:5
 returns-2 : tie.Need-returns-2
-returns-2 c = ?
+returns-2 c = rec-yes chainKind _ _ _ _ (chain-sound _ _ _ (λ j. c .before .before .before .before .before .before .before .before .before .before .before .before .before .before .before .before .before .shared-slice-known .given j .fits)) _ _ _ _ (c .before .before .before .before .before .before .before .before .before .is-due .ensures) (not-false _ (c .before .before .before .before .before .before .before .before .if1 .left)) _ _ _ (c .before .before .before .before .before .before .save-at .ensures) (c .before .before .recorded .ensures)
 
 pub record-due-spec : {M : Type 1} → statement M
 record-due-spec =

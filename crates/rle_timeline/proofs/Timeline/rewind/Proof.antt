@@ -1,3 +1,9 @@
+use Rattle.times.specs.CallCases.{back-small, back-inside}
+use Rattle.rle_timeline.specs.CodeCases.{rewind-found}
+use Rattle.rle_timeline.specs.EngineFacts.{chain-sound}
+use Rattle.rle_engine.specs.Kind.{chainKind}
+use native.Mathlib.Omega.{arith}
+use Rattle.rle_timeline.specs.Worlds.{Fits, W}
 use borrow.Author.Needs.{needs}
 use Rattle.rle_timeline.proofs.Timeline.rewind.Statement.{statement}
 use Rattle.rle_timeline.proofs.Timeline.rewind.Tie as tie
@@ -6,61 +12,47 @@ use Rattle.rle_timeline.proofs.Timeline.rewind.Lts as lts
 use Rattle.rle_engine.proofs.inner.restore.Reads as restore-reads
 use Rattle.times.proofs.Times.slot_for.Reads as slot-for-reads
 
--- src/moves.rt:63:13
 slot-for-requires : tie.Need-slot-for-requires
 slot-for-requires c κs = search needs
 
--- src/moves.rt:64:34
 mul-step : tie.Need-mul-step
-mul-step c = ?
+mul-step c = record { fits = omega (arith, back-small (c .before .before .before .before .before .before .before .before .before .before .args .self .times) (c .before .before .before .before .before .before .before .before .before .before .args .target) (c .before .slot-for .result) (c .before .slot-for .ensures) (c .before .before .before .before .before .before .before .before .before .before .pre .start), c .before .before .before .before .before .before .before .before .before .before .pre .top) }
 
--- src/moves.rt:64:20
 add-step : tie.Need-add-step
-add-step c = ?
+add-step c = record { fits = omega (arith, back-small (c .before .before .before .before .before .before .before .before .before .before .before .args .self .times) (c .before .before .before .before .before .before .before .before .before .before .before .args .target) (c .before .before .slot-for .result) (c .before .before .slot-for .ensures) (c .before .before .before .before .before .before .before .before .before .before .before .pre .start), c .before .before .before .before .before .before .before .before .before .before .before .pre .top) }
 
--- src/moves.rt:65:18
 mul-at : tie.Need-mul-at
-mul-at c = ?
+mul-at c = record { fits = omega (arith, c .before .before .before .before .before .before .before .before .before .before .before .good .1 .1 .1 .1 .1 .1 .1 .0 .0, back-inside chainKind (c .before .before .before .before .before .before .before .before .before .before .before .args .m) (c .before .before .before .before .before .before .before .before .before .before .before .args .table .now) (c .before .before .before .before .before .before .before .before .before .before .before .args .size) (Fits (c .before .before .before .before .before .before .before .before .before .before .before .args .m) (c .before .before .before .before .before .before .before .before .before .before .before .args .table .now) (c .before .before .before .before .before .before .before .before .before .before .before .args .size)) (chain-sound (c .before .before .before .before .before .before .before .before .before .before .before .args .m) (c .before .before .before .before .before .before .before .before .before .before .before .args .table .now) (c .before .before .before .before .before .before .before .before .before .before .before .args .size) (λ j. c .before .before .before .before .before .before .before .before .before .before .shared-slice-known .given j .fits)) (c .before .before .before .before .before .before .before .before .before .before .before .args .target) (W (c .before .before .before .before .before .before .before .before .before .before .before .args .self) (c .before .before .before .before .before .before .before .before .before .before .before .args .ls .now) (c .before .before .before .before .before .before .before .before .before .before .before .args .ll .now) (c .before .before .before .before .before .before .before .before .before .before .before .args .rs .now) (c .before .before .before .before .before .before .before .before .before .before .before .args .rl .now) (c .before .before .before .before .before .before .before .before .before .before .before .args .store .now)) (c .before .before .before .before .before .before .before .before .before .before .before .pre) (c .before .before .slot-for .result) (c .before .before .slot-for .ensures)) }
 
--- src/moves.rt:66:19
 add-end : tie.Need-add-end
-add-end c = ?
+add-end c = record { fits = omega (arith, c .before .before .before .before .before .before .before .before .before .before .before .good .1 .1 .1 .1 .1 .1 .1 .0 .0, back-inside chainKind (c .before .before .before .before .before .before .before .before .before .before .before .args .m) (c .before .before .before .before .before .before .before .before .before .before .before .args .table .now) (c .before .before .before .before .before .before .before .before .before .before .before .args .size) (Fits (c .before .before .before .before .before .before .before .before .before .before .before .args .m) (c .before .before .before .before .before .before .before .before .before .before .before .args .table .now) (c .before .before .before .before .before .before .before .before .before .before .before .args .size)) (chain-sound (c .before .before .before .before .before .before .before .before .before .before .before .args .m) (c .before .before .before .before .before .before .before .before .before .before .before .args .table .now) (c .before .before .before .before .before .before .before .before .before .before .before .args .size) (λ j. c .before .before .before .before .before .before .before .before .before .before .shared-slice-known .given j .fits)) (c .before .before .before .before .before .before .before .before .before .before .before .args .target) (W (c .before .before .before .before .before .before .before .before .before .before .before .args .self) (c .before .before .before .before .before .before .before .before .before .before .before .args .ls .now) (c .before .before .before .before .before .before .before .before .before .before .before .args .ll .now) (c .before .before .before .before .before .before .before .before .before .before .before .args .rs .now) (c .before .before .before .before .before .before .before .before .before .before .before .args .rl .now) (c .before .before .before .before .before .before .before .before .before .before .before .args .store .now)) (c .before .before .before .before .before .before .before .before .before .before .before .pre) (c .before .before .slot-for .result) (c .before .before .slot-for .ensures)) }
 
--- src/moves.rt:67:28
 sub-restore : tie.Need-sub-restore
 sub-restore c = search needs
 
--- src/moves.rt:67:28
 part-restore-start : tie.Need-part-restore-start
 part-restore-start c = search needs
 
--- src/moves.rt:67:28
 part-restore-end : tie.Need-part-restore-end
-part-restore-end c = ?
+part-restore-end c = omega (arith, back-inside chainKind (c .before .before .before .before .before .before .before .before .before .before .before .args .m) (c .before .before .before .before .before .before .before .before .before .before .before .args .table .now) (c .before .before .before .before .before .before .before .before .before .before .before .args .size) (Fits (c .before .before .before .before .before .before .before .before .before .before .before .args .m) (c .before .before .before .before .before .before .before .before .before .before .before .args .table .now) (c .before .before .before .before .before .before .before .before .before .before .before .args .size)) (chain-sound (c .before .before .before .before .before .before .before .before .before .before .before .args .m) (c .before .before .before .before .before .before .before .before .before .before .before .args .table .now) (c .before .before .before .before .before .before .before .before .before .before .before .args .size) (λ j. c .before .before .before .before .before .before .before .before .before .before .shared-slice-known .given j .fits)) (c .before .before .before .before .before .before .before .before .before .before .before .args .target) (W (c .before .before .before .before .before .before .before .before .before .before .before .args .self) (c .before .before .before .before .before .before .before .before .before .before .before .args .ls .now) (c .before .before .before .before .before .before .before .before .before .before .before .args .ll .now) (c .before .before .before .before .before .before .before .before .before .before .before .args .rs .now) (c .before .before .before .before .before .before .before .before .before .before .before .args .rl .now) (c .before .before .before .before .before .before .before .before .before .before .before .args .store .now)) (c .before .before .before .before .before .before .before .before .before .before .before .pre) (c .before .before .slot-for .result) (c .before .before .slot-for .ensures))
 
--- src/moves.rt:67:9
 restore-requires : tie.Need-restore-requires
 restore-requires c κs = search needs
 
--- src/moves.rt:46:5
 same-length : tie.Need-same-length
 same-length c = search needs
 
--- src/moves.rt:46:5
 same-length-2 : tie.Need-same-length-2
 same-length-2 c = search needs
 
--- src/moves.rt:46:5
 same-length-3 : tie.Need-same-length-3
 same-length-3 c = search needs
 
--- src/moves.rt:46:5
 same-length-4 : tie.Need-same-length-4
 same-length-4 c = search needs
 
--- src/moves.rt:46:5
 returns : tie.Need-returns
-returns c = ?
+returns c = rewind-found _ _ _ _ _ _ _ _ _ _ _ _ _ _ _ _ _ (c .before .before .before .before .before .before .before .before .before .before .before .before .before .before .before .before .slot-for .ensures) (c .before .before .before .before .before .before .before .before .restore .ensures)
 
 pub rewind-spec : {M : Type 1} → statement M
 rewind-spec =

@@ -1,3 +1,8 @@
+use Rattle.times.specs.TurnCases.{turn-stride, turn-there, turn-stuck, turn-on}
+use Rattle.rle_timeline.specs.CodeCases.{stride-at}
+use Rattle.rle_timeline.specs.EngineFacts.{chain-sound}
+use Rattle.rle_engine.specs.Kind.{chainKind}
+use native.Mathlib.Omega.{arith}
 use borrow.Author.Needs.{needs}
 use Rattle.rle_timeline.proofs.Timeline.turn.Statement.{statement}
 use Rattle.rle_timeline.proofs.Timeline.turn.Tie as tie
@@ -6,85 +11,65 @@ use Rattle.rle_timeline.proofs.Timeline.turn.Lts as lts
 use Rattle.rle_timeline.proofs.Timeline.record_due.Reads as record-due-reads
 use Rattle.rle_timeline.proofs.turns.stride.Reads as stride-reads
 
--- src/turns.rt:115:13
 record-due-requires : tie.Need-record-due-requires
 record-due-requires c κs = search needs
 
--- src/turns.rt:116:13
 stride-requires : tie.Need-stride-requires
-stride-requires c κs = ?
+stride-requires c κs = stride-at _ _ _ _ _ _ (turn-stride chainKind _ _ _ _ (chain-sound _ _ _ (λ j. c .before .before .before .before .before .before .before .before .before .before .before .before .before .before .before .before .before .before .shared-slice-known .given j .fits)) _ _ _ _ _ _ (c .before .before .before .before .before .before .record-due .ensures) (c .before .before .before .before .before .before .before .before .before .before .before .before .before .before .before .before .before .before .before .pre))
 
--- src/turns.rt:125:13
 same-length : tie.Need-same-length
 same-length c = search needs
 
--- src/turns.rt:125:13
 same-length-2 : tie.Need-same-length-2
 same-length-2 c = search needs
 
--- src/turns.rt:125:13
 same-length-3 : tie.Need-same-length-3
 same-length-3 c = search needs
 
--- src/turns.rt:125:13
 same-length-4 : tie.Need-same-length-4
 same-length-4 c = search needs
 
--- src/turns.rt:125:13
 same-length-5 : tie.Need-same-length-5
 same-length-5 c = search needs
 
--- src/turns.rt:125:13
 returns : tie.Need-returns
-returns c = ?
+returns c = turn-there chainKind _ _ _ _ (chain-sound _ _ _ (λ j. c .before .before .before .before .before .before .before .before .before .before .before .before .before .before .before .before .before .before .before .before .before .before .before .before .before .before .before .before .before .shared-slice-known .given j .fits)) _ _ _ _ _ _ (c .before .before .before .before .before .before .before .before .before .before .before .before .before .before .before .before .before .record-due .ensures) (c .before .before .before .before .before .before .before .before .before .before .before .before .before .before .before .before .before .before .before .before .before .before .before .before .before .before .before .before .before .before .pre) _ _ (c .before .before .before .before .before .before .before .before .before .before .stride .ensures) (omega (arith, c .before .before .before .before .before .before .before .before .before .before .before .before .before .before .before .before .before .record-due .kept)) (c .if1 .taken)
 
--- src/turns.rt:132:13
 same-length-6 : tie.Need-same-length-6
 same-length-6 c = search needs
 
--- src/turns.rt:132:13
 same-length-7 : tie.Need-same-length-7
 same-length-7 c = search needs
 
--- src/turns.rt:132:13
 same-length-8 : tie.Need-same-length-8
 same-length-8 c = search needs
 
--- src/turns.rt:132:13
 same-length-9 : tie.Need-same-length-9
 same-length-9 c = search needs
 
--- src/turns.rt:132:13
 same-length-10 : tie.Need-same-length-10
 same-length-10 c = search needs
 
--- src/turns.rt:132:13
 returns-2 : tie.Need-returns-2
-returns-2 c = ?
+returns-2 c = turn-stuck chainKind _ _ _ _ (chain-sound _ _ _ (λ j. c .before .before .before .before .before .before .before .before .before .before .before .before .before .before .before .before .before .before .before .before .before .before .before .before .before .before .before .before .before .before .shared-slice-known .given j .fits)) _ _ _ _ _ _ (c .before .before .before .before .before .before .before .before .before .before .before .before .before .before .before .before .before .before .record-due .ensures) (c .before .before .before .before .before .before .before .before .before .before .before .before .before .before .before .before .before .before .before .before .before .before .before .before .before .before .before .before .before .before .before .pre) _ _ (c .before .before .before .before .before .before .before .before .before .before .before .stride .ensures) (omega (arith, c .before .before .before .before .before .before .before .before .before .before .before .before .before .before .before .before .before .before .record-due .kept)) (c .before .if1 .left) (c .if2 .taken)
 
--- src/turns.rt:98:5
 same-length-11 : tie.Need-same-length-11
 same-length-11 c = search needs
 
--- src/turns.rt:98:5
 same-length-12 : tie.Need-same-length-12
 same-length-12 c = search needs
 
--- src/turns.rt:98:5
 same-length-13 : tie.Need-same-length-13
 same-length-13 c = search needs
 
--- src/turns.rt:98:5
 same-length-14 : tie.Need-same-length-14
 same-length-14 c = search needs
 
--- src/turns.rt:98:5
 same-length-15 : tie.Need-same-length-15
 same-length-15 c = search needs
 
--- src/turns.rt:98:5
 returns-3 : tie.Need-returns-3
-returns-3 c = ?
+returns-3 c = turn-on chainKind _ _ _ _ (chain-sound _ _ _ (λ j. c .before .before .before .before .before .before .before .before .before .before .before .before .before .before .before .before .before .before .before .before .before .before .before .before .before .before .before .before .before .before .shared-slice-known .given j .fits)) _ _ _ _ _ _ (c .before .before .before .before .before .before .before .before .before .before .before .before .before .before .before .before .before .before .record-due .ensures) (c .before .before .before .before .before .before .before .before .before .before .before .before .before .before .before .before .before .before .before .before .before .before .before .before .before .before .before .before .before .before .before .pre) _ _ (c .before .before .before .before .before .before .before .before .before .before .before .stride .ensures) (omega (arith, c .before .before .before .before .before .before .before .before .before .before .before .before .before .before .before .before .before .before .record-due .kept)) (c .before .if1 .left) (c .if2 .left)
 
 pub turn-spec : {M : Type 1} → statement M
 turn-spec =

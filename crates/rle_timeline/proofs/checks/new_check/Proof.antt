@@ -1,3 +1,6 @@
+use Rattle.times.specs.CallCases.{new-check, new-first}
+use Rattle.rle_timeline.specs.CodeCases.{sizes-in}
+use Rattle.rle_engine.specs.Kind.{chainKind}
 use borrow.Author.Needs.{needs}
 use Rattle.rle_timeline.proofs.checks.new_check.Statement.{statement}
 use Rattle.rle_timeline.proofs.checks.new_check.Tie as tie
@@ -7,37 +10,29 @@ use Rattle.rle.proofs.ChainSim.engine_check.Reads as engine-check-reads
 use Rattle.rle_engine.proofs.inner.slot_size.Reads as slot-size-reads
 use Rattle.times.proofs.inner.first_check.Reads as first-check-reads
 
--- src/checks.rt:29:9
 engine-check-requires : tie.Need-engine-check-requires
 engine-check-requires c κs = search needs
 
--- src/checks.rt:31:26
 enum-known-checked : tie.Need-enum-known-checked
 enum-known-checked c = search needs
 
--- src/checks.rt:32:13
 returns : tie.Need-returns
-returns c = ?
+returns c = new-check chainKind _ _ _ _ _ _ _ _ (c .before .before .before .engine-check .ensures) _ (c .before .checked .given .1)
 
--- src/checks.rt:35:17
 enum-told : tie.Need-enum-told
 enum-told c = search needs
 
--- src/checks.rt:35:17
 slot-size-requires : tie.Need-slot-size-requires
-slot-size-requires c κs = ?
+slot-size-requires c κs = sizes-in _ _ _ _ (c .before .before .engine-check .ensures) (c .enum-told .given .1)
 
--- src/checks.rt:36:51
 div-first-check : tie.Need-div-first-check
 div-first-check c = search needs
 
--- src/checks.rt:36:13
 first-check-requires : tie.Need-first-check-requires
 first-check-requires c κs = search needs
 
--- src/checks.rt:36:13
 returns-2 : tie.Need-returns-2
-returns-2 c = ?
+returns-2 c = new-first chainKind _ _ _ _ _ _ _ _ (c .before .before .before .before .engine-check .ensures) _ _ (c .before .slot-size .ensures) (c .before .before .enum-told .given .1) (c .first-check .ensures)
 
 pub new-check-spec : {M : Type 1} → statement M
 new-check-spec =

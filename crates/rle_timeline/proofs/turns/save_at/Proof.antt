@@ -1,3 +1,7 @@
+use Rattle.times.specs.TurnCases.{saved-is}
+use Rattle.rle_timeline.specs.CodeCases.{part-long}
+use Rattle.rle_engine.specs.Kind.{chainKind}
+use native.Mathlib.Omega.{arith}
 use borrow.Author.Needs.{needs}
 use Rattle.rle_timeline.proofs.turns.save_at.Statement.{statement}
 use Rattle.rle_timeline.proofs.turns.save_at.Tie as tie
@@ -5,37 +9,29 @@ use Rattle.rle_timeline.proofs.turns.save_at.Reads as reads
 use Rattle.rle_timeline.proofs.turns.save_at.Lts as lts
 use Rattle.rle_engine.proofs.inner.save.Reads as save-reads
 
--- src/turns.rt:47:14
 mul-at : tie.Need-mul-at
 mul-at c = search needs
 
--- src/turns.rt:48:15
 add-end : tie.Need-add-end
 add-end c = search needs
 
--- src/turns.rt:49:39
 sub-save : tie.Need-sub-save
 sub-save c = search needs
 
--- src/turns.rt:49:39
 part-save-start : tie.Need-part-save-start
 part-save-start c = search needs
 
--- src/turns.rt:49:39
 part-save-end : tie.Need-part-save-end
 part-save-end c = search needs
 
--- src/turns.rt:49:5
 save-requires : tie.Need-save-requires
-save-requires c κs = search needs
+save-requires c κs = ((c .before .before .before .before .before .before .pre .left-in, c .before .before .before .before .before .before .pre .right-in), part-long _ _ _ _ _ (c .before .before .before .before .before .before .pre))
 
--- src/turns.rt:33:1
 same-length : tie.Need-same-length
 same-length c = search needs
 
--- src/turns.rt:33:1
 returns : tie.Need-returns
-returns c = ?
+returns c = saved-is chainKind (c .before .before .before .before .before .before .before .before .before .args .m) _ _ _ _ _ (c .before .before .save .ensures) (omega (arith, c .before .before .save .kept)) (c .before .before .before .before .before .before .before .before .before .pre .inside)
 
 pub save-at-spec : {M : Type 1} → statement M
 save-at-spec =

@@ -1,0 +1,46 @@
+use Rattle.times.specs.CallCases.{back-on}
+use Rattle.rle_engine.specs.Kind.{chainKind}
+use borrow.Author.Needs.{needs}
+use Rattle.rle_timeline.proofs.Timeline.back.Statement.{statement}
+use Rattle.rle_timeline.proofs.Timeline.back.Tie as tie
+use Rattle.rle_timeline.proofs.Timeline.back.Reads as reads
+use Rattle.rle_timeline.proofs.Timeline.back.Lts as lts
+use Rattle.rle_timeline.proofs.Timeline.seek.Reads as seek-reads
+use Rattle.times.proofs.inner.back_to.Reads as back-to-reads
+
+back-to-requires : tie.Need-back-to-requires
+back-to-requires c κs = search needs
+
+seek-requires : tie.Need-seek-requires
+seek-requires c κs = search needs
+
+same-length : tie.Need-same-length
+same-length c = search needs
+
+same-length-2 : tie.Need-same-length-2
+same-length-2 c = search needs
+
+same-length-3 : tie.Need-same-length-3
+same-length-3 c = search needs
+
+same-length-4 : tie.Need-same-length-4
+same-length-4 c = search needs
+
+same-length-5 : tie.Need-same-length-5
+same-length-5 c = search needs
+
+returns : tie.Need-returns
+returns c = back-on chainKind _ _ _ _ _ _ (c .before .before .before .before .before .before .before .before .before .before .seek .ensures) (c .before .before .before .before .before .before .before .before .before .before .before .before .before .before .before .before .back-to .ensures)
+
+pub back-spec : {M : Type 1} → statement M
+back-spec =
+    tie.close
+    (tie.spec
+    back-to-requires
+    seek-requires
+    same-length
+    same-length-2
+    same-length-3
+    same-length-4
+    same-length-5
+    returns)

@@ -1,0 +1,46 @@
+use Rattle.times.specs.CallCases.{forward-on}
+use Rattle.rle_engine.specs.Kind.{chainKind}
+use borrow.Author.Needs.{needs}
+use Rattle.rle_timeline.proofs.Timeline.forward.Statement.{statement}
+use Rattle.rle_timeline.proofs.Timeline.forward.Tie as tie
+use Rattle.rle_timeline.proofs.Timeline.forward.Reads as reads
+use Rattle.rle_timeline.proofs.Timeline.forward.Lts as lts
+use Rattle.rle_timeline.proofs.Timeline.seek.Reads as seek-reads
+use Rattle.times.proofs.inner.forward_to.Reads as forward-to-reads
+
+forward-to-requires : tie.Need-forward-to-requires
+forward-to-requires c κs = search needs
+
+seek-requires : tie.Need-seek-requires
+seek-requires c κs = search needs
+
+same-length : tie.Need-same-length
+same-length c = search needs
+
+same-length-2 : tie.Need-same-length-2
+same-length-2 c = search needs
+
+same-length-3 : tie.Need-same-length-3
+same-length-3 c = search needs
+
+same-length-4 : tie.Need-same-length-4
+same-length-4 c = search needs
+
+same-length-5 : tie.Need-same-length-5
+same-length-5 c = search needs
+
+returns : tie.Need-returns
+returns c = forward-on chainKind _ _ _ _ _ _ (c .before .before .before .before .before .before .before .before .before .before .seek .ensures) (c .before .before .before .before .before .before .before .before .before .before .before .before .before .before .before .before .forward-to .ensures)
+
+pub forward-spec : {M : Type 1} → statement M
+forward-spec =
+    tie.close
+    (tie.spec
+    forward-to-requires
+    seek-requires
+    same-length
+    same-length-2
+    same-length-3
+    same-length-4
+    same-length-5
+    returns)

@@ -1,0 +1,41 @@
+use Rattle.times.specs.CallCases.{on-goes}
+use Rattle.rle_engine.specs.Kind.{chainKind}
+use borrow.Author.Needs.{needs}
+use Rattle.rle_timeline.proofs.Timeline.go_on.Statement.{statement}
+use Rattle.rle_timeline.proofs.Timeline.go_on.Tie as tie
+use Rattle.rle_timeline.proofs.Timeline.go_on.Reads as reads
+use Rattle.rle_timeline.proofs.Timeline.go_on.Lts as lts
+use Rattle.rle_timeline.proofs.Timeline.advance_to.Reads as advance-to-reads
+
+advance-to-requires : tie.Need-advance-to-requires
+advance-to-requires c κs = search needs
+
+same-length : tie.Need-same-length
+same-length c = search needs
+
+same-length-2 : tie.Need-same-length-2
+same-length-2 c = search needs
+
+same-length-3 : tie.Need-same-length-3
+same-length-3 c = search needs
+
+same-length-4 : tie.Need-same-length-4
+same-length-4 c = search needs
+
+same-length-5 : tie.Need-same-length-5
+same-length-5 c = search needs
+
+returns : tie.Need-returns
+returns c = on-goes chainKind _ _ _ _ _ _ _ (c .before .before .before .before .before .before .before .before .before .before .before .advance-to .ensures)
+
+pub go-on-spec : {M : Type 1} → statement M
+go-on-spec =
+    tie.close
+    (tie.spec
+    advance-to-requires
+    same-length
+    same-length-2
+    same-length-3
+    same-length-4
+    same-length-5
+    returns)
