@@ -1,6 +1,5 @@
 -- What the parts of a timeline's calls over the run-length engine pass on to one another. Assumes nothing.
 use mathlib.Core.Path.{_≡_, refl, sym, _∙_, ap}
-use mathlib.Core.Bool.{true}
 use mathlib.Core.List.{List}
 use mathlib.Core.Option.{Option, none, some}
 use Prim.Native.Nat.{ℕ, _+_, _-_, _*_, _≤_}
@@ -16,7 +15,6 @@ use Rattle.machine.specs.declared.Machine.{Machine}
 use Rattle.machine.specs.declared.Checked.{Checked}
 use Rattle.machine.specs.declared.Checked.the-variants.{Accepted}
 use Rattle.tables.specs.WellFormed.{Bytes}
-use Rattle.stacks.specs.Sides.{placesOf}
 use Rattle.rle.specs.declared.ChainSim.{ChainSim}
 use Rattle.rle.specs.Engine.{Conf, conf}
 use Rattle.sim.specs.Operations.{stepsMost, fuelFits}
@@ -32,7 +30,7 @@ use Rattle.times.specs.TurnCases.{stride-fuel, rec-inside}
 use Rattle.times.specs.CallCases.{rewind-part, back-none, back-some, back-loop, to-low}
 use Rattle.rle_engine.specs.declared.inner.Found.{Found}
 use Rattle.rle_engine.specs.declared.inner.Found.the-variants.{Nothing, Holds}
-use Rattle.rle_engine.specs.Slots.{leftsOf, rightsOf, bytesFor, slotSize, Lent, lent, unpacked, unpackOf}
+use Rattle.rle_engine.specs.Slots.{leftsOf, rightsOf, bytesFor, slotSize, Lent, lent, unpackOf}
 use Rattle.rle_engine.specs.Restored.{Restored, restored, restoredBy, restoredOf}
 use Rattle.rle_engine.specs.Kind.{chainKind}
 use Rattle.rle_timeline.specs.Worlds.{Fits, SaveAt, StrideAt}

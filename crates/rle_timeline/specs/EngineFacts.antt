@@ -1,13 +1,13 @@
 -- The run-length engine is what a timeline's code asks of an engine. Assumes nothing.
-use mathlib.Core.Path.{_≡_, sym, _∙_}
+use mathlib.Core.Path.{_≡_, _∙_}
 use mathlib.Core.List.{List}
-use Prim.Native.Nat.{ℕ, _+_, _≤_, min}
+use Prim.Native.Nat.{ℕ, _≤_, min}
 use borrow.Author.Tests.{leb-true}
 use Rattle.laws.specs.Tests.{both-split}
 use Rattle.machine.specs.declared.Machine.{Machine}
 use Rattle.tables.specs.WellFormed.{Bytes}
 use Rattle.rle.specs.Engine.{Conf}
-use Rattle.rle.specs.Fits.{countsFit, chainFits, engineCheck}
+use Rattle.rle.specs.Fits.{countsFit, chainFits}
 use Rattle.rle.specs.Turns.{SameSizes}
 use Rattle.rle.specs.OperationCases.{engine-says}
 use Rattle.times.specs.Ops.{limit}

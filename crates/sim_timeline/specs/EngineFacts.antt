@@ -3,7 +3,7 @@ use mathlib.Core.Path.{_≡_, refl, sym, _∙_, ap, subst}
 use mathlib.Core.Bool.{Bool, true, false}
 use mathlib.Core.List.{List}
 use mathlib.Core.Option.{Option, none, some}
-use Prim.Native.Nat.{ℕ, _+_, _≤_, _<_}
+use Prim.Native.Nat.{ℕ, _≤_}
 use native.Mathlib.Omega.{arith}
 use borrow.Author.Tests.{eqb-true, leb-true}
 use lib.ListN.{length, drop, length-take}
@@ -17,10 +17,9 @@ use Rattle.tape.specs.declared.Tape.{Tape}
 use Rattle.tape.specs.Fits.{tapeFits}
 use Rattle.tape.specs.FitFacts.{fits-says}
 use Rattle.sim.specs.declared.Simulator.{Simulator}
-use Rattle.sim.specs.Engine.{Conf, conf}
-use Rattle.sim.specs.Operations.{has1, has2, stepsMost, sizesFit, engineCheck}
+use Rattle.sim.specs.Engine.{Conf}
+use Rattle.sim.specs.Operations.{has1, has2, sizesFit, engineCheck}
 use Rattle.sim.specs.OperationCases.{Passed, engine-says}
-use Rattle.times.specs.Ops.{limit}
 use Rattle.times.specs.Sound.{Sound}
 use Rattle.sim_engine.specs.Advance.{advanceOf}
 use Rattle.sim_engine.specs.Slots.{sizeIf, place1, place2, sizeOf, slotSize, partOf, part0, part1, part2, simIn, holdsOne, fillIf, filled, takenIf, unpackOf}

@@ -1,17 +1,13 @@
 use Rattle.times.specs.TurnCases.{loop-start, loop-stop, loop-fall, loop-next}
 use Rattle.rle_engine.specs.Kind.{chainKind}
 use native.Mathlib.Omega.{arith}
-use mathlib.Core.Path.{refl}
+use mathlib.Core.Path.{refl, _≡_}
 use Rattle.rle_timeline.specs.Worlds.{Fits, W}
 use Rattle.times.specs.Sound.{LoopInv}
 use Prim.Native.Nat.{_-_}
-use mathlib.Core.Path.{_≡_}
 use lib.ListN.{length}
 use Rattle.rle_timeline.proofs.Timeline.advance_to.Statement.{statement}
 use Rattle.rle_timeline.proofs.Timeline.advance_to.Tie as tie
-use Rattle.rle_timeline.proofs.Timeline.advance_to.Reads as reads
-use Rattle.rle_timeline.proofs.Timeline.advance_to.Lts as lts
-use Rattle.rle_timeline.proofs.Timeline.turn.Reads as turn-reads
 
 abbrev Inv-loop : tie.InvT-loop
 Inv-loop m table ls₀ ll₀ rs₀ rl₀ store₀ size target timeline₀ ls ll rs rl store timeline = (LoopInv chainKind m table size (Fits m table size) target (W timeline₀ ls₀ ll₀ rs₀ rl₀ store₀) (W timeline ls ll rs rl store)) × (length ls ≡ length ls₀) × (length ll ≡ length ll₀) × (length rs ≡ length rs₀) × (length rl ≡ length rl₀) × (length store ≡ length store₀)

@@ -3,10 +3,6 @@ use Rattle.rle_engine.specs.Kind.{chainKind}
 use borrow.Author.Needs.{needs}
 use Rattle.rle_timeline.proofs.Timeline.back.Statement.{statement}
 use Rattle.rle_timeline.proofs.Timeline.back.Tie as tie
-use Rattle.rle_timeline.proofs.Timeline.back.Reads as reads
-use Rattle.rle_timeline.proofs.Timeline.back.Lts as lts
-use Rattle.rle_timeline.proofs.Timeline.seek.Reads as seek-reads
-use Rattle.times.proofs.inner.back_to.Reads as back-to-reads
 
 back-to-requires : tie.Need-back-to-requires
 back-to-requires c κs = search needs

@@ -3,10 +3,6 @@ use Rattle.rle_engine.specs.Kind.{chainKind}
 use borrow.Author.Needs.{needs}
 use Rattle.rle_timeline.proofs.Timeline.forward.Statement.{statement}
 use Rattle.rle_timeline.proofs.Timeline.forward.Tie as tie
-use Rattle.rle_timeline.proofs.Timeline.forward.Reads as reads
-use Rattle.rle_timeline.proofs.Timeline.forward.Lts as lts
-use Rattle.rle_timeline.proofs.Timeline.seek.Reads as seek-reads
-use Rattle.times.proofs.inner.forward_to.Reads as forward-to-reads
 
 forward-to-requires : tie.Need-forward-to-requires
 forward-to-requires c κs = search needs

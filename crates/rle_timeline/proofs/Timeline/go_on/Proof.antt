@@ -3,9 +3,6 @@ use Rattle.rle_engine.specs.Kind.{chainKind}
 use borrow.Author.Needs.{needs}
 use Rattle.rle_timeline.proofs.Timeline.go_on.Statement.{statement}
 use Rattle.rle_timeline.proofs.Timeline.go_on.Tie as tie
-use Rattle.rle_timeline.proofs.Timeline.go_on.Reads as reads
-use Rattle.rle_timeline.proofs.Timeline.go_on.Lts as lts
-use Rattle.rle_timeline.proofs.Timeline.advance_to.Reads as advance-to-reads
 
 advance-to-requires : tie.Need-advance-to-requires
 advance-to-requires c κs = search needs

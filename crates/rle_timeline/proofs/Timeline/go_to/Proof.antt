@@ -5,11 +5,6 @@ use Rattle.rle_timeline.specs.EngineFacts.{chain-sound}
 use borrow.Author.Needs.{needs}
 use Rattle.rle_timeline.proofs.Timeline.go_to.Statement.{statement}
 use Rattle.rle_timeline.proofs.Timeline.go_to.Tie as tie
-use Rattle.rle_timeline.proofs.Timeline.go_to.Reads as reads
-use Rattle.rle_timeline.proofs.Timeline.go_to.Lts as lts
-use Rattle.rle_engine.proofs.inner.advance.Reads as advance-reads
-use Rattle.rle_timeline.proofs.Timeline.go_back.Reads as go-back-reads
-use Rattle.rle_timeline.proofs.Timeline.go_on.Reads as go-on-reads
 
 advance-requires : tie.Need-advance-requires
 advance-requires c κs = stay-asks _ _ _ _ _ (λ j. c .before .before .before .before .before .before .before .before .before .before .before .before .shared-slice-known .given j .fits) (c .before .before .before .before .before .before .before .before .before .before .before .before .before .pre)

@@ -7,11 +7,6 @@ use native.Mathlib.Omega.{arith}
 use borrow.Author.Needs.{needs}
 use Rattle.rle_timeline.proofs.Timeline.record_due.Statement.{statement}
 use Rattle.rle_timeline.proofs.Timeline.record_due.Tie as tie
-use Rattle.rle_timeline.proofs.Timeline.record_due.Reads as reads
-use Rattle.rle_timeline.proofs.Timeline.record_due.Lts as lts
-use Rattle.rle_timeline.proofs.turns.save_at.Reads as save-at-reads
-use Rattle.times.proofs.Times.is_due.Reads as is-due-reads
-use Rattle.times.proofs.Times.recorded.Reads as recorded-reads
 
 is-due-requires : tie.Need-is-due-requires
 is-due-requires c κs = (rec-fit chainKind _ _ _ _ (chain-sound _ _ _ (λ j. c .before .before .before .before .before .before .before .shared-slice-known .given j .fits)) _ (c .before .before .before .before .before .before .before .before .pre), rec-low chainKind _ _ _ _ (chain-sound _ _ _ (λ j. c .before .before .before .before .before .before .before .shared-slice-known .given j .fits)) _ (c .before .before .before .before .before .before .before .before .pre))

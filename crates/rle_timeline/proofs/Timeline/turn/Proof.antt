@@ -6,10 +6,6 @@ use native.Mathlib.Omega.{arith}
 use borrow.Author.Needs.{needs}
 use Rattle.rle_timeline.proofs.Timeline.turn.Statement.{statement}
 use Rattle.rle_timeline.proofs.Timeline.turn.Tie as tie
-use Rattle.rle_timeline.proofs.Timeline.turn.Reads as reads
-use Rattle.rle_timeline.proofs.Timeline.turn.Lts as lts
-use Rattle.rle_timeline.proofs.Timeline.record_due.Reads as record-due-reads
-use Rattle.rle_timeline.proofs.turns.stride.Reads as stride-reads
 
 record-due-requires : tie.Need-record-due-requires
 record-due-requires c κs = search needs

@@ -4,11 +4,6 @@ use Rattle.rle_engine.specs.Kind.{chainKind}
 use borrow.Author.Needs.{needs}
 use Rattle.rle_timeline.proofs.checks.new_check.Statement.{statement}
 use Rattle.rle_timeline.proofs.checks.new_check.Tie as tie
-use Rattle.rle_timeline.proofs.checks.new_check.Reads as reads
-use Rattle.rle_timeline.proofs.checks.new_check.Lts as lts
-use Rattle.rle.proofs.ChainSim.engine_check.Reads as engine-check-reads
-use Rattle.rle_engine.proofs.inner.slot_size.Reads as slot-size-reads
-use Rattle.times.proofs.inner.first_check.Reads as first-check-reads
 
 engine-check-requires : tie.Need-engine-check-requires
 engine-check-requires c κs = search needs

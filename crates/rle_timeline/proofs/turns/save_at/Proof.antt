@@ -5,9 +5,6 @@ use native.Mathlib.Omega.{arith}
 use borrow.Author.Needs.{needs}
 use Rattle.rle_timeline.proofs.turns.save_at.Statement.{statement}
 use Rattle.rle_timeline.proofs.turns.save_at.Tie as tie
-use Rattle.rle_timeline.proofs.turns.save_at.Reads as reads
-use Rattle.rle_timeline.proofs.turns.save_at.Lts as lts
-use Rattle.rle_engine.proofs.inner.save.Reads as save-reads
 
 mul-at : tie.Need-mul-at
 mul-at c = search needs

@@ -4,10 +4,6 @@ use Rattle.rle_engine.specs.Kind.{chainKind}
 use borrow.Author.Needs.{needs}
 use Rattle.rle_timeline.proofs.turns.stride.Statement.{statement}
 use Rattle.rle_timeline.proofs.turns.stride.Tie as tie
-use Rattle.rle_timeline.proofs.turns.stride.Reads as reads
-use Rattle.rle_timeline.proofs.turns.stride.Lts as lts
-use Rattle.rle_engine.proofs.inner.advance.Reads as advance-reads
-use Rattle.times.proofs.Times.stop.Reads as stop-reads
 
 stop-requires : tie.Need-stop-requires
 stop-requires c κs = search needs

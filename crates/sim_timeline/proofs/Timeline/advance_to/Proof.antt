@@ -1,17 +1,13 @@
 use Rattle.times.specs.TurnCases.{loop-start, loop-stop, loop-fall, loop-next}
 use Rattle.sim_engine.specs.Kind.{plainKind}
 use native.Mathlib.Omega.{arith}
-use mathlib.Core.Path.{refl}
+use mathlib.Core.Path.{refl, _≡_}
 use Rattle.sim_timeline.specs.Worlds.{Fits, W}
 use Rattle.times.specs.Sound.{LoopInv}
 use Prim.Native.Nat.{_-_}
-use mathlib.Core.Path.{_≡_}
 use lib.ListN.{length}
 use Rattle.sim_timeline.proofs.Timeline.advance_to.Statement.{statement}
 use Rattle.sim_timeline.proofs.Timeline.advance_to.Tie as tie
-use Rattle.sim_timeline.proofs.Timeline.advance_to.Reads as reads
-use Rattle.sim_timeline.proofs.Timeline.advance_to.Lts as lts
-use Rattle.sim_timeline.proofs.Timeline.turn.Reads as turn-reads
 
 abbrev Inv-loop : tie.InvT-loop
 Inv-loop m table c0₀ c1₀ c2₀ store₀ size target timeline₀ c0 c1 c2 store timeline = (LoopInv plainKind m table size (Fits m table size) target (W timeline₀ c0₀ c1₀ c2₀ store₀) (W timeline c0 c1 c2 store)) × (length c0 ≡ length c0₀) × (length c1 ≡ length c1₀) × (length c2 ≡ length c2₀) × (length store ≡ length store₀)

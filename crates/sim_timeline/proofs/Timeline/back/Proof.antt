@@ -3,10 +3,6 @@ use Rattle.sim_engine.specs.Kind.{plainKind}
 use borrow.Author.Needs.{needs}
 use Rattle.sim_timeline.proofs.Timeline.back.Statement.{statement}
 use Rattle.sim_timeline.proofs.Timeline.back.Tie as tie
-use Rattle.sim_timeline.proofs.Timeline.back.Reads as reads
-use Rattle.sim_timeline.proofs.Timeline.back.Lts as lts
-use Rattle.sim_timeline.proofs.Timeline.seek.Reads as seek-reads
-use Rattle.times.proofs.inner.back_to.Reads as back-to-reads
 
 back-to-requires : tie.Need-back-to-requires
 back-to-requires c κs = search needs

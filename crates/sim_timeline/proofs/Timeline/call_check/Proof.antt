@@ -4,11 +4,6 @@ use Rattle.sim_engine.specs.Kind.{plainKind}
 use borrow.Author.Needs.{needs}
 use Rattle.sim_timeline.proofs.Timeline.call_check.Statement.{statement}
 use Rattle.sim_timeline.proofs.Timeline.call_check.Tie as tie
-use Rattle.sim_timeline.proofs.Timeline.call_check.Reads as reads
-use Rattle.sim_timeline.proofs.Timeline.call_check.Lts as lts
-use Rattle.sim.proofs.Simulator.engine_check.Reads as engine-check-reads
-use Rattle.sim_engine.proofs.inner.slot_size.Reads as slot-size-reads
-use Rattle.times.proofs.Times.later_check.Reads as later-check-reads
 
 engine-check-requires : tie.Need-engine-check-requires
 engine-check-requires c κs = search needs

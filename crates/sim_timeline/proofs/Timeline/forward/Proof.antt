@@ -3,10 +3,6 @@ use Rattle.sim_engine.specs.Kind.{plainKind}
 use borrow.Author.Needs.{needs}
 use Rattle.sim_timeline.proofs.Timeline.forward.Statement.{statement}
 use Rattle.sim_timeline.proofs.Timeline.forward.Tie as tie
-use Rattle.sim_timeline.proofs.Timeline.forward.Reads as reads
-use Rattle.sim_timeline.proofs.Timeline.forward.Lts as lts
-use Rattle.sim_timeline.proofs.Timeline.seek.Reads as seek-reads
-use Rattle.times.proofs.inner.forward_to.Reads as forward-to-reads
 
 forward-to-requires : tie.Need-forward-to-requires
 forward-to-requires c κs = search needs

@@ -3,10 +3,6 @@ use native.Mathlib.Omega.{arith}
 use borrow.Author.Needs.{needs}
 use Rattle.sim_timeline.proofs.Timeline.go_back.Statement.{statement}
 use Rattle.sim_timeline.proofs.Timeline.go_back.Tie as tie
-use Rattle.sim_timeline.proofs.Timeline.go_back.Reads as reads
-use Rattle.sim_timeline.proofs.Timeline.go_back.Lts as lts
-use Rattle.sim_timeline.proofs.Timeline.go_on.Reads as go-on-reads
-use Rattle.sim_timeline.proofs.Timeline.rewind.Reads as rewind-reads
 
 rewind-requires : tie.Need-rewind-requires
 rewind-requires c κs = search needs

@@ -3,9 +3,6 @@ use Rattle.sim_engine.specs.Kind.{plainKind}
 use borrow.Author.Needs.{needs}
 use Rattle.sim_timeline.proofs.Timeline.go_on.Statement.{statement}
 use Rattle.sim_timeline.proofs.Timeline.go_on.Tie as tie
-use Rattle.sim_timeline.proofs.Timeline.go_on.Reads as reads
-use Rattle.sim_timeline.proofs.Timeline.go_on.Lts as lts
-use Rattle.sim_timeline.proofs.Timeline.advance_to.Reads as advance-to-reads
 
 advance-to-requires : tie.Need-advance-to-requires
 advance-to-requires c κs = search needs

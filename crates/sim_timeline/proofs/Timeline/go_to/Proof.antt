@@ -5,11 +5,6 @@ use Rattle.sim_timeline.specs.EngineFacts.{plain-sound}
 use borrow.Author.Needs.{needs}
 use Rattle.sim_timeline.proofs.Timeline.go_to.Statement.{statement}
 use Rattle.sim_timeline.proofs.Timeline.go_to.Tie as tie
-use Rattle.sim_timeline.proofs.Timeline.go_to.Reads as reads
-use Rattle.sim_timeline.proofs.Timeline.go_to.Lts as lts
-use Rattle.sim_engine.proofs.inner.advance.Reads as advance-reads
-use Rattle.sim_timeline.proofs.Timeline.go_back.Reads as go-back-reads
-use Rattle.sim_timeline.proofs.Timeline.go_on.Reads as go-on-reads
 
 advance-requires : tie.Need-advance-requires
 advance-requires c κs = stay-asks _ _ _ _ _ (c .before .before .before .before .before .before .before .before .before .before .before .pre)

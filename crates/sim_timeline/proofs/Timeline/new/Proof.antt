@@ -6,11 +6,6 @@ use Rattle.sim.specs.Engine.{conf}
 use borrow.Author.Needs.{needs}
 use Rattle.sim_timeline.proofs.Timeline.new.Statement.{statement}
 use Rattle.sim_timeline.proofs.Timeline.new.Tie as tie
-use Rattle.sim_timeline.proofs.Timeline.new.Reads as reads
-use Rattle.sim_timeline.proofs.Timeline.new.Lts as lts
-use Rattle.sim_engine.proofs.inner.slot_size.Reads as slot-size-reads
-use Rattle.sim_timeline.proofs.checks.new_check.Reads as new-check-reads
-use Rattle.sim_timeline.proofs.turns.save_at.Reads as save-at-reads
 
 new-check-requires : tie.Need-new-check-requires
 new-check-requires c κs = search needs

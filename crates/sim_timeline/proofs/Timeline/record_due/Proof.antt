@@ -7,11 +7,6 @@ use native.Mathlib.Omega.{arith}
 use borrow.Author.Needs.{needs}
 use Rattle.sim_timeline.proofs.Timeline.record_due.Statement.{statement}
 use Rattle.sim_timeline.proofs.Timeline.record_due.Tie as tie
-use Rattle.sim_timeline.proofs.Timeline.record_due.Reads as reads
-use Rattle.sim_timeline.proofs.Timeline.record_due.Lts as lts
-use Rattle.sim_timeline.proofs.turns.save_at.Reads as save-at-reads
-use Rattle.times.proofs.Times.is_due.Reads as is-due-reads
-use Rattle.times.proofs.Times.recorded.Reads as recorded-reads
 
 is-due-requires : tie.Need-is-due-requires
 is-due-requires c κs = (rec-fit plainKind _ _ _ _ (plain-sound _ _ _) _ (c .before .before .before .before .before .before .before .pre), rec-low plainKind _ _ _ _ (plain-sound _ _ _) _ (c .before .before .before .before .before .before .before .pre))

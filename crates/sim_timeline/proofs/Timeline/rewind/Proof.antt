@@ -7,10 +7,6 @@ use Rattle.sim_timeline.specs.Worlds.{Fits, W}
 use borrow.Author.Needs.{needs}
 use Rattle.sim_timeline.proofs.Timeline.rewind.Statement.{statement}
 use Rattle.sim_timeline.proofs.Timeline.rewind.Tie as tie
-use Rattle.sim_timeline.proofs.Timeline.rewind.Reads as reads
-use Rattle.sim_timeline.proofs.Timeline.rewind.Lts as lts
-use Rattle.sim_engine.proofs.inner.restore.Reads as restore-reads
-use Rattle.times.proofs.Times.slot_for.Reads as slot-for-reads
 
 slot-for-requires : tie.Need-slot-for-requires
 slot-for-requires c κs = search needs

@@ -6,12 +6,6 @@ use Rattle.sim_timeline.specs.Worlds.{W}
 use borrow.Author.Needs.{needs}
 use Rattle.sim_timeline.proofs.Timeline.seek.Statement.{statement}
 use Rattle.sim_timeline.proofs.Timeline.seek.Tie as tie
-use Rattle.sim_timeline.proofs.Timeline.seek.Reads as reads
-use Rattle.sim_timeline.proofs.Timeline.seek.Lts as lts
-use Rattle.sim_engine.proofs.inner.slot_size.Reads as slot-size-reads
-use Rattle.sim_timeline.proofs.Timeline.call_check.Reads as call-check-reads
-use Rattle.sim_timeline.proofs.Timeline.go_to.Reads as go-to-reads
-use Rattle.times.proofs.inner.max.Reads as max-reads
 
 call-check-requires : tie.Need-call-check-requires
 call-check-requires c κs = search needs

@@ -5,9 +5,6 @@ use native.Mathlib.Omega.{arith}
 use borrow.Author.Needs.{needs}
 use Rattle.sim_timeline.proofs.turns.save_at.Statement.{statement}
 use Rattle.sim_timeline.proofs.turns.save_at.Tie as tie
-use Rattle.sim_timeline.proofs.turns.save_at.Reads as reads
-use Rattle.sim_timeline.proofs.turns.save_at.Lts as lts
-use Rattle.sim_engine.proofs.inner.save.Reads as save-reads
 
 mul-at : tie.Need-mul-at
 mul-at c = search needs

@@ -4,10 +4,6 @@ use Rattle.sim_engine.specs.Kind.{plainKind}
 use borrow.Author.Needs.{needs}
 use Rattle.sim_timeline.proofs.turns.stride.Statement.{statement}
 use Rattle.sim_timeline.proofs.turns.stride.Tie as tie
-use Rattle.sim_timeline.proofs.turns.stride.Reads as reads
-use Rattle.sim_timeline.proofs.turns.stride.Lts as lts
-use Rattle.sim_engine.proofs.inner.advance.Reads as advance-reads
-use Rattle.times.proofs.Times.stop.Reads as stop-reads
 
 stop-requires : tie.Need-stop-requires
 stop-requires c κs = search needs

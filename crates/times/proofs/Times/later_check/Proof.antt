@@ -3,9 +3,6 @@ use borrow.Author.Tests.{not-true, not-false}
 use borrow.Author.Needs.{needs}
 use Rattle.times.proofs.Times.later_check.Statement.{statement}
 use Rattle.times.proofs.Times.later_check.Tie as tie
-use Rattle.times.proofs.Times.later_check.Reads as reads
-use Rattle.times.proofs.Times.later_check.Lts as lts
-use Rattle.times.proofs.Times.ok.Reads as ok-reads
 
 ok-requires : tie.Need-ok-requires
 ok-requires c κs = search needs

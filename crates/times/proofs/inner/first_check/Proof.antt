@@ -3,9 +3,6 @@ use borrow.Author.Tests.{not-true, not-false}
 use borrow.Author.Needs.{needs}
 use Rattle.times.proofs.inner.first_check.Statement.{statement}
 use Rattle.times.proofs.inner.first_check.Tie as tie
-use Rattle.times.proofs.inner.first_check.Reads as reads
-use Rattle.times.proofs.inner.first_check.Lts as lts
-use Rattle.times.proofs.new_ok.Reads as new-ok-reads
 
 new-ok-requires : tie.Need-new-ok-requires
 new-ok-requires c κs = search needs
