@@ -1,16 +1,18 @@
 #!/bin/sh
-# Puts each fault of src/mock.rs into the mock, one at a time: the harness must find every one. A fault of the
-# run-length engine ("chain: ..") is looked for in its kinds of runs only.
-# Needs a build with `--features mock`; run it in this folder.
+# Puts each fault of src/faults.rs into the mock, one at a time: the harness must find every one. A fault of the
+# run-length engine ("chain: ..") or of the timeline ("timeline: ..") is looked for in its kinds of runs only.
+# Needs a build with `--features mock`; run it in this folder. Arguments: the program, and the first fault to try.
 program=${1:-../../target/differential/release/differential}
-faults=$(sed -n '/^pub const FAULTS/,/^];/p' src/mock.rs | grep '^    "')
+faults=$(sed -n '/^pub const FAULTS/,/^];/p' src/faults.rs | grep '^    "')
 chain=$("$program" --list | sed -n 's/^\(c-[a-z]*\) .*/--only \1/p')
+timeline=$("$program" --list | sed -n 's/^\(tc*-[a-z]*\) .*/--only \1/p')
 number=$(echo "$faults" | wc -l)
 missed=0
-i=1
+i=${2:-1}
 while [ "$i" -le "$number" ]; do
     kinds=
     echo "$faults" | sed -n "${i}p" | grep -q '"chain: ' && kinds=$chain
+    echo "$faults" | sed -n "${i}p" | grep -q '"timeline: ' && kinds=$timeline
     # shellcheck disable=SC2086 # the kinds are words
     if found=$(MOCK_FAULT=$i "$program" $kinds 2>/dev/null); then
         echo "fault $i: NOT FOUND"

@@ -4,10 +4,11 @@
 use std::fmt;
 use std::rc::Rc;
 
-use crate::compare::{self, Difference, Tally};
+use crate::compare;
 use crate::law::{Engine, Refusal, Sizes, fields, tape_fields};
 use crate::machine::Machine;
 use crate::oracle;
+use crate::tally::{Difference, Tally};
 
 /// A table with what is known of it: the refusal that its check must give, and the oracle's
 /// machine and packed words if there is none.
@@ -145,27 +146,31 @@ pub fn write_table(f: &mut fmt::Formatter<'_>, subject: &Subject) -> fmt::Result
     Ok(())
 }
 
+/// Prints where an engine comes from.
+pub fn write_begin(f: &mut fmt::Formatter<'_>, begin: &Begin) -> fmt::Result {
+    match begin {
+        Begin::Fresh { word, room } => writeln!(f, "  fresh engine, word {}, cells buffers {room:?}", Short(word)),
+        Begin::Outside { state, engine, cells } => {
+            writeln!(f, "  engine set from outside: state {state}, steps {}", engine[0])?;
+            for (i, c) in cells.iter().enumerate() {
+                let [len, origin, head, lowest, highest] = tape_fields(engine, i);
+                writeln!(
+                    f,
+                    "    tape {i}: len {len} origin {origin} head {head} lowest {lowest} highest {highest}, \
+                     buffer of {}: {}",
+                    c.len(),
+                    Short(c)
+                )?;
+            }
+            Ok(())
+        }
+    }
+}
+
 impl fmt::Display for Case {
     fn fmt(&self, f: &mut fmt::Formatter<'_>) -> fmt::Result {
         write_table(f, &self.subject)?;
-        match &self.begin {
-            Begin::Fresh { word, room } => {
-                writeln!(f, "  fresh engine, word {}, cells buffers {room:?}", Short(word))?;
-            }
-            Begin::Outside { state, engine, cells } => {
-                writeln!(f, "  engine set from outside: state {state}, steps {}", engine[0])?;
-                for (i, c) in cells.iter().enumerate() {
-                    let [len, origin, head, lowest, highest] = tape_fields(engine, i);
-                    writeln!(
-                        f,
-                        "    tape {i}: len {len} origin {origin} head {head} lowest {lowest} highest {highest}, \
-                         buffer of {}: {}",
-                        c.len(),
-                        Short(c)
-                    )?;
-                }
-            }
-        }
+        write_begin(f, &self.begin)?;
         for (i, act) in self.acts.iter().enumerate() {
             writeln!(f, "  call {i}: {act:?}")?;
         }
@@ -223,21 +228,18 @@ pub fn smallest<T: Trial>(case: &T, message: String, fails: impl Fn(&T) -> Optio
     (case, message)
 }
 
+/// Lists with one call fewer, and with one call smaller.
+pub fn smaller_lists<A: Clone>(acts: &[A], smaller: impl Fn(&A) -> Vec<A>) -> Vec<Vec<A>> {
+    let with = |i: usize, by: Option<A>| [&acts[..i], by.as_slice(), &acts[i + 1..]].concat();
+    let fewer = (0..acts.len()).rev().map(|i| with(i, None));
+    let lesser = (0..acts.len()).flat_map(|i| smaller(&acts[i]).into_iter().map(move |act| (i, act)));
+    fewer.chain(lesser.map(|(i, act)| with(i, Some(act)))).collect()
+}
+
 /// Cases a little smaller than `case`.
 fn smaller(case: &Case) -> Vec<Case> {
-    let mut all = Vec::new();
-    for i in (0..case.acts.len()).rev() {
-        let mut c = case.clone();
-        c.acts.remove(i);
-        all.push(c);
-    }
-    for (i, act) in case.acts.iter().enumerate() {
-        for act in smaller_acts(*act) {
-            let mut c = case.clone();
-            c.acts[i] = act;
-            all.push(c);
-        }
-    }
+    let lists = smaller_lists(&case.acts, |act| smaller_acts(*act));
+    let mut all: Vec<Case> = lists.into_iter().map(|acts| Case { acts, ..case.clone() }).collect();
     if case.asking != Asking::None {
         all.push(Case { asking: Asking::None, ..case.clone() });
     }
@@ -269,7 +271,8 @@ fn smaller_acts(act: Act) -> Vec<Act> {
     }
 }
 
-fn smaller_begins(begin: &Begin, tapes: u64) -> Vec<Begin> {
+/// Engines a little smaller.
+pub fn smaller_begins(begin: &Begin, tapes: u64) -> Vec<Begin> {
     let mut all = Vec::new();
     match begin {
         Begin::Fresh { word, room } => {

@@ -5,155 +5,17 @@ use std::borrow::Cow;
 
 use crate::case::{Act, Asking, Begin, Case, Question, Subject, Words};
 use crate::generate::{self, Rng};
-use crate::law::{self, Engine, Refusal, fields, tape_fields};
+use crate::held::Plain;
+use crate::law::{self, Refusal, fields, tape_fields};
+use crate::lent::{GUARD, Held};
 use crate::oracle::{self, Sim};
-use crate::port::{self, Out, View};
-
-/// The departures that are named in document 01; they are counted, not failed.
-pub const DEPARTURES: [&str; 4] = [
-    "the port is full where the Rust grows (compared up to that step)",
-    "a word symbol not below k is refused, the Rust panics (not run there)",
-    "find_non_blank finds a cell where the Rust's index sum overflows",
-    "steps + fuel over 2^62 is refused, the Rust saturates (not run there)",
-];
-
-/// What was counted in one kind of run.
-#[derive(Default, Clone)]
-pub struct Tally {
-    pub cases: u64,
-    /// Calls, questions apart.
-    pub calls: u64,
-    pub questions: u64,
-    /// Calls and questions that were refused, by number.
-    pub refusals: [u64; 19],
-    /// Runs by outcome: halted, fuel, never, stopped, full.
-    pub outcomes: [u64; 5],
-    /// Steps made by the port; by its run-length engine, macro steps.
-    pub steps: u64,
-    pub departures: [u64; 4],
-    /// Runs left out because their fuel is endless and they would not end.
-    pub skipped: u64,
-    /// Accepted calls that wrote into `out` beyond what is documented.
-    pub wrote_more: u64,
-    /// Configurations of the run-length engine compared with the plain one's.
-    pub beside: u64,
-}
-
-impl Tally {
-    pub fn add(&mut self, other: &Tally) {
-        self.cases += other.cases;
-        self.calls += other.calls;
-        self.questions += other.questions;
-        self.steps += other.steps;
-        self.skipped += other.skipped;
-        self.wrote_more += other.wrote_more;
-        self.beside += other.beside;
-        for (a, b) in self.refusals.iter_mut().zip(other.refusals) {
-            *a += b;
-        }
-        for (a, b) in self.outcomes.iter_mut().zip(other.outcomes) {
-            *a += b;
-        }
-        for (a, b) in self.departures.iter_mut().zip(other.departures) {
-            *a += b;
-        }
-    }
-}
-
-/// A difference, told in words.
-pub type Difference = String;
-
-/// Fails with a message if the two are not equal.
-macro_rules! same {
-    ($port:expr, $want:expr, $($what:tt)+) => {{
-        let (port, want) = (&$port, &$want);
-        if port != want {
-            return Err(format!("{}: the port has {port:?}, expected {want:?}", format!($($what)+)));
-        }
-    }};
-}
-
-pub(crate) use same;
-
-/// Compares a call's result and `out` with the expected refusal. Says whether it was accepted.
-pub fn judge(
-    result: u8,
-    expected: Option<Refusal>,
-    out: &Out,
-    documented: usize,
-    tally: &mut Tally,
-) -> Result<bool, Difference> {
-    let Some(Refusal { number, place }) = expected else {
-        same!(result, 0, "result (a refusal's number)");
-        if out[documented..] != OUT[documented..] {
-            tally.wrote_more += 1;
-        }
-        return Ok(true);
-    };
-    same!(result, number, "result (a refusal's number)");
-    let mut want = OUT;
-    if let Some(place) = place {
-        want[0] = place;
-    }
-    same!(*out, want, "out after refusal {number}");
-    tally.refusals[usize::from(number)] += 1;
-    match number {
-        10 => tally.departures[1] += 1,
-        13 => tally.departures[3] += 1,
-        _ => {}
-    }
-    Ok(false)
-}
-
-/// What stands in `out` before a call: a number that no answer is.
-pub const OUT: Out = [7_777_777_777_777_777_777; 8];
-
-/// Bytes on either side of a lent buffer that nobody may touch.
-const GUARD: usize = 16;
-
-/// A lent cells buffer between guards, with a copy of what was in it before the call.
-struct Buffer {
-    bytes: Vec<u8>,
-    before: Vec<u8>,
-}
-
-impl Buffer {
-    fn new(content: impl ExactSizeIterator<Item = u8>) -> Self {
-        let mut bytes = vec![0xa5; GUARD];
-        bytes.reserve(content.len() + GUARD);
-        bytes.extend(content);
-        bytes.extend([0xa5; GUARD]);
-        Self { before: bytes.clone(), bytes }
-    }
-
-    fn room(&self) -> usize {
-        self.bytes.len() - 2 * GUARD
-    }
-
-    fn lend(&mut self) -> &mut [u8] {
-        let end = self.bytes.len() - GUARD;
-        &mut self.bytes[GUARD..end]
-    }
-
-    fn cells(&self) -> &[u8] {
-        &self.bytes[GUARD..self.bytes.len() - GUARD]
-    }
-
-    /// Whether only the first `len` cells may have changed.
-    fn kept_past(&self, len: usize) -> bool {
-        let from = GUARD + len;
-        self.bytes[..GUARD] == self.before[..GUARD] && self.bytes[from..] == self.before[from..]
-    }
-}
+use crate::port::{self, View};
+use crate::tally::{Difference, OUT, Tally, same};
 
 /// A list of calls under way.
 struct Pairing<'a> {
     subject: &'a Subject,
-    buffers: [Buffer; 3],
-    state: u16,
-    engine: Engine,
-    /// State and engine before the call.
-    before: (u16, Engine),
+    held: Plain,
     /// The oracle's engine, where the lent value fits.
     sim: Option<Sim>,
     /// What the lent value is refused for (11 or 12).
@@ -183,31 +45,13 @@ impl<'a> Pairing<'a> {
     fn begin(case: &'a Case, tally: &mut Tally) -> Result<Self, Difference> {
         let subject = &*case.subject;
         let mut rng = Rng::new(case.dirt);
-        let mut engine: Engine = std::array::from_fn(|_| rng.next());
-        let mut state = rng.next() as u16;
-        let buffers = match &case.begin {
-            Begin::Fresh { room, .. } => room.map(|n| Buffer::new((0..n).map(|_| rng.next() as u8))),
-            Begin::Outside { state: s, engine: e, cells } => {
-                (state, engine) = (*s, *e);
-                [&cells[0], &cells[1], &cells[2]].map(|c| Buffer::new(c.iter().copied()))
-            }
-        };
-        let before = (state, engine);
-        let mut pairing = Pairing { subject, buffers, state, engine, before, sim: None, refusal: None, rng };
+        let held = Plain::begin(&case.begin, &mut rng);
+        let mut pairing = Pairing { subject, held, sim: None, refusal: None, rng };
         if let Begin::Fresh { word, .. } = &case.begin {
             pairing.fresh(word, tally).map_err(|e| format!("fresh engine: {e}"))?;
         }
         pairing.look();
         Ok(pairing)
-    }
-
-    fn room(&self) -> [usize; 3] {
-        [0, 1, 2].map(|i| self.buffers[i].room())
-    }
-
-    fn cells(&self) -> [&[u8]; 3] {
-        let [a, b, c] = &self.buffers;
-        [a.cells(), b.cells(), c.cells()]
     }
 
     /// The machine's number of tapes, for a table that passed its check.
@@ -217,97 +61,38 @@ impl<'a> Pairing<'a> {
 
     /// Takes the present value as the one before the next call, and sees whether it fits.
     fn look(&mut self) {
-        for buffer in &mut self.buffers {
-            buffer.before.copy_from_slice(&buffer.bytes);
-        }
-        self.before = (self.state, self.engine);
+        self.held.look();
         let Some(machine) = &self.subject.machine else {
             return;
         };
-        self.refusal = self.subject.sizes.lent(self.state, &self.engine, self.cells());
+        self.refusal = self.held.refusal(&self.subject.sizes);
         if self.refusal.is_none() && self.sim.is_none() {
             let witness = ((self.rng.below(200) as i64) - 100, (self.rng.below(200) as i64) - 100);
-            self.sim = Some(oracle::set(machine, self.state, &self.engine, self.cells(), witness));
+            self.sim = Some(self.held.set(machine, witness));
         }
     }
 
-    /// Compares the result of a call with the expected refusal. Says whether it was accepted.
-    fn settle(
-        &self,
-        result: u8,
-        expected: Option<Refusal>,
-        out: &Out,
-        documented: usize,
-        tally: &mut Tally,
-    ) -> Result<bool, Difference> {
-        let accepted = judge(result, expected, out, documented, tally)?;
-        if !accepted {
-            self.unchanged().map_err(|e| format!("after refusal {result}: {e}"))?;
-        }
-        Ok(accepted)
-    }
-
-    /// Everything lent is as it was before the call.
-    fn unchanged(&self) -> Result<(), Difference> {
-        same!(self.state, self.before.0, "state changed");
-        same!(self.engine, self.before.1, "engine changed");
-        for (i, buffer) in self.buffers.iter().enumerate() {
-            if buffer.bytes != buffer.before {
-                return Err(format!("cells buffer {i} changed"));
-            }
-        }
-        Ok(())
-    }
-
-    /// The port's engine and buffers are the oracle's, and what is no tape's is as it was.
+    /// The port's engine and buffers are the oracle's.
     fn compare(&self) -> Result<(), Difference> {
-        let sim = self.sim.as_ref().expect("an accepted engine has its oracle");
-        same!(self.state, sim.state().get(), "state");
-        let mut want = self.before.1;
-        oracle::value(sim, &mut want);
-        same!(self.engine[0], want[0], "steps");
-        for i in 0..3 {
-            let (port, want) = (tape_fields(&self.engine, i), tape_fields(&want, i));
-            same!(port, want, "tape {i} [len, origin, head, lowest, highest]");
-            let buffer = &self.buffers[i];
-            let len = if i < self.tapes() { port[0] as usize } else { 0 };
-            if len > buffer.room() {
-                return Err(format!("tape {i} is longer than its buffer"));
-            }
-            if i < self.tapes() && !oracle::same_cells(&sim.tapes()[i], &buffer.cells()[..len]) {
-                let want = oracle::cells(&sim.tapes()[i]);
-                let at = (0..len).find(|&j| want[j] != buffer.cells()[j]);
-                return Err(format!(
-                    "tape {i}, cell {at:?}: the port has {:?}, expected {want:?}",
-                    &buffer.cells()[..len]
-                ));
-            }
-            if !buffer.kept_past(len) {
-                return Err(format!("tape {i}: bytes past the length {len} (or around the buffer) changed"));
-            }
-        }
-        Ok(())
+        self.held.compare(self.sim.as_ref().expect("an accepted engine has its oracle"))
     }
 
     fn fresh(&mut self, word: &[u8], tally: &mut Tally) -> Result<(), Difference> {
         let Subject { sizes, table, machine, .. } = self.subject;
-        let expected = self.subject.refusal.or_else(|| sizes.fresh(word, self.room()));
+        let expected = self.subject.refusal.or_else(|| sizes.fresh(word, self.held.room()));
         let mut out = OUT;
-        let [a, b, c] = &mut self.buffers;
-        let cells = [a.lend(), b.lend(), c.lend()];
-        let result = port::new(*sizes, table, word, cells, &mut self.state, &mut self.engine, &mut out);
+        let (cells, state, engine) = self.held.lend();
+        let result = port::new(*sizes, table, word, cells, state, engine, &mut out);
         tally.calls += 1;
-        if !self.settle(result, expected, &out, 0, tally)? {
+        if !self.held.settle((result, &out), expected, 0, tally)? {
             return Ok(());
         }
         let machine = machine.as_ref().expect("an accepted table has its machine");
         self.sim = Some(oracle::fresh(machine, word));
-        // What a fresh engine's fields of lacking tapes are is left open; afterwards they stay.
-        let lacking = fields(self.tapes());
-        self.before.1[lacking..].copy_from_slice(&self.engine[lacking..]);
+        self.held.accept_lacking(self.tapes());
         self.compare()?;
         if self.rng.below(2) == 0 {
-            for field in &mut self.engine[lacking..] {
+            for field in &mut self.held.engine[fields(self.subject.sizes.tapes as usize)..] {
                 *field = self.rng.next();
             }
         }
@@ -338,7 +123,7 @@ impl<'a> Pairing<'a> {
         let Subject { sizes, table, refusal, .. } = self.subject;
         let mut out = OUT;
         let result = port::check(*sizes, table, &mut out);
-        self.settle(result, *refusal, &out, 0, tally)?;
+        self.held.settle((result, &out), *refusal, 0, tally)?;
         Ok(true)
     }
 
@@ -351,7 +136,7 @@ impl<'a> Pairing<'a> {
         let mut words: Vec<u64> = (0..room).map(dirt).collect();
         let mut out = OUT;
         let result = port::pack(*sizes, table, &mut words, &mut out);
-        let accepted = self.settle(result, expected, &out, 0, tally)?;
+        let accepted = self.held.settle((result, &out), expected, 0, tally)?;
         let written = if accepted { entries } else { 0 };
         if accepted {
             same!(words[..entries], **rust, "packed words (against the Rust's)");
@@ -365,15 +150,14 @@ impl<'a> Pairing<'a> {
 
     fn step(&mut self, tally: &mut Tally) -> Result<bool, Difference> {
         let Subject { sizes, table, refusal, .. } = self.subject;
-        let expected = refusal.or(self.refusal).or_else(|| law::fuel(self.engine[0], 1));
+        let expected = refusal.or(self.refusal).or_else(|| law::fuel(self.held.engine[0], 1));
         let mut out = OUT;
-        let [a, b, c] = &mut self.buffers;
-        let cells = [a.lend(), b.lend(), c.lend()];
-        let result = port::step(*sizes, table, cells, &mut self.state, &mut self.engine, &mut out);
-        if !self.settle(result, expected, &out, 1, tally)? {
+        let (cells, state, engine) = self.held.lend();
+        let result = port::step(*sizes, table, cells, state, engine, &mut out);
+        if !self.held.settle((result, &out), expected, 1, tally)? {
             return Ok(true);
         }
-        let room = self.room();
+        let room = self.held.room();
         let sim = self.sim.as_mut().expect("an accepted engine has its oracle");
         let want = if oracle::is_full(sim, room) {
             tally.departures[0] += 1;
@@ -396,12 +180,12 @@ impl<'a> Pairing<'a> {
     /// A run, or a fast run with these words.
     fn run(&mut self, rule: u64, fuel: u64, words: Option<&[u64]>, tally: &mut Tally) -> Result<bool, Difference> {
         let Subject { sizes, table, refusal, words: right, .. } = self.subject;
-        let steps = self.engine[0];
+        let steps = self.held.engine[0];
         let expected = refusal
             .or_else(|| words.and_then(|lent| law::packed(sizes, right, lent)))
             .or(self.refusal)
             .or_else(|| law::fuel(steps, fuel));
-        let room = self.room();
+        let room = self.held.room();
         if expected.is_none() && fuel > 2_000_000 {
             let sim = self.sim.as_ref().expect("an accepted engine has its oracle");
             if !oracle::ends_soon(sim, room, rule, 20_000) {
@@ -410,14 +194,12 @@ impl<'a> Pairing<'a> {
             }
         }
         let mut out = OUT;
-        let [a, b, c] = &mut self.buffers;
-        let cells = [a.lend(), b.lend(), c.lend()];
-        let (state, engine) = (&mut self.state, &mut self.engine);
+        let (cells, state, engine) = self.held.lend();
         let result = match words {
             None => port::run(*sizes, table, cells, state, engine, (rule, fuel), &mut out),
             Some(w) => port::run_packed(*sizes, table, w, cells, state, engine, (rule, fuel), &mut out),
         };
-        if !self.settle(result, expected, &out, 5, tally)? {
+        if !self.held.settle((result, &out), expected, 5, tally)? {
             return Ok(true);
         }
         let [number, end, ..] = out;
@@ -467,12 +249,12 @@ impl<'a> Pairing<'a> {
         if let Asking::Some(n) = asking {
             for _ in 0..n {
                 let tape = self.rng.below(tapes as u64) as usize;
-                let question = generate::question(&mut self.rng, tape, &tape_fields(&self.engine, tape));
+                let question = generate::question(&mut self.rng, tape, &tape_fields(&self.held.engine, tape));
                 self.ask(&question, tally)?;
             }
         } else {
             for tape in 0..tapes {
-                for question in generate::questions(tape, &tape_fields(&self.engine, tape)) {
+                for question in generate::questions(tape, &tape_fields(&self.held.engine, tape)) {
                     self.ask(&question, tally)?;
                 }
             }
@@ -496,7 +278,8 @@ impl<'a> Pairing<'a> {
         };
         let expected = refusal.or(self.refusal).or_else(|| law::tape_number(sizes, tape));
         tally.questions += 1;
-        let view = View { sizes: *sizes, table, cells: self.cells(), state: self.state, engine: &self.engine };
+        let held = &self.held;
+        let view = View { sizes: *sizes, table, cells: held.cells(), state: held.state, engine: &held.engine };
         let mut out = OUT;
         let mut lent = Vec::new();
         let (result, documented) = match *question {
@@ -509,13 +292,13 @@ impl<'a> Pairing<'a> {
             }
             Question::Find { from, dir, .. } => (view.find(tape, from, dir, &mut out), 2),
         };
-        if !self.settle(result, expected, &out, documented, tally)? {
+        if !held.settle((result, &out), expected, documented, tally)? {
             if lent.iter().any(|&b| b != 0xa5) {
                 return Err(String::from("a refused window was written to"));
             }
             return Ok(());
         }
-        self.unchanged()?;
+        held.unchanged()?;
         let sim = self.sim.as_ref().expect("an accepted engine has its oracle");
         let tape = tape as usize;
         match *question {
@@ -539,8 +322,8 @@ impl<'a> Pairing<'a> {
                 match oracle::find(sim, tape, from, dir) {
                     Ok(want) => same!(port, want, "place found"),
                     Err(rust) => {
-                        let [len, origin, ..] = tape_fields(&self.engine, tape);
-                        let cells = &self.cells()[tape][..len as usize];
+                        let [len, origin, ..] = tape_fields(&self.held.engine, tape);
+                        let cells = &held.cells()[tape][..len as usize];
                         let want = law::find_non_blank(cells, origin, from, dir);
                         same!(port, want, "place found (by definition, the Rust's sum overflows)");
                         if want != rust {

@@ -11,11 +11,21 @@ mod builder;
 pub mod case;
 pub mod chain;
 pub mod compare;
+pub mod damage;
+#[cfg(feature = "mock")]
+pub mod faults;
 #[path = "gen.rs"] // `gen` is a word of the language
 pub mod generate;
+pub mod held;
 pub mod law;
+pub mod lent;
+pub mod limits;
 #[cfg(feature = "mock")]
 pub mod mock;
 pub mod oracle;
 pub mod port;
+pub mod runner;
 pub mod runs;
+pub mod tally;
+pub mod timeline;
+pub mod told;

@@ -5,8 +5,8 @@ use std::sync::atomic::Ordering;
 use std::time::{Duration, Instant};
 
 use differential::ORACLE_DIGEST;
-use differential::compare::{DEPARTURES, Tally};
-use differential::runs::{KINDS, PROGRESS, Runner};
+use differential::runner::{KINDS, PROGRESS, Runner};
+use differential::tally::{DEPARTURES, TIMELINE, Tally};
 
 struct Options {
     scale: u64,
@@ -119,6 +119,17 @@ fn report(rows: &[(&str, Tally, Duration)]) {
         print!("{kind:8}");
         t.departures.iter().for_each(|n| print!(" {n:>9}"));
         println!();
+    }
+    if rows.iter().any(|r| r.1.timeline != [0; 4]) {
+        println!("\ntimelines, calls compared");
+        print!("{:8}", "kind");
+        TIMELINE.iter().for_each(|what| print!("  {what}"));
+        println!();
+        for (kind, t, _) in rows.iter().filter(|r| r.1.timeline != [0; 4]) {
+            print!("{kind:8}");
+            TIMELINE.iter().zip(t.timeline).for_each(|(what, n)| print!("  {n:>width$}", width = what.len()));
+            println!();
+        }
     }
     let beside: u64 = rows.last().map_or(0, |r| r.1.beside);
     if beside > 0 {

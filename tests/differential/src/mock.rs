@@ -1,105 +1,12 @@
 //! A stand-in for the port's library, written from document 01 alone, so that the harness can run
 //! without it (feature `mock`). It is simple, not fast.
 //!
-//! The environment variable `MOCK_FAULT` puts one of the faults of [`FAULTS`] into it: the harness
+//! The environment variable `MOCK_FAULT` puts one of the faults of `faults.rs` into it: the harness
 //! must then find a difference (`mutants.sh` tries them all).
 
 use std::cell::Cell;
-use std::sync::LazyLock;
 
-/// What goes wrong under each number of `MOCK_FAULT`, counted from 1.
-pub const FAULTS: &[&str] = &[
-    "fuel is tested before halting",
-    "fuel is tested before the never test",
-    "space is tested before fuel",
-    "the chain pattern counts with several tapes",
-    "the chain pattern asks for a blank write",
-    "the chain pattern leaves out the furthest cell",
-    "growth to the right leaves the new cells as they were",
-    "growth to the left forgets the highest head",
-    "full when the doubled length is just the buffer's",
-    "the stop rule looks at the next state",
-    "refusal 13 comes after a step was made",
-    "cells past the length must be symbols",
-    "sizes are cut to 32 bits",
-    "find_non_blank to the left answers none from beyond the right end",
-    "window cells past i64 are left as they were",
-    "an undefined entry is packed as 0",
-    "packed words may be more than the table's",
-    "a full step has already written on the tapes before",
-    "refusal 6 gives the highest entry",
-    "steps + fuel wraps round",
-    "the highest head is not raised when the tape grows",
-    "step answers halted for a proved loop",
-    "the stay pattern looks at the first tape only",
-    "count counts one cell twice if the last one is not blank",
-    "refusal 10 gives the last place",
-    "a fresh buffer may be one cell short",
-    "the number of states is cut to 16 bits",
-    "2^62 steps are one too many",
-    "fields of tapes that the machine lacks must be 0",
-    "refusal 7 comes after 12",
-    "refusal 10 comes after 11",
-    "byte 7 of an entry is not looked at",
-    "moves of tapes that the machine lacks may be anything",
-    "a fresh engine clears its whole buffer",
-    "a chain to the left is reported as one to the right",
-    "packing writes past the table's entries",
-    "the row of a packed word is cut to 16 bits",
-    "a run on one tape stops at the rule only when its fuel is used up",
-    "non_blank starts at the lowest head",
-    "the lowest head is an index that growth to the left does not move",
-    "an undefined entry with a next state is taken",
-    "a buffer over 2^30 is taken",
-    "a refused question still writes out[1]",
-    "a run that ends full forgets its last step",
-    "the never test scans only to the highest head",
-    "the growth is by 32 cells",
-    "the head may stand at the length",
-    "a tape number is cut to 8 bits",
-    "a stop rule of 65,536 matches state 0",
-    "the origin may stand at the length",
-    "the never test trusts a non-blank cell that it saw before",
-    "the fast run leaves lowest and highest as they were when it ends out of fuel",
-    "a fast run from state q looks up row 0 first",
-    "find_non_blank to the right starts one cell too far",
-    "a table of no defined entry is refused",
-    "chain: the stop rule is tested before fuel",
-    "chain: the stop rule is tested after space",
-    "chain: the stop rule stops after the macro step",
-    "chain: a blank is pushed on an empty stack",
-    "chain: a macro step leaves out the cell under the head",
-    "chain: macro steps count steps",
-    "chain: full with one place left",
-    "chain: full where the push needs no new run",
-    "chain: a chain to the right leaves the highest head as it was",
-    "chain: a run pushed on its like stays apart",
-    "chain: the never test leaves out the cell under the head",
-    "chain: a macro step may go past the fuel",
-    "chain: the furthest cell may be anywhere",
-    "chain: macro steps may be more than steps",
-    "chain: a side's cells are counted in 64 bits",
-    "chain: refusal 8 comes after 11",
-    "chain: refusal 11 of an engine value comes after 12",
-    "chain: a fresh engine's blanks at the end of the word are kept",
-    "chain: a fresh engine writes its left places",
-    "chain: the limit of a side's places looks at the symbols alone",
-    "chain: a run side over 2^20 is taken",
-    "chain: get is one cell off on the left",
-    "chain: non_blank takes the cell under the head in, whatever it holds",
-    "chain: count leaves out the cell under the head",
-    "chain: window cells past i64 are left as they were",
-    "chain: a full run has written under the head",
-    "chain: refused questions clear out[0]",
-    "chain: equal neighbours fit",
-];
-
-static FAULT: LazyLock<usize> =
-    LazyLock::new(|| std::env::var("MOCK_FAULT").map_or(0, |n| n.parse().expect("MOCK_FAULT is a number")));
-
-pub(crate) fn fault(number: usize) -> bool {
-    *FAULT == number
-}
+pub(crate) use crate::faults::fault;
 
 /// A refusal: its number, and its place where it has one.
 pub(crate) struct No(pub(crate) u8, pub(crate) Option<u64>);
@@ -255,7 +162,7 @@ fn unpack(word: u64) -> Option<Entry> {
 
 /// One tape's numbers; the cells stand apart.
 #[derive(Clone, Copy, Default)]
-struct Tape {
+pub(crate) struct Tape {
     len: usize,
     origin: usize,
     head: usize,
@@ -324,9 +231,9 @@ impl Tape {
 }
 
 /// An engine that fits.
-struct Engine {
-    state: u16,
-    steps: u64,
+pub(crate) struct Engine {
+    pub(crate) state: u16,
+    pub(crate) steps: u64,
     tapes: [Tape; 3],
     /// Positions of non-blank cells seen left and right (only for a fault).
     seen: [Cell<Option<i64>>; 2],
@@ -344,7 +251,7 @@ pub(crate) enum Outcome {
 
 impl Engine {
     /// Takes an engine value that fits, or refuses it.
-    fn load(m: &Machine, state: u16, value: &[u64; 16], cells: [&[u8]; 3]) -> Answer<Engine> {
+    pub(crate) fn load(m: &Machine, state: u16, value: &[u64; 16], cells: [&[u8]; 3]) -> Answer<Engine> {
         for c in &cells[..m.tapes] {
             if c.len() > 1 << 30 && !fault(42) {
                 return refuse(11);
@@ -394,7 +301,7 @@ impl Engine {
     }
 
     /// Hands the value back, fields of lacking tapes left alone.
-    fn store(&self, m: &Machine, state: &mut u16, value: &mut [u64; 16]) {
+    pub(crate) fn store(&self, m: &Machine, state: &mut u16, value: &mut [u64; 16]) {
         *state = self.state;
         value[0] = self.steps;
         for i in 0..m.tapes {
@@ -462,14 +369,14 @@ impl Engine {
         self.steps += 1;
     }
 
-    /// Runs with the entries that `entry` finds.
-    fn run(
+    /// Runs with the entries that `entry` finds; `proves` is whether the never test is made.
+    pub(crate) fn run(
         &mut self,
         m: &Machine,
         entry: impl Fn(u16, [u8; 3]) -> Option<Entry>,
         cells: &mut [&mut [u8]; 3],
-        rule: u64,
-        fuel: u64,
+        (rule, fuel): (u64, u64),
+        proves: bool,
     ) -> Outcome {
         let rule = if fault(49) { rule % 65_536 } else { rule };
         let mut left = fuel;
@@ -484,7 +391,7 @@ impl Engine {
             if fault(2) && left == 0 {
                 return Outcome::Fuel;
             }
-            if let Some(never) = self.never(m, &e, read, cells) {
+            if proves && let Some(never) = self.never(m, &e, read, cells) {
                 return never;
             }
             if fault(3) && self.full(m, &e, cells) {
@@ -583,7 +490,7 @@ fn sim_new(
     Ok(())
 }
 
-fn shared<'a>(cells: &'a [&mut [u8]; 3]) -> [&'a [u8]; 3] {
+pub(crate) fn shared<'a>(cells: &'a [&mut [u8]; 3]) -> [&'a [u8]; 3] {
     [cells[0], cells[1], cells[2]]
 }
 
@@ -643,11 +550,11 @@ fn sim_run(
     }
     let mut engine = Engine::load(&m, *state, value, shared(&cells))?;
     if fault(11) && enough(engine.steps, fuel).is_err() {
-        engine.run(&m, |q, a| m.entry(q, a), &mut cells, rule, 1);
+        engine.run(&m, |q, a| m.entry(q, a), &mut cells, (rule, 1), true);
     }
     enough(engine.steps, fuel)?;
     let outcome = match words {
-        None => engine.run(&m, |q, a| m.entry(q, a), &mut cells, rule, fuel),
+        None => engine.run(&m, |q, a| m.entry(q, a), &mut cells, (rule, fuel), true),
         Some(words) => {
             let first = engine.state;
             let begun = Cell::new(false);
@@ -656,7 +563,7 @@ fn sim_run(
                 unpack(words[row * m.symbols + usize::from(a[0])])
             };
             let was = engine.tapes[0];
-            let outcome = engine.run(&m, entry, &mut cells, rule, fuel);
+            let outcome = engine.run(&m, entry, &mut cells, (rule, fuel), true);
             if fault(52) && matches!(outcome, Outcome::Fuel) {
                 engine.tapes[0].low = was.low.min(engine.tapes[0].head);
                 engine.tapes[0].high = was.high.max(engine.tapes[0].head);
@@ -729,182 +636,7 @@ fn find(t: Tape, cells: &[u8], from: i64, dir: u8) -> Option<usize> {
 }
 
 /// The functions with the signatures of the port's library.
+#[path = "mock_exports.rs"]
 #[rustfmt::skip]
 #[expect(clippy::missing_safety_doc, reason = "as the port's")]
-pub mod exports {
-    use std::slice::{from_raw_parts, from_raw_parts_mut};
-
-    use super::*;
-
-    /// A slice lent for reading.
-    type Lent = (*const u8, usize);
-    /// A slice lent for writing.
-    type LentMut = (*mut u8, usize);
-
-    unsafe fn read<'a>((at, len): Lent) -> &'a [u8] {
-        unsafe { from_raw_parts(at, len) }
-    }
-
-    unsafe fn write<'a>((at, len): LentMut) -> &'a mut [u8] {
-        unsafe { from_raw_parts_mut(at, len) }
-    }
-
-    /// The number of an answer, its place in `out[0]`.
-    pub(crate) fn number(answer: Answer<()>, out: &mut [u64; 8]) -> u8 {
-        match answer {
-            Ok(()) => 0,
-            Err(No(number, place)) => {
-                if let Some(place) = place {
-                    out[0] = place;
-                }
-                number
-            }
-        }
-    }
-
-    pub unsafe extern "C" fn tm_check(
-        tapes: u64, symbols: u64, states: u64, start: u64, table: *const u8, table_len: usize, out: *mut [u64; 8],
-    ) -> u8 {
-        let (table, out) = unsafe { (read((table, table_len)), &mut *out) };
-        number(check([tapes, symbols, states, start], table), out)
-    }
-
-    pub unsafe extern "C" fn tm_pack(
-        tapes: u64, symbols: u64, states: u64, start: u64, table: *const u8, table_len: usize,
-        words: *mut u64, words_len: usize, out: *mut [u64; 8],
-    ) -> u8 {
-        let (table, out) = unsafe { (read((table, table_len)), &mut *out) };
-        let words = unsafe { from_raw_parts_mut(words, words_len) };
-        number(pack([tapes, symbols, states, start], table, words), out)
-    }
-
-    pub unsafe extern "C" fn tm_sim_new(
-        tapes: u64, symbols: u64, states: u64, start: u64, table: *const u8, table_len: usize,
-        word: *const u8, word_len: usize,
-        c0: *mut u8, c0_len: usize, c1: *mut u8, c1_len: usize, c2: *mut u8, c2_len: usize,
-        state: *mut u16, engine: *mut [u64; 16], out: *mut [u64; 8],
-    ) -> u8 {
-        let (table, word, out) = unsafe { (read((table, table_len)), read((word, word_len)), &mut *out) };
-        let cells = unsafe { [write((c0, c0_len)), write((c1, c1_len)), write((c2, c2_len))] };
-        let (state, engine) = unsafe { (&mut *state, &mut *engine) };
-        number(sim_new([tapes, symbols, states, start], table, word, cells, state, engine), out)
-    }
-
-    pub unsafe extern "C" fn tm_sim_step(
-        tapes: u64, symbols: u64, states: u64, start: u64, table: *const u8, table_len: usize,
-        c0: *mut u8, c0_len: usize, c1: *mut u8, c1_len: usize, c2: *mut u8, c2_len: usize,
-        state: *mut u16, engine: *mut [u64; 16], out: *mut [u64; 8],
-    ) -> u8 {
-        let (table, out) = unsafe { (read((table, table_len)), &mut *out) };
-        let cells = unsafe { [write((c0, c0_len)), write((c1, c1_len)), write((c2, c2_len))] };
-        let (state, engine) = unsafe { (&mut *state, &mut *engine) };
-        number(sim_step([tapes, symbols, states, start], table, cells, state, engine, out), out)
-    }
-
-    pub unsafe extern "C" fn tm_sim_run(
-        tapes: u64, symbols: u64, states: u64, start: u64, table: *const u8, table_len: usize,
-        c0: *mut u8, c0_len: usize, c1: *mut u8, c1_len: usize, c2: *mut u8, c2_len: usize,
-        state: *mut u16, engine: *mut [u64; 16], rule: u64, fuel: u64, out: *mut [u64; 8],
-    ) -> u8 {
-        let (table, out) = unsafe { (read((table, table_len)), &mut *out) };
-        let cells = unsafe { [write((c0, c0_len)), write((c1, c1_len)), write((c2, c2_len))] };
-        let (state, engine) = unsafe { (&mut *state, &mut *engine) };
-        number(sim_run([tapes, symbols, states, start], table, None, cells, state, engine, (rule, fuel), out), out)
-    }
-
-    pub unsafe extern "C" fn tm_sim_run_packed(
-        tapes: u64, symbols: u64, states: u64, start: u64, table: *const u8, table_len: usize,
-        words: *const u64, words_len: usize,
-        c0: *mut u8, c0_len: usize, c1: *mut u8, c1_len: usize, c2: *mut u8, c2_len: usize,
-        state: *mut u16, engine: *mut [u64; 16], rule: u64, fuel: u64, out: *mut [u64; 8],
-    ) -> u8 {
-        let (table, out) = unsafe { (read((table, table_len)), &mut *out) };
-        let words = unsafe { from_raw_parts(words, words_len) };
-        let cells = unsafe { [write((c0, c0_len)), write((c1, c1_len)), write((c2, c2_len))] };
-        let (state, engine) = unsafe { (&mut *state, &mut *engine) };
-        number(sim_run([tapes, symbols, states, start], table, Some(words), cells, state, engine, (rule, fuel), out), out)
-    }
-
-    pub unsafe extern "C" fn tm_sim_get(
-        tapes: u64, symbols: u64, states: u64, start: u64, table: *const u8, table_len: usize,
-        c0: *const u8, c0_len: usize, c1: *const u8, c1_len: usize, c2: *const u8, c2_len: usize,
-        state: u16, engine: *const [u64; 16], tape: u64, at: i64, out: *mut [u64; 8],
-    ) -> u8 {
-        let (table, engine, out) = unsafe { (read((table, table_len)), &*engine, &mut *out) };
-        let cells = unsafe { [read((c0, c0_len)), read((c1, c1_len)), read((c2, c2_len))] };
-        let asked = question([tapes, symbols, states, start], table, cells, state, engine, tape, out);
-        number(asked.map(|(t, cells)| out[0] = u64::from(get(t, cells, at))), out)
-    }
-
-    pub unsafe extern "C" fn tm_sim_non_blank(
-        tapes: u64, symbols: u64, states: u64, start: u64, table: *const u8, table_len: usize,
-        c0: *const u8, c0_len: usize, c1: *const u8, c1_len: usize, c2: *const u8, c2_len: usize,
-        state: u16, engine: *const [u64; 16], tape: u64, out: *mut [u64; 8],
-    ) -> u8 {
-        let (table, engine, out) = unsafe { (read((table, table_len)), &*engine, &mut *out) };
-        let cells = unsafe { [read((c0, c0_len)), read((c1, c1_len)), read((c2, c2_len))] };
-        let asked = question([tapes, symbols, states, start], table, cells, state, engine, tape, out);
-        let answered = asked.map(|(t, cells)| {
-            let skipped = if fault(39) { t.low } else { 0 };
-            let first = cells.iter().skip(skipped).position(|&c| c != 0).map(|i| i + skipped);
-            match (first, cells.iter().rposition(|&c| c != 0)) {
-                (Some(first), Some(last)) => out[..3].copy_from_slice(&[1, t.raised(first), t.raised(last)]),
-                _ => out[0] = 0,
-            }
-        });
-        number(answered, out)
-    }
-
-    pub unsafe extern "C" fn tm_sim_count(
-        tapes: u64, symbols: u64, states: u64, start: u64, table: *const u8, table_len: usize,
-        c0: *const u8, c0_len: usize, c1: *const u8, c1_len: usize, c2: *const u8, c2_len: usize,
-        state: u16, engine: *const [u64; 16], tape: u64, out: *mut [u64; 8],
-    ) -> u8 {
-        let (table, engine, out) = unsafe { (read((table, table_len)), &*engine, &mut *out) };
-        let cells = unsafe { [read((c0, c0_len)), read((c1, c1_len)), read((c2, c2_len))] };
-        let asked = question([tapes, symbols, states, start], table, cells, state, engine, tape, out);
-        let answered = asked.map(|(_, cells)| {
-            out[0] = cells.iter().filter(|&&c| c != 0).count() as u64;
-            if fault(24) && cells[cells.len() - 1] != 0 {
-                out[0] += 1;
-            }
-        });
-        number(answered, out)
-    }
-
-    pub unsafe extern "C" fn tm_sim_window(
-        tapes: u64, symbols: u64, states: u64, start: u64, table: *const u8, table_len: usize,
-        c0: *const u8, c0_len: usize, c1: *const u8, c1_len: usize, c2: *const u8, c2_len: usize,
-        state: u16, engine: *const [u64; 16], tape: u64, from: i64,
-        window: *mut u8, window_len: usize, out: *mut [u64; 8],
-    ) -> u8 {
-        let (table, engine, out) = unsafe { (read((table, table_len)), &*engine, &mut *out) };
-        let cells = unsafe { [read((c0, c0_len)), read((c1, c1_len)), read((c2, c2_len))] };
-        let window = unsafe { write((window, window_len)) };
-        let asked = question([tapes, symbols, states, start], table, cells, state, engine, tape, out);
-        let answered = asked.map(|(t, cells)| {
-            for (i, cell) in window.iter_mut().enumerate() {
-                match from.checked_add(i as i64) {
-                    None if fault(15) => {}
-                    at => *cell = at.map_or(0, |at| get(t, cells, at)),
-                }
-            }
-        });
-        number(answered, out)
-    }
-
-    pub unsafe extern "C" fn tm_sim_find(
-        tapes: u64, symbols: u64, states: u64, start: u64, table: *const u8, table_len: usize,
-        c0: *const u8, c0_len: usize, c1: *const u8, c1_len: usize, c2: *const u8, c2_len: usize,
-        state: u16, engine: *const [u64; 16], tape: u64, from: i64, dir: u8, out: *mut [u64; 8],
-    ) -> u8 {
-        let (table, engine, out) = unsafe { (read((table, table_len)), &*engine, &mut *out) };
-        let cells = unsafe { [read((c0, c0_len)), read((c1, c1_len)), read((c2, c2_len))] };
-        let asked = question([tapes, symbols, states, start], table, cells, state, engine, tape, out);
-        let answered = asked.map(|(t, cells)| match find(t, cells, from, dir) {
-            Some(i) => out[..2].copy_from_slice(&[1, t.raised(i)]),
-            None => out[0] = 0,
-        });
-        number(answered, out)
-    }
-}
+pub mod exports;

@@ -4,8 +4,8 @@ use std::fmt;
 use std::rc::Rc;
 
 use super::law::{HEAD, HIGHEST, LEFT, LOWEST, MACROS, RIGHT, STEPS, Value, ZERO};
-use crate::case::{Asking, NO_RULE, Short, Subject, Trial, smaller_subjects, write_table};
-use crate::compare::{Difference, Tally};
+use crate::case::{Asking, NO_RULE, Short, Subject, Trial, smaller_lists, smaller_subjects, write_table};
+use crate::tally::{Difference, Tally};
 
 /// One side's places: symbols and lengths.
 pub type Side = (Vec<u8>, Vec<u64>);
@@ -54,29 +54,35 @@ pub struct Case {
     pub dirt: u64,
 }
 
+/// Prints where an engine comes from.
+pub fn write_begin(f: &mut fmt::Formatter<'_>, begin: &Begin) -> fmt::Result {
+    match begin {
+        Begin::Fresh { word, left, right } => {
+            let word = Short(word);
+            writeln!(f, "  fresh run-length engine, word {word}, symbols and lengths {left:?} {right:?}")
+        }
+        Begin::Outside { value: Value { state, cur, engine }, left, right } => {
+            let [steps, macros, lefts, rights, ..] = engine;
+            let at = [HEAD, LOWEST, HIGHEST].map(|i| i128::from(engine[i]) - i128::from(ZERO));
+            writeln!(
+                f,
+                "  run-length engine set from outside: state {state}, reads {cur}, steps {steps}, macro steps {macros}"
+            )?;
+            writeln!(f, "    head, lowest, highest {at:?}")?;
+            for (name, count, (symbols, lengths)) in [("left", lefts, left), ("right", rights, right)] {
+                let shown = lengths.len().min(64);
+                write!(f, "    {name}: {count} live, symbols {}, ", Short(symbols))?;
+                writeln!(f, "{} lengths {:?}", lengths.len(), &lengths[..shown])?;
+            }
+            Ok(())
+        }
+    }
+}
+
 impl fmt::Display for Case {
     fn fmt(&self, f: &mut fmt::Formatter<'_>) -> fmt::Result {
         write_table(f, &self.subject)?;
-        match &self.begin {
-            Begin::Fresh { word, left, right } => {
-                let word = Short(word);
-                writeln!(f, "  fresh run-length engine, word {word}, symbols and lengths {left:?} {right:?}")?;
-            }
-            Begin::Outside { value: Value { state, cur, engine }, left, right } => {
-                let [steps, macros, lefts, rights, ..] = engine;
-                let at = [HEAD, LOWEST, HIGHEST].map(|i| i128::from(engine[i]) - i128::from(ZERO));
-                writeln!(
-                    f,
-                    "  run-length engine set from outside: state {state}, reads {cur}, steps {steps}, macro steps {macros}"
-                )?;
-                writeln!(f, "    head, lowest, highest {at:?}")?;
-                for (name, count, (symbols, lengths)) in [("left", lefts, left), ("right", rights, right)] {
-                    let shown = lengths.len().min(64);
-                    write!(f, "    {name}: {count} live, symbols {}, ", Short(symbols))?;
-                    writeln!(f, "{} lengths {:?}", lengths.len(), &lengths[..shown])?;
-                }
-            }
-        }
+        write_begin(f, &self.begin)?;
         for (i, act) in self.acts.iter().enumerate() {
             writeln!(f, "  call {i}: {act:?}")?;
         }
@@ -94,19 +100,8 @@ impl Trial for Case {
     }
 
     fn smaller(&self) -> Vec<Self> {
-        let mut all = Vec::new();
-        for i in (0..self.acts.len()).rev() {
-            let mut c = self.clone();
-            c.acts.remove(i);
-            all.push(c);
-        }
-        for (i, act) in self.acts.iter().enumerate() {
-            for act in smaller_acts(*act) {
-                let mut c = self.clone();
-                c.acts[i] = act;
-                all.push(c);
-            }
-        }
+        let lists = smaller_lists(&self.acts, |act| smaller_acts(*act));
+        let mut all: Vec<Case> = lists.into_iter().map(|acts| Case { acts, ..self.clone() }).collect();
         if self.asking != Asking::None {
             all.push(Case { asking: Asking::None, ..self.clone() });
         }
@@ -125,7 +120,8 @@ fn smaller_acts(act: Act) -> Vec<Act> {
     fuels.map(|fuel| Act::Run { rule, fuel }).chain(plain).collect()
 }
 
-fn smaller_begins(begin: &Begin) -> Vec<Begin> {
+/// Engines a little smaller.
+pub fn smaller_begins(begin: &Begin) -> Vec<Begin> {
     match begin {
         Begin::Fresh { word, left, right } => smaller_words(word)
             .into_iter()

@@ -2,95 +2,20 @@
 
 use super::case::{Act, Begin, Case, Question};
 use super::generate;
+use super::held::Chained;
 use super::law::{self, HEAD, HIGHEST, LEFT, LOWEST, MACROS, RIGHT, STEPS, Side, Value, ZERO};
 use super::oracle::{self, End, Sim};
 use crate::case::{Asking, NO_RULE, Subject};
-use crate::compare::{Difference, OUT, Tally, judge, same};
 use crate::generate::Rng;
 use crate::law::{Engine, Refusal, fuel as fuel_refusal, tape_fields};
-use crate::port::{self, ChainView, Out, PlacesMut};
-
-/// Elements on either side of a lent slice that nobody may touch.
-const GUARD: usize = 4;
-
-/// A lent slice between guards, with a copy of what was in it before the call.
-struct Lent<T> {
-    all: Vec<T>,
-    before: Vec<T>,
-}
-
-impl<T: Copy + PartialEq> Lent<T> {
-    fn new(guard: T, content: impl Iterator<Item = T>) -> Self {
-        let mut all = vec![guard; GUARD];
-        all.extend(content);
-        all.extend([guard; GUARD]);
-        Self { before: all.clone(), all }
-    }
-
-    fn lend(&mut self) -> &mut [T] {
-        let end = self.all.len() - GUARD;
-        &mut self.all[GUARD..end]
-    }
-
-    fn part(&self) -> &[T] {
-        &self.all[GUARD..self.all.len() - GUARD]
-    }
-
-    fn kept(&self) -> bool {
-        self.all == self.before
-    }
-
-    fn guards_kept(&self) -> bool {
-        let end = self.all.len() - GUARD;
-        self.all[..GUARD] == self.before[..GUARD] && self.all[end..] == self.before[end..]
-    }
-
-    fn look(&mut self) {
-        self.before.copy_from_slice(&self.all);
-    }
-}
-
-/// One side's places.
-struct Lane {
-    symbols: Lent<u8>,
-    lengths: Lent<u64>,
-}
-
-impl Lane {
-    fn new(symbols: impl Iterator<Item = u8>, lengths: impl Iterator<Item = u64>) -> Self {
-        Self { symbols: Lent::new(0xa5, symbols), lengths: Lent::new(0xa5a5_a5a5_a5a5_a5a5, lengths) }
-    }
-
-    fn dirty(rng: &mut Rng, (symbols, lengths): (usize, usize)) -> Self {
-        let symbols: Vec<u8> = (0..symbols).map(|_| rng.next() as u8).collect();
-        Self::new(symbols.into_iter(), (0..lengths).map(|_| rng.next()))
-    }
-
-    fn side(&self) -> Side<'_> {
-        Side(self.symbols.part(), self.lengths.part())
-    }
-
-    fn kept(&self) -> bool {
-        self.symbols.kept() && self.lengths.kept()
-    }
-
-    /// The live runs, bottom first.
-    fn runs(&self, count: u64) -> Result<Vec<(u8, u64)>, Difference> {
-        let Side(symbols, lengths) = self.side();
-        if count > self.side().places() {
-            return Err(format!("{count} live runs in {} places", self.side().places()));
-        }
-        Ok((0..count as usize).map(|i| (symbols[i], lengths[i])).collect())
-    }
-}
+use crate::lent::{Held, Lent};
+use crate::port::{self, ChainView, Out};
+use crate::tally::{Difference, OUT, Tally, same};
 
 /// A list of calls under way.
 struct Pairing<'a> {
     subject: &'a Subject,
-    left: Lane,
-    right: Lane,
-    value: Value,
-    before: Value,
+    held: Chained,
     /// The oracle's engine, where the lent value fits.
     sim: Option<Sim>,
     /// What the lent value is refused for (8, 11 or 12).
@@ -120,19 +45,8 @@ impl<'a> Pairing<'a> {
     fn begin(case: &'a Case, tally: &mut Tally) -> Result<Self, Difference> {
         let subject = &*case.subject;
         let mut rng = Rng::new(case.dirt);
-        let (value, left, right) = match &case.begin {
-            Begin::Fresh { left, right, .. } => {
-                let engine = std::array::from_fn(|_| rng.next());
-                let value = Value { state: rng.next() as u16, cur: rng.next() as u8, engine };
-                (value, Lane::dirty(&mut rng, *left), Lane::dirty(&mut rng, *right))
-            }
-            Begin::Outside { value, left, right } => {
-                let lane = |side: &super::case::Side| Lane::new(side.0.iter().copied(), side.1.iter().copied());
-                (*value, lane(left), lane(right))
-            }
-        };
-        let mut pairing =
-            Pairing { subject, left, right, value, before: value, sim: None, refusal: None, plain: None, rng };
+        let held = Chained::begin(&case.begin, &mut rng);
+        let mut pairing = Pairing { subject, held, sim: None, refusal: None, plain: None, rng };
         if let Begin::Fresh { word, .. } = &case.begin {
             pairing.fresh(word, tally).map_err(|e| format!("fresh engine: {e}"))?;
             if case.plain && pairing.sim.is_some() {
@@ -145,91 +59,44 @@ impl<'a> Pairing<'a> {
 
     /// Takes the present value as the one before the next call, and sees whether it fits.
     fn look(&mut self) {
-        for lane in [&mut self.left, &mut self.right] {
-            lane.symbols.look();
-            lane.lengths.look();
-        }
-        self.before = self.value;
+        self.held.look();
         let Some(machine) = &self.subject.machine else {
             return;
         };
-        let (left, right) = (self.left.side(), self.right.side());
-        self.refusal = law::lent(&self.subject.sizes, &self.value, left, right);
+        self.refusal = self.held.refusal(&self.subject.sizes);
         if self.refusal.is_none() && self.sim.is_none() {
-            self.sim = Some(oracle::set(machine, &self.value, left, right));
+            self.sim = Some(self.held.set(machine));
         }
-    }
-
-    fn lend(&mut self) -> (PlacesMut<'_>, &mut Value) {
-        let Lane { symbols: ls, lengths: ll } = &mut self.left;
-        let Lane { symbols: rs, lengths: rl } = &mut self.right;
-        ((ls.lend(), ll.lend(), rs.lend(), rl.lend()), &mut self.value)
-    }
-
-    /// Compares the result of a call with the expected refusal. Says whether it was accepted.
-    fn settle(
-        &self,
-        result: u8,
-        expected: Option<Refusal>,
-        out: &Out,
-        documented: usize,
-        tally: &mut Tally,
-    ) -> Result<bool, Difference> {
-        let accepted = judge(result, expected, out, documented, tally)?;
-        if !accepted {
-            self.unchanged().map_err(|e| format!("after refusal {result}: {e}"))?;
-        }
-        Ok(accepted)
-    }
-
-    /// Everything lent is as it was before the call.
-    fn unchanged(&self) -> Result<(), Difference> {
-        same!(self.value, self.before, "engine changed");
-        for (lane, name) in [(&self.left, "left"), (&self.right, "right")] {
-            if !lane.kept() {
-                return Err(format!("the {name} run places changed"));
-            }
-        }
-        Ok(())
     }
 
     /// The port's engine and live runs are the oracle's.
     fn compare(&self) -> Result<(), Difference> {
-        let sim = self.sim.as_ref().expect("an accepted engine has its oracle");
-        same!(self.value, oracle::value(sim), "engine [steps, macro steps, left, right, head, lowest, highest]");
-        let sides = [("left", &self.left, sim.tape().left()), ("right", &self.right, sim.tape().right())];
-        for (name, lane, want) in sides {
-            same!(lane.runs(want.len() as u64)?, oracle::runs(want), "{name} runs, bottom first");
-            if !lane.symbols.guards_kept() || !lane.lengths.guards_kept() {
-                return Err(format!("memory around the {name} run places changed"));
-            }
-        }
-        Ok(())
+        self.held.compare(self.sim.as_ref().expect("an accepted engine has its oracle"), true)
     }
 
     fn fresh(&mut self, word: &[u8], tally: &mut Tally) -> Result<(), Difference> {
         let Subject { sizes, table, machine, refusal, .. } = self.subject;
-        let places = (self.left.side().places(), self.right.side().places());
-        let expected = refusal.or_else(|| law::fresh(sizes, word, places.0, places.1));
+        let [left, right] = self.held.places();
+        let expected = refusal.or_else(|| law::fresh(sizes, word, left, right));
         let mut out = OUT;
-        let (lent, value) = self.lend();
+        let (lent, value) = self.held.lend();
         let result = port::chain_new(*sizes, table, word, lent, value, &mut out);
         tally.calls += 1;
         let several = expected.is_some_and(|r| r.number == 8);
-        if !self.settle(result, expected, &out, 0, tally)? {
+        if !self.held.settle((result, &out), expected, 0, tally)? {
             if several && oracle::fresh(machine.as_ref().expect("a good table"), &[]).is_some() {
                 return Err(String::from("refused for several tapes, which the Rust takes"));
             }
             return Ok(());
         }
-        same!(self.left.kept(), true, "the left run places are as they were");
+        same!(self.held.left.kept(), true, "the left run places are as they were");
         self.sim = oracle::fresh(machine.as_ref().expect("an accepted table has its machine"), word);
         self.compare()
     }
 
     fn run(&mut self, rule: u64, fuel: u64, tally: &mut Tally) -> Result<(), Difference> {
         let Subject { sizes, table, refusal, .. } = self.subject;
-        let steps = self.value.engine[STEPS];
+        let steps = self.held.value.engine[STEPS];
         let expected = refusal.or(self.refusal).or_else(|| fuel_refusal(steps, fuel));
         let mut want = None;
         if expected.is_none() {
@@ -241,9 +108,9 @@ impl<'a> Pairing<'a> {
         }
         let mut out = OUT;
         tally.calls += 1;
-        let (lent, value) = self.lend();
+        let (lent, value) = self.held.lend();
         let result = port::chain_run(*sizes, table, lent, value, (rule, fuel), &mut out);
-        if !self.settle(result, expected, &out, 5, tally)? {
+        if !self.held.settle((result, &out), expected, 5, tally)? {
             return Ok(());
         }
         let answer = want.expect("an accepted run was run before");
@@ -254,10 +121,10 @@ impl<'a> Pairing<'a> {
             ));
         }
         self.compare()?;
-        let made = self.value.engine[STEPS] - steps;
+        let made = self.held.value.engine[STEPS] - steps;
         tally.outcomes[out[0] as usize] += 1;
         tally.departures[0] += u64::from(out[0] == 4);
-        tally.steps += self.value.engine[MACROS] - self.before.engine[MACROS];
+        tally.steps += self.held.value.engine[MACROS] - self.held.before.engine[MACROS];
         tally.beside += u64::from(self.beside(made, &out)?);
         self.look();
         same!(self.refusal, None, "what the value handed back is refused for");
@@ -266,7 +133,7 @@ impl<'a> Pairing<'a> {
 
     /// Runs the oracle: the answer in numbers, or none where the run is endless.
     fn expect(&mut self, rule: u64, fuel: u64) -> Result<Option<[Option<u64>; 5]>, Difference> {
-        let places = [self.left.side().places(), self.right.side().places()];
+        let places = self.held.places();
         let sim = self.sim.as_mut().expect("an accepted engine has its oracle");
         let start = sim.clone();
         match oracle::drive(sim, places, rule, fuel, 2_000_000) {
@@ -294,9 +161,9 @@ impl<'a> Pairing<'a> {
         if made > 100_000 || !plain.follow(self.subject, made, out)? {
             return Ok(false);
         }
-        let left = self.left.runs(self.value.engine[LEFT])?;
-        let right = self.right.runs(self.value.engine[RIGHT])?;
-        plain.same_as(&self.value, &left, &right).map_err(|e| format!("plain and run-length engine: {e}"))?;
+        let left = self.held.left.runs(self.held.value.engine[LEFT])?;
+        let right = self.held.right.runs(self.held.value.engine[RIGHT])?;
+        plain.same_as(&self.held.value, &left, &right).map_err(|e| format!("plain and run-length engine: {e}"))?;
         self.plain = Some(plain);
         Ok(true)
     }
@@ -304,12 +171,12 @@ impl<'a> Pairing<'a> {
     /// The questions that follow a call.
     fn ask_around(&mut self, asking: Asking, tally: &mut Tally) -> Result<(), Difference> {
         let refused = self.subject.refusal.or(self.refusal).is_some();
-        let sides = || (self.left.side(), self.right.side());
+        let sides = || (self.held.left.side(), self.held.right.side());
         let questions = match asking {
             Asking::None => return Ok(()),
-            Asking::All if !refused => generate::questions(&self.value, sides()),
-            Asking::All => (0..3).map(|_| generate::question(&mut self.rng, &self.value)).collect(),
-            Asking::Some(n) => (0..n).map(|_| generate::question(&mut self.rng, &self.value)).collect(),
+            Asking::All if !refused => generate::questions(&self.held.value, sides()),
+            Asking::All => (0..3).map(|_| generate::question(&mut self.rng, &self.held.value)).collect(),
+            Asking::Some(n) => (0..n).map(|_| generate::question(&mut self.rng, &self.held.value)).collect(),
         };
         questions.iter().try_for_each(|question| self.ask(question, tally))
     }
@@ -323,8 +190,8 @@ impl<'a> Pairing<'a> {
         let Subject { sizes, table, refusal, .. } = self.subject;
         let expected = refusal.or(self.refusal);
         tally.questions += 1;
-        let (Side(ls, ll), Side(rs, rl)) = (self.left.side(), self.right.side());
-        let Value { state, cur, engine } = &self.value;
+        let (Side(ls, ll), Side(rs, rl)) = (self.held.left.side(), self.held.right.side());
+        let Value { state, cur, engine } = &self.held.value;
         let view = ChainView { sizes: *sizes, table, places: (ls, ll, rs, rl), state: *state, cur: *cur, engine };
         let mut out = OUT;
         let mut window = Lent::new(0xa5, std::iter::empty());
@@ -337,13 +204,13 @@ impl<'a> Pairing<'a> {
                 (view.window(from, window.lend(), &mut out), 0)
             }
         };
-        let accepted = self.settle(result, expected, &out, documented, tally)?;
-        self.unchanged()?;
+        let accepted = self.held.settle((result, &out), expected, documented, tally)?;
+        self.held.unchanged()?;
         if !accepted {
             same!(window.kept(), true, "a refused window is as it was");
             return Ok(());
         }
-        same!(window.guards_kept(), true, "memory around the window is as it was");
+        same!(window.kept_past(window.room()), true, "memory around the window is as it was");
         let sim = self.sim.as_ref().expect("an accepted engine has its oracle");
         answered(sim, question, &out, window.part())
     }

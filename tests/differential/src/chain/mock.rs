@@ -10,10 +10,10 @@ const LIMIT: usize = 1 << 20;
 type Stack = Vec<(u8, u64)>;
 
 /// Run places: symbols and lengths.
-pub(crate) struct Places<'a>(&'a [u8], &'a [u64]);
+pub(crate) struct Places<'a>(pub(crate) &'a [u8], pub(crate) &'a [u64]);
 
 impl Places<'_> {
-    fn number(&self) -> usize {
+    pub(crate) fn number(&self) -> usize {
         self.0.len().min(self.1.len())
     }
 
@@ -78,24 +78,24 @@ fn take(stack: &mut Stack, n: u64) -> u8 {
 }
 
 /// An engine that fits.
-struct Chain {
-    state: u16,
-    cur: u8,
-    steps: u64,
+pub(crate) struct Chain {
+    pub(crate) state: u16,
+    pub(crate) cur: u8,
+    pub(crate) steps: u64,
     macros: u64,
-    left: Stack,
-    right: Stack,
+    pub(crate) left: Stack,
+    pub(crate) right: Stack,
     head: u64,
-    low: u64,
-    high: u64,
+    pub(crate) low: u64,
+    pub(crate) high: u64,
 }
 
-fn numbers(c: &Chain) -> [u64; 7] {
+pub(crate) fn numbers(c: &Chain) -> [u64; 7] {
     [c.steps, c.macros, c.left.len() as u64, c.right.len() as u64, c.head, c.low, c.high]
 }
 
 /// Takes an engine value that fits, or refuses it.
-fn load(m: &Machine, state: u16, cur: u8, v: &[u64; 7], left: &Places, right: &Places) -> Answer<Chain> {
+pub(crate) fn load(m: &Machine, state: u16, cur: u8, v: &[u64; 7], left: &Places, right: &Places) -> Answer<Chain> {
     let (several, over) = (m.tapes > 1, left.over() || right.over());
     if several && !(fault(71) && over) {
         return refuse(8);
@@ -185,14 +185,16 @@ impl Chain {
         }
     }
 
-    fn run(&mut self, m: &Machine, places: [usize; 2], rule: u64, fuel: u64) -> Outcome {
+    /// Runs; `proves` is whether the never test is made.
+    pub(crate) fn run(&mut self, m: &Machine, places: [usize; 2], (rule, fuel): (u64, u64), proves: bool) -> Outcome {
         let mut left = fuel;
         loop {
             let from = self.state;
             let Some(e) = m.entry(from, [self.cur, 0, 0]) else {
                 return Outcome::Halted;
             };
-            if let Some(never) = self.never(&e) {
+            let proved = self.never(&e);
+            if proves && let Some(never) = proved {
                 return never;
             }
             let stops = u64::from(from) == rule && !fault(58);
@@ -212,7 +214,8 @@ impl Chain {
                 }
                 return Outcome::Full;
             }
-            let n = self.repeats(&e, left);
+            // A proved loop covers all the fuel.
+            let n = if proved.is_some() { left } else { self.repeats(&e, left) };
             self.leap(&e, n);
             left = left.saturating_sub(n);
             if fault(58) && u64::from(from) == rule {
@@ -291,7 +294,7 @@ fn fresh(m: &Machine, word: &[u8], left: &Places, right: &Places) -> Answer<Stac
 }
 
 /// Puts the runs into their places; a fault may leave more runs than places.
-fn store(stack: &Stack, symbols: &mut [u8], lengths: &mut [u64]) {
+pub(crate) fn store(stack: &Stack, symbols: &mut [u8], lengths: &mut [u64]) {
     for (&(symbol, len), place) in stack.iter().zip(symbols.iter_mut().zip(lengths)) {
         (*place.0, *place.1) = (symbol, len);
     }
@@ -344,7 +347,7 @@ pub mod exports {
             if u128::from(chain.steps) + u128::from(fuel) > 1 << 62 {
                 return refuse(13);
             }
-            let outcome = chain.run(&m, [left.number(), right.number()], rule, fuel);
+            let outcome = chain.run(&m, [left.number(), right.number()], (rule, fuel), true);
             tell(&outcome, chain.state, chain.steps, out);
             Ok(chain)
         });

@@ -4,6 +4,7 @@ pub mod case;
 pub mod compare;
 #[path = "gen.rs"] // `gen` is a word of the language
 pub mod generate;
+pub mod held;
 pub mod law;
 #[cfg(feature = "mock")]
 pub mod mock;

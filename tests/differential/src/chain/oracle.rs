@@ -3,6 +3,7 @@
 use std::rc::Rc;
 
 use super::law::{Side, Value, ZERO};
+use crate::checkpoint::Engine as _;
 use crate::machine::{Action, Machine};
 use crate::outcome::Outcome;
 use crate::rle::{ChainSim, MacroEvent, Run, RunTape};
@@ -113,6 +114,55 @@ pub fn drive(sim: &mut Sim, places: [u64; 2], rule: u64, fuel: u64, most: u64) -
         left -= event.repeats;
     }
     End::Late
+}
+
+/// Whether the next macro step is full in the port.
+pub fn next_is_full(sim: &Sim, places: [u64; 2]) -> bool {
+    let action = sim.machine.action1(sim.state, sim.tape.cur);
+    action.is_some_and(|action| is_full(sim, &action, places))
+}
+
+/// Places enough that no machine tried here fills them.
+const AMPLE: u64 = 10_000;
+
+/// One macro step without the never test, to the step `end` at most.
+fn leap(sim: &mut Sim, end: u64) {
+    let mut made = false;
+    sim.run_inner(end - sim.steps, &mut |_| std::mem::replace(&mut made, true), false);
+}
+
+/// Whether the machine halts here.
+fn halts(sim: &Sim) -> bool {
+    sim.machine.action1(sim.state, sim.tape.cur).is_none()
+}
+
+/// The Rust's advance of a timeline, from macro step to macro step where places are few; none where the
+/// port is full.
+pub fn advance(sim: &mut Sim, places: [u64; 2], fuel: u64) -> Option<Outcome> {
+    if places.iter().all(|&n| n >= AMPLE) {
+        return Some(sim.advance(fuel));
+    }
+    let end = sim.steps + fuel;
+    while sim.steps < end && !halts(sim) {
+        if next_is_full(sim, places) {
+            return None;
+        }
+        leap(sim, end);
+    }
+    Some(sim.advance(0))
+}
+
+/// Whether an advance ends within so many macro steps.
+pub fn ends_soon(sim: &Sim, places: [u64; 2], fuel: u64, most: u64) -> bool {
+    let mut sim = sim.clone();
+    let end = sim.steps + fuel;
+    for _ in 0..most {
+        if sim.steps == end || halts(&sim) || next_is_full(&sim, places) {
+            return true;
+        }
+        leap(&mut sim, end);
+    }
+    false
 }
 
 /// Runs with the port's stop rule, as the Rust does it.

@@ -6,11 +6,12 @@ use super::case::{Act, Begin, Case, Question, run};
 use super::generate;
 use super::law::{HEAD, HIGHEST, LEFT, LOWEST, MACROS, RIGHT, SLACK, STEPS, Side, Value, ZERO, lent, runs_of};
 use crate::case::{Asking, NO_RULE, Subject};
-use crate::compare::OUT;
 use crate::generate::{self as plain, Rng, one_tape, standard};
 use crate::law::{MAX_STEPS, MAX_WORD, Sizes};
 use crate::port::{self, Out};
-use crate::runs::{L, N, R, Runner, SMALL_TABLES, entries, listing, small_table, walkers};
+use crate::runner::Runner;
+use crate::runs::{L, N, R, SMALL_TABLES, entries, listing, small_table, walkers};
+use crate::tally::OUT;
 
 /// A case of the usual form.
 fn case_of(subject: &Rc<Subject>, begin: Begin, acts: Vec<Act>, asking: Asking, dirt: u64) -> Case {

@@ -1,5 +1,7 @@
 //! The Rust's engines and the port's in one process, interleaved: processor time, median of nine.
-//! Options: `--reps N`, `--only NAME` (a machine, or `chain` for the run-length engine's).
+//! Options: `--reps N`, `--only NAME` (a machine, `chain` for the run-length engine's, or `timeline`).
+
+mod timeline;
 
 use differential::case::{NO_RULE, Subject};
 use differential::chain::law::Value;
@@ -245,5 +247,6 @@ fn main() {
         let each = median(&r) / steps as f64 * 1e9;
         println!("{:8} {:>12} {:>9.4} {:>9.2}  {:>17} {:>17}", job.name, steps, median(&r), each, ratio(&p), ratio(&f));
     }
-    chain(reps, only.as_deref(), marks);
+    chain(reps, only.as_deref(), marks.clone());
+    timeline::timelines(reps, only.as_deref(), marks);
 }
