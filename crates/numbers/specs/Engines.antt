@@ -1,4 +1,4 @@
--- Engines as numbers, as they cross the C boundary. Definitions only.
+-- Engines as numbers, and a timeline's own numbers, as they cross the C boundary. Definitions only.
 use mathlib.Core.List.{List}
 use Prim.Native.Nat.{ℕ, _+_}
 use lib.Dec.{ltb}
@@ -11,6 +11,7 @@ use Rattle.sim.specs.declared.Simulator.{Simulator}
 use Rattle.sim.specs.declared.StopRule.{StopRule}
 use Rattle.sim.specs.declared.StopRule.the-variants as Rule
 use Rattle.rle.specs.declared.ChainSim.{ChainSim}
+use Rattle.times.specs.declared.Times.{Times}
 
 abbrev pub machineOf : (tapes symbols states start : ℕ) → Machine
 machineOf t k n q = record { tapes = t; symbols = k; states = n; start = q }
@@ -55,3 +56,11 @@ chainOf q c xs = record {
 unfoldable pub withChain : List ℕ → ChainSim → List ℕ
 withChain xs v =
     set (set (set (set (set (set (set xs 0 (v .steps)) 1 (v .macros)) 2 (v .tape .left)) 3 (v .tape .right)) 4 (v .tape .head)) 5 (v .lowest)) 6 (v .highest)
+
+-- ---- a timeline's own four numbers: the most slots kept, the starting step, slots recorded, the interval
+
+unfoldable pub timesFrom : List ℕ → Times
+timesFrom xs = record { most = getD xs 0 0; first = getD xs 1 0; count = getD xs 2 0; every = getD xs 3 0 }
+
+unfoldable pub withTimes : List ℕ → Times → List ℕ
+withTimes xs v = set (set (set (set xs 0 (v .most)) 1 (v .first)) 2 (v .count)) 3 (v .every)

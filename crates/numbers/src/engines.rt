@@ -1,4 +1,4 @@
-// Engines as numbers, as they cross the C boundary.
+// Engines as numbers, and a timeline's own numbers, as they cross the C boundary.
 use machine::Machine;
 use rle::ChainSim;
 use rle::RunTape;
@@ -6,10 +6,11 @@ use sim::Simulator;
 use sim::StopRule;
 use symbol::State;
 use tape::Tape;
+use times::Times;
 ghost use mathlib.Core.Path.{_≡_};
 ghost use Prim.Native.Nat.{_+_, _≤_, _<_};
 ghost use lib.ListN.{set, length};
-ghost use Rattle.numbers.specs.Engines.{machineOf, tapeFrom, engineOf, withTape, withEngine, ruleOf, chainOf, withChain};
+ghost use Rattle.numbers.specs.Engines.{machineOf, tapeFrom, engineOf, withTape, withEngine, ruleOf, chainOf, withChain, timesFrom, withTimes};
 
 pub fn machine_of(tapes: u64, symbols: u64, states: u64, start: u64) -> Machine
     ensures { λ r. ⌜ r ≡ machineOf tapes symbols states start ⌝ }
@@ -111,4 +112,24 @@ pub fn put_chain(xs: &mut [u64; 7], v: ChainSim)
     xs[4] = tape.head;
     xs[5] = v.lowest;
     xs[6] = v.highest;
+}
+
+pub fn times_of(xs: &[u64; 4]) -> Times
+    ensures { λ r. ⌜ r ≡ timesFrom (now (xs .entry)) ⌝ }
+{
+    Times {
+        most: xs[0],
+        first: xs[1],
+        count: xs[2],
+        every: xs[3],
+    }
+}
+
+pub fn put_times(xs: &mut [u64; 4], v: Times)
+    ensures { λ _. ⌜ now (xs .exit) ≡ withTimes (now (xs .entry)) v ⌝ }
+{
+    xs[0] = v.most;
+    xs[1] = v.first;
+    xs[2] = v.count;
+    xs[3] = v.every;
 }

@@ -1,3 +1,3 @@
-// Engines and answers as numbers, for the functions with C linkage.
+// Engines, timelines and answers as numbers, for the functions with C linkage.
 pub mod answers;
 pub mod engines;

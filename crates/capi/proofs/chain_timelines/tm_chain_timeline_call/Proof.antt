@@ -1,0 +1,63 @@
+use Rattle.capi.specs.ChainTimelineFacts.{chain-timeline-called}
+use borrow.Author.Needs.{needs}
+use Rattle.capi.proofs.chain_timelines.tm_chain_timeline_call.Statement.{statement}
+use Rattle.capi.proofs.chain_timelines.tm_chain_timeline_call.Tie as tie
+
+machine-of-requires : tie.Need-machine-of-requires
+machine-of-requires c κs = search needs
+
+chain-of-requires : tie.Need-chain-of-requires
+chain-of-requires c κs = search needs
+
+times-of-requires : tie.Need-times-of-requires
+times-of-requires c κs = search needs
+
+moved-requires : tie.Need-moved-requires
+moved-requires c κs = search needs
+
+put-chain-requires : tie.Need-put-chain-requires
+put-chain-requires c κs = search needs
+
+put-times-requires : tie.Need-put-times-requires
+put-times-requires c κs = search needs
+
+tell-answer-requires : tie.Need-tell-answer-requires
+tell-answer-requires c κs = search needs
+
+same-length : tie.Need-same-length
+same-length c = search needs
+
+same-length-2 : tie.Need-same-length-2
+same-length-2 c = search needs
+
+same-length-3 : tie.Need-same-length-3
+same-length-3 c = search needs
+
+same-length-4 : tie.Need-same-length-4
+same-length-4 c = search needs
+
+same-length-5 : tie.Need-same-length-5
+same-length-5 c = search needs
+
+returns : tie.Need-returns
+returns c =
+    rw (← c .before .before .before .before .before .before .before .before .before .before .before .before .before .before .before .before .before .before .before .before .before .before .before .before .before .before .before .before .before .before .machine-of .ensures, ← c .before .before .before .before .before .before .before .before .before .before .before .before .before .before .before .before .before .before .before .before .before .before .before .before .before .before .chain-of .ensures, ← c .before .before .before .before .before .before .before .before .before .before .before .before .before .before .before .before .before .before .before .before .before .before .before .before .times-of .ensures)
+    (chain-timeline-called _ _ _ _ _ _ _ _ _ _ _ _ _ _ (c .before .before .before .before .before .before .before .before .before .before .before .before .before .before .before .before .before .before .moved .result .answer) (c .before .before .before .before .put-chain .ensures) (c .before .before .put-times .ensures) (c .before .before .before .before .before .before .before .before .before .before .before .before .before .before .before .before .before .before .moved .ensures) (c .tell-answer .ensures .0) (c .tell-answer .ensures .1))
+
+pub tm-chain-timeline-call-spec : {M : Type 1} → statement M
+tm-chain-timeline-call-spec =
+    tie.close
+    (tie.spec
+    machine-of-requires
+    chain-of-requires
+    times-of-requires
+    moved-requires
+    put-chain-requires
+    put-times-requires
+    tell-answer-requires
+    same-length
+    same-length-2
+    same-length-3
+    same-length-4
+    same-length-5
+    returns)

@@ -1,0 +1,56 @@
+-- A timeline's exported calls: from what the operation and the stores say to the call. Assumes nothing.
+use mathlib.Core.Path.{_≡_, refl, _∙_, ap}
+use mathlib.Core.List.{List}
+use Prim.Native.Nat.{ℕ}
+use borrow.Author.Tests.{eq-eqb, ne-eqb}
+use Rattle.laws.specs.Tests.{pick-yes, pick-no}
+use Rattle.outcome.specs.declared.Outcome.{Outcome}
+use Rattle.outcome.specs.declared.Refusal.{Refusal}
+use Rattle.outcome.specs.Numbers.{refusalNumber}
+use Rattle.machine.specs.declared.Machine.{Machine}
+use Rattle.sim.specs.declared.Answer.{Answer}
+use Rattle.sim.specs.declared.Answer.the-variants as Ans
+use Rattle.times.specs.Timeline.{Reply, seek, forward, back}
+use Rattle.times.specs.Kind.{Kind, WorldOf, callOn}
+use Rattle.sim_engine.specs.Kind.{plainKind}
+use Rattle.sim_timeline.specs.declared.Timeline.{Timeline}
+use Rattle.sim_timeline.specs.declared.Begun.{Begun}
+use Rattle.sim_timeline.specs.declared.Begun.the-variants as New
+use Rattle.sim_timeline.specs.Worlds.{W, replied, begun}
+use Rattle.numbers.specs.Engines.{withEngine, withTimes}
+use Rattle.numbers.specs.Answers.{refusedOut, answerCode, answerOut}
+use Rattle.capi.specs.Timelines.{callFor, timelineNew, timelineNewCall, timelineCall, movedCall}
+
+-- ---- which call was made, over either engine
+
+module _ (X : Kind) (m : Machine) (s : List ℕ) (w : WorldOf X) (y : Reply Outcome × WorldOf X) (k n : ℕ) where
+  pub was-seek : k ≡ 0 → y ≡ callOn X m s w (seek n) → y ≡ callOn X m s w (callFor k n)
+  unfolding callFor
+  was-seek z e = e ∙ ap (callOn X m s w) (pick-yes _ _ _ _ (eq-eqb k 0 z) refl)
+
+  pub was-forward : (k ≡ 0 → ⊥) → k ≡ 1 → y ≡ callOn X m s w (forward n) → y ≡ callOn X m s w (callFor k n)
+  unfolding callFor
+  was-forward h z e = e ∙ ap (callOn X m s w) (pick-no _ _ _ _ (ne-eqb k 0 h) (pick-yes _ _ _ _ (eq-eqb k 1 z) refl))
+
+  pub was-back : (k ≡ 0 → ⊥) → (k ≡ 1 → ⊥) → y ≡ callOn X m s w (back n) → y ≡ callOn X m s w (callFor k n)
+  unfolding callFor
+  was-back h g e = e ∙ ap (callOn X m s w) (pick-no _ _ _ _ (ne-eqb k 0 h) (pick-no _ _ _ _ (ne-eqb k 1 g) refl))
+
+-- ---- over the plain engine
+
+pub timeline-called : (v : Timeline) (d0 d1 d2 t xs ys us ws out o : List ℕ) (n : ℕ) (g : Reply Outcome × WorldOf plainKind) (a : Answer)
+    → ys ≡ withEngine xs (v .engine) → ws ≡ withTimes us (v .times) → replied a (W v d0 d1 d2 t) ≡ g
+    → n ≡ answerCode a → o ≡ answerOut a out → timelineCall n (v .engine .state .0) ys ws o d0 d1 d2 t ≡ movedCall g xs us out
+unfolding movedCall
+timeline-called v d0 d1 d2 t xs ys us ws out o n g (Ans.Done x) s z e p q = rw (s, z, p, q, ← e) refl
+timeline-called v d0 d1 d2 t xs ys us ws out o n g (Ans.Refused why) s z e p q = rw (s, z, p, q, ← e) refl
+
+module _ (c0 c1 c2 t us : List ℕ) (g : Reply (WorldOf plainKind) × List ℕ) (f : Begun) (e : begun f c0 c1 c2 t ≡ g) where
+  pub timeline-made : (v : Timeline) (ws out : List ℕ) → ws ≡ withTimes us (v .times) → f ≡ New.Made v → timelineNew 0 ws out t ≡ timelineNewCall plainKind g us out
+  unfolding timelineNewCall
+  timeline-made v ws out p z = rw (p, ← e, z) refl
+
+  pub timeline-turned : (why : Refusal) (out o : List ℕ) (n : ℕ) → f ≡ New.Refused why → n ≡ refusalNumber why → o ≡ refusedOut why out
+      → timelineNew n us o t ≡ timelineNewCall plainKind g us out
+  unfolding timelineNewCall
+  timeline-turned why out o n z p q = rw (p, q, ← e, z) refl

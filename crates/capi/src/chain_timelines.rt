@@ -1,0 +1,113 @@
+// A timeline over the run-length engine: a new one, and its calls. Its store of slots is lent as the runs are.
+use machine::Machine;
+use numbers::answers;
+use numbers::engines;
+use rle_timeline::Answered;
+use rle_timeline::Begun;
+use rle_timeline::Timeline;
+ghost use mathlib.Core.Path.{_≡_};
+ghost use Rattle.rle.specs.Engine.{conf};
+ghost use Rattle.times.specs.Kind.{callOn, newWith};
+ghost use Rattle.rle_engine.specs.Kind.{chainKind};
+ghost use Rattle.rle_timeline.specs.Worlds.{W, tl, replied};
+ghost use Rattle.numbers.specs.Engines.{machineOf, chainOf, timesFrom};
+ghost use Rattle.capi.specs.Timelines.{callFor, timelineNew, timelineNewCall};
+ghost use Rattle.capi.specs.ChainTimelines.{chainTimelineCall, chainMovedCall};
+
+#[no_mangle]
+pub extern "C" fn tm_chain_timeline_new(
+    tapes: u64,
+    symbols: u64,
+    states: u64,
+    start: u64,
+    table: &[u8],
+    ls: &[u8],
+    ll: &[u64],
+    rs: &[u8],
+    rl: &[u64],
+    store: &mut [u8],
+    state: u16,
+    cur: u8,
+    engine: &[u64; 7],
+    times: &mut [u64; 4],
+    most: u64,
+    every: u64,
+    out: &mut [u64; 8],
+) -> u8
+    ensures { λ r. ⌜ timelineNew r (now (times .exit)) (now (out .exit)) (now (store .exit)) ≡ timelineNewCall chainKind (newWith chainKind (machineOf tapes symbols states start) (now (table .entry)) most every (conf (chainOf state cur (now (engine .entry))) (now (ls .entry)) (now (ll .entry)) (now (rs .entry)) (now (rl .entry))) (now (store .entry))) (now (times .entry)) (now (out .entry)) ⌝ }
+{
+    let m = engines::machine_of(tapes, symbols, states, start);
+    let sim = engines::chain_of(state, cur, engine);
+    let begun = Timeline::new(sim, m, table, ls, ll, rs, rl, store, most, every);
+    match begun {
+        Begun::Made(timeline) => {
+            engines::put_times(times, timeline.times);
+            return 0;
+        }
+        Begun::Refused(why) => {
+            return answers::refuse(out, why);
+        }
+    }
+}
+
+// Seek for 0, forward for 1, else back.
+fn moved(
+    timeline: Timeline,
+    m: Machine,
+    table: &[u8],
+    ls: &mut [u8],
+    ll: &mut [u64],
+    rs: &mut [u8],
+    rl: &mut [u64],
+    store: &mut [u8],
+    which: u8,
+    number: u64,
+) -> Answered
+    ensures { λ r. ⌜ replied (r .answer) (W (r .timeline) (now (ls .exit)) (now (ll .exit)) (now (rs .exit)) (now (rl .exit)) (now (store .exit))) ≡ callOn chainKind m (now (table .entry)) (W timeline (now (ls .entry)) (now (ll .entry)) (now (rs .entry)) (now (rl .entry)) (now (store .entry))) (callFor which number) ⌝ }
+{
+    if which == 0 {
+        return timeline.seek(m, table, ls, ll, rs, rl, store, number);
+    }
+    if which == 1 {
+        return timeline.forward(m, table, ls, ll, rs, rl, store, number);
+    }
+    timeline.back(m, table, ls, ll, rs, rl, store, number)
+}
+
+#[no_mangle]
+pub extern "C" fn tm_chain_timeline_call(
+    tapes: u64,
+    symbols: u64,
+    states: u64,
+    start: u64,
+    table: &[u8],
+    ls: &mut [u8],
+    ll: &mut [u64],
+    rs: &mut [u8],
+    rl: &mut [u64],
+    store: &mut [u8],
+    state: &mut u16,
+    cur: &mut u8,
+    engine: &mut [u64; 7],
+    times: &mut [u64; 4],
+    which: u8,
+    number: u64,
+    out: &mut [u64; 8],
+) -> u8
+    ensures { λ r. ⌜ chainTimelineCall r (now (state .exit)) (now (cur .exit)) (now (engine .exit)) (now (times .exit)) (now (out .exit)) (now (ls .exit)) (now (ll .exit)) (now (rs .exit)) (now (rl .exit)) (now (store .exit)) ≡ chainMovedCall (callOn chainKind (machineOf tapes symbols states start) (now (table .entry)) (W (tl (chainOf (now (state .entry)) (now (cur .entry)) (now (engine .entry))) (timesFrom (now (times .entry)))) (now (ls .entry)) (now (ll .entry)) (now (rs .entry)) (now (rl .entry)) (now (store .entry))) (callFor which number)) (now (engine .entry)) (now (times .entry)) (now (out .entry)) ⌝ }
+{
+    let m = engines::machine_of(tapes, symbols, states, start);
+    let timeline = Timeline {
+        engine: engines::chain_of(*state, *cur, engine),
+        times: engines::times_of(times),
+    };
+    let answered = moved(timeline, m, table, ls, ll, rs, rl, store, which, number);
+    let after = answered.timeline;
+    let answer = answered.answer;
+    let sim = after.engine;
+    *state = sim.state.0;
+    *cur = sim.tape.cur;
+    engines::put_chain(engine, sim);
+    engines::put_times(times, after.times);
+    answers::tell_answer(out, answer)
+}

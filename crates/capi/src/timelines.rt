@@ -1,0 +1,106 @@
+// A timeline over the plain engine: a new one, and its calls. Its store of slots is lent as the cells are.
+use machine::Machine;
+use numbers::answers;
+use numbers::engines;
+use sim_timeline::Answered;
+use sim_timeline::Begun;
+use sim_timeline::Timeline;
+ghost use mathlib.Core.Path.{_≡_};
+ghost use Rattle.sim.specs.Engine.{conf};
+ghost use Rattle.times.specs.Kind.{callOn, newWith};
+ghost use Rattle.sim_engine.specs.Kind.{plainKind};
+ghost use Rattle.sim_timeline.specs.Worlds.{W, tl, replied};
+ghost use Rattle.numbers.specs.Engines.{machineOf, engineOf, timesFrom};
+ghost use Rattle.capi.specs.Timelines.{callFor, timelineNew, timelineNewCall, timelineCall, movedCall};
+
+#[no_mangle]
+pub extern "C" fn tm_sim_timeline_new(
+    tapes: u64,
+    symbols: u64,
+    states: u64,
+    start: u64,
+    table: &[u8],
+    c0: &[u8],
+    c1: &[u8],
+    c2: &[u8],
+    store: &mut [u8],
+    state: u16,
+    engine: &[u64; 16],
+    times: &mut [u64; 4],
+    most: u64,
+    every: u64,
+    out: &mut [u64; 8],
+) -> u8
+    ensures { λ r. ⌜ timelineNew r (now (times .exit)) (now (out .exit)) (now (store .exit)) ≡ timelineNewCall plainKind (newWith plainKind (machineOf tapes symbols states start) (now (table .entry)) most every (conf (engineOf state (now (engine .entry))) (now (c0 .entry)) (now (c1 .entry)) (now (c2 .entry))) (now (store .entry))) (now (times .entry)) (now (out .entry)) ⌝ }
+{
+    let m = engines::machine_of(tapes, symbols, states, start);
+    let sim = engines::engine_of(state, engine);
+    let begun = Timeline::new(sim, m, table, c0, c1, c2, store, most, every);
+    match begun {
+        Begun::Made(timeline) => {
+            engines::put_times(times, timeline.times);
+            return 0;
+        }
+        Begun::Refused(why) => {
+            return answers::refuse(out, why);
+        }
+    }
+}
+
+// Seek for 0, forward for 1, else back.
+fn moved(
+    timeline: Timeline,
+    m: Machine,
+    table: &[u8],
+    c0: &mut [u8],
+    c1: &mut [u8],
+    c2: &mut [u8],
+    store: &mut [u8],
+    which: u8,
+    number: u64,
+) -> Answered
+    ensures { λ r. ⌜ replied (r .answer) (W (r .timeline) (now (c0 .exit)) (now (c1 .exit)) (now (c2 .exit)) (now (store .exit))) ≡ callOn plainKind m (now (table .entry)) (W timeline (now (c0 .entry)) (now (c1 .entry)) (now (c2 .entry)) (now (store .entry))) (callFor which number) ⌝ }
+{
+    if which == 0 {
+        return timeline.seek(m, table, c0, c1, c2, store, number);
+    }
+    if which == 1 {
+        return timeline.forward(m, table, c0, c1, c2, store, number);
+    }
+    timeline.back(m, table, c0, c1, c2, store, number)
+}
+
+#[no_mangle]
+pub extern "C" fn tm_sim_timeline_call(
+    tapes: u64,
+    symbols: u64,
+    states: u64,
+    start: u64,
+    table: &[u8],
+    c0: &mut [u8],
+    c1: &mut [u8],
+    c2: &mut [u8],
+    store: &mut [u8],
+    state: &mut u16,
+    engine: &mut [u64; 16],
+    times: &mut [u64; 4],
+    which: u8,
+    number: u64,
+    out: &mut [u64; 8],
+) -> u8
+    ensures { λ r. ⌜ timelineCall r (now (state .exit)) (now (engine .exit)) (now (times .exit)) (now (out .exit)) (now (c0 .exit)) (now (c1 .exit)) (now (c2 .exit)) (now (store .exit)) ≡ movedCall (callOn plainKind (machineOf tapes symbols states start) (now (table .entry)) (W (tl (engineOf (now (state .entry)) (now (engine .entry))) (timesFrom (now (times .entry)))) (now (c0 .entry)) (now (c1 .entry)) (now (c2 .entry)) (now (store .entry))) (callFor which number)) (now (engine .entry)) (now (times .entry)) (now (out .entry)) ⌝ }
+{
+    let m = engines::machine_of(tapes, symbols, states, start);
+    let timeline = Timeline {
+        engine: engines::engine_of(*state, engine),
+        times: engines::times_of(times),
+    };
+    let answered = moved(timeline, m, table, c0, c1, c2, store, which, number);
+    let after = answered.timeline;
+    let answer = answered.answer;
+    let sim = after.engine;
+    *state = sim.state.0;
+    engines::put_engine(engine, sim);
+    engines::put_times(times, after.times);
+    answers::tell_answer(out, answer)
+}
