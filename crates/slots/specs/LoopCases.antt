@@ -1,13 +1,14 @@
 -- The loops that copy bytes and thin a store: where they begin, each turn, and where they end. Assumes nothing.
-use mathlib.Core.Path.{_≡_}
-use mathlib.Core.List.{List}
-use Prim.Native.Nat.{ℕ, _+_, _*_, _≤_, _<_}
+use mathlib.Core.Path.{_≡_, _∙_, ap}
+use mathlib.Core.List.{List, _++_}
+use Prim.Native.Nat.{ℕ, _+_, _-_, _*_, _≤_, _<_}
 use native.Mathlib.Nat.{mul-le-mul-right}
 use native.Mathlib.Numerals.{add-one}
 use native.Mathlib.Omega.{arith}
-use lib.ListN.{length, getD, set}
-use lib.Seq.{paste, paste-suc, paste-zero}
+use lib.ListN.{length, take, drop, getD, set, length-drop}
+use lib.Seq.{paste, paste-suc, paste-zero, length-take-le}
 use Rattle.slots.specs.Slots.{moveSlot, thinBy}
+use Rattle.slots.specs.SlotFacts.{paste-same, copied, copied-more, copied-all}
 
 -- ---- copying
 
@@ -19,6 +20,28 @@ copy-turn d₀ d s at n i h k g p = rw (p, add-one) (paste-suc d₀ at s i 0 (om
 
 pub copy-end : (d₀ d s : List ℕ) (at n i : ℕ) → n ≤ i → i ≤ n → d ≡ paste d₀ at s i → d ≡ paste d₀ at s n
 copy-end d₀ d s at n i h g p = let e : i ≡ n = omega arith in rw e at p
+
+-- ---- moving
+
+-- what went into a block and out of it
+pub block-moved : (d d′ e e′ : List ℕ) (a b n : ℕ) → a + n ≤ length d → n ≤ length e
+    → e′ ≡ paste e 0 (take (a + n - a) (drop a d)) n → d′ ≡ paste d b e′ n → d′ ≡ paste d b (take n (drop a d)) n
+block-moved d d′ e e′ a b n h k p q = q ∙ ap (λ l. take b d ++ l ++ drop (b + n) d) (ap (take n) p ∙ (held ∙ ap (λ m. take n (take m (drop a d))) count))
+  where
+    count : a + n - a ≡ n
+    count = omega arith
+
+    held : take n (paste e 0 (take (a + n - a) (drop a d)) n) ≡ take n (take (a + n - a) (drop a d))
+    held = paste-same e 0 (take (a + n - a) (drop a d)) n (omega arith)
+        (omega (arith, count, length-take-le (a + n - a) (drop a d) (omega (arith, count, length-drop a d))))
+
+pub move-turn : (size from to : ℕ) (t₀ t t′ : List ℕ) (j n : ℕ) → from * size + size ≤ length t₀ → to < from → j + n ≤ size
+    → t ≡ copied size from to t₀ j → t′ ≡ paste t (to * size + j) (take n (drop (from * size + j) t)) n → t′ ≡ copied size from to t₀ (j + n)
+move-turn size from to t₀ t t′ j n h k l p q = q ∙ (ap (λ t. paste t (to * size + j) (take n (drop (from * size + j) t)) n) p ∙ copied-more size from to t₀ h k j n l)
+
+pub move-end : (size from to : ℕ) (t₀ t : List ℕ) (j : ℕ) → from * size + size ≤ length t₀ → to < from → size ≤ j → j ≤ size
+    → t ≡ copied size from to t₀ j → t ≡ moveSlot size from to t₀
+move-end size from to t₀ t j h k a b p = let e : j ≡ size = omega arith in (rw e at p) ∙ copied-all size from to t₀ h k
 
 -- ---- thinning
 

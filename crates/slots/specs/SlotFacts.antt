@@ -3,11 +3,10 @@ use Prim.Native.Nat.{ℕ, suc, _+_, _-_, _*_, _≤_, _<_}
 use mathlib.Core.Path.{_≡_, refl, sym, _∙_, ap}
 use mathlib.Core.List.{List, _++_, append-assoc}
 use native.Mathlib.Nat.{mul-le-mul-right, div-mul-le-self}
-use native.Mathlib.Numerals.{add-one}
 use native.Mathlib.Decide.{decLt}
 use native.Mathlib.Omega.{arith}
-use lib.ListN.{length, take, drop, getD, set, length-drop}
-use lib.Seq.{paste, paste-zero, paste-suc, getD-drop, getD-take, length-paste, length-paste-head, take-paste, drop-paste, take-append-le, take-take, take-add, drop-at, drop-drop, length-take-le, take-length, take-all}
+use lib.ListN.{length, take, drop, length-drop}
+use lib.Seq.{paste, paste-zero, length-paste, length-paste-head, take-paste, drop-paste, take-append-le, take-take, take-add, drop-at, drop-drop, length-take-le, take-length, take-all}
 use Rattle.slots.specs.Slots.{slotCount, slotOf, putSlot, moveSlot}
 
 -- a part of n bytes from a, as take of drop and as drop of take
@@ -36,6 +35,24 @@ paste-after d at s n a m h k l = ap (take m)
 
     late : (l : List ℕ) → drop a l ≡ drop (a - (at + n)) (drop (at + n) l)
     late l = ap (λ i. drop i l) sum ∙ sym (drop-drop (a - (at + n)) (at + n) l)
+
+-- a copy of j elements, and after it a copy of the n that follow
+pub paste-more : (d : List ℕ) (at : ℕ) (s : List ℕ) (j n : ℕ) (t : List ℕ) → at + j ≤ length d → j ≤ length s → take n t ≡ take n (drop j s)
+    → paste (paste d at s j) (at + j) t n ≡ paste d at s (j + n)
+paste-more d at s j n t h k e =
+    ap (λ l. l ++ take n t ++ drop (at + j + n) (paste d at s j)) (take-paste d at s j (omega arith) k)
+    ∙ (ap (λ l. take at d ++ take j s ++ take n t ++ l) rest
+    ∙ ap (λ l. l ++ drop (at + (j + n)) d) head)
+  where
+    sum : at + j + n ≡ at + (j + n)
+    sum = omega arith
+
+    rest : drop (at + j + n) (paste d at s j) ≡ drop (at + (j + n)) d
+    rest = sym (drop-drop n (at + j) (paste d at s j))
+        ∙ (ap (drop n) (drop-paste d at s j (omega arith) k) ∙ (drop-drop n (at + j) d ∙ ap (λ i. drop i d) sum))
+
+    head : take at d ++ take j s ++ take n t ≡ take at d ++ take (j + n) s
+    head = append-assoc (take at d) (take j s) (take n t) ∙ ap (λ l. take at d ++ l) (ap (λ l. take j s ++ l) e ∙ sym (take-add j n s))
 
 module _ (size : ℕ) where
   pub slot-inside : (i : ℕ) (t : List ℕ) → i < slotCount size t → i * size + size ≤ length t
@@ -78,7 +95,7 @@ module _ (size : ℕ) where
     unfolding moveSlot
     move-other = put-other k (slotOf size i t) t m (slot-length i t l)
 
--- The store after j turns of the loop that copies slot `from` to slot `to`.
+-- The store when the first j bytes of slot `from` stand in slot `to`.
 unfoldable pub copied : ℕ → ℕ → ℕ → List ℕ → ℕ → List ℕ
 copied size from to d j = paste d (to * size) (slotOf size from d) j
 
@@ -99,20 +116,25 @@ module _ (size from to : ℕ) (d : List ℕ) (fits : from * size + size ≤ leng
   unfolding copied
   copied-length j l = length-paste d (to * size) (slotOf size from d) j (omega (arith, lower, fits)) (omega (arith, whole))
 
-  pub copied-more : (j : ℕ) → j < size → set (copied size from to d j) (to * size + j) (getD (copied size from to d j) (from * size + j) 0) ≡ copied size from to d (j + 1)
+  -- the next n bytes, read from the slot or from the store: what has been copied so far lies before them
+  reads : (j n : ℕ) → j + n ≤ size → take n (drop (from * size + j) (copied size from to d j)) ≡ take n (drop j (slotOf size from d))
   unfolding copied slotOf
-  copied-more j l = ap (set (copied size from to d j) (to * size + j)) reads
-      ∙ (paste-suc d (to * size) (slotOf size from d) j 0 (omega (arith, lower, fits)) (omega (arith, whole)) ∙ ap (copied size from to d) (sym (add-one j)))
+  reads j n l =
+      paste-after d (to * size) (slotOf size from d) j (from * size + j) n (omega (arith, lower, fits)) (omega (arith, whole)) (omega (arith, lower))
+      ∙ (ap (take n) (sym (drop-drop j (from * size) d))
+      ∙ (part-drop j n (drop (from * size) d) (omega (arith, length-drop (from * size) d, fits))
+      ∙ (ap (drop j) (sym (take-take (j + n) size (drop (from * size) d) l)) ∙ sym (part-drop j n (slotOf size from d) (omega (arith, whole))))))
+
+  pub copied-more : (j n : ℕ) → j + n ≤ size
+      → paste (copied size from to d j) (to * size + j) (take n (drop (from * size + j) (copied size from to d j))) n ≡ copied size from to d (j + n)
+  unfolding copied
+  copied-more j n l = paste-more d (to * size) (slotOf size from d) j n next (omega (arith, lower, fits)) (omega (arith, whole)) (take-take n n ahead (omega arith) ∙ reads j n l)
     where
-      past : to * size + j + (from * size - to * size) ≡ from * size + j
-      past = omega (arith, lower)
+      ahead : List ℕ
+      ahead = drop (from * size + j) (copied size from to d j)
 
-      far : (e : List ℕ) → getD e (from * size + j) 0 ≡ getD (drop (to * size + j) e) (from * size - to * size) 0
-      far e = sym (getD-drop (to * size + j) e (from * size - to * size) 0 ∙ ap (λ n. getD e n 0) past)
-
-      reads : getD (copied size from to d j) (from * size + j) 0 ≡ getD (slotOf size from d) j 0
-      reads = far (copied size from to d j) ∙ (ap (λ e. getD e (from * size - to * size) 0) (drop-paste d (to * size) (slotOf size from d) j (omega (arith, lower, fits)) (omega (arith, whole)))
-          ∙ (sym (far d) ∙ sym (getD-take size (drop (from * size) d) j 0 l ∙ getD-drop (from * size) d j 0)))
+      next : List ℕ
+      next = take n ahead
 
   pub copied-all : copied size from to d size ≡ moveSlot size from to d
   unfolding copied moveSlot putSlot

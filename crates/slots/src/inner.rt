@@ -1,7 +1,7 @@
 // Little-endian numbers in bytes, copies, and moves of slots, which ask that all lies inside the slices.
 ghost use mathlib.Core.Path.{_≡_};
 ghost use Prim.Native.Nat.{_+_, _*_, _≤_, _<_};
-ghost use lib.ListN.{length, set};
+ghost use lib.ListN.{length, set, take, drop};
 ghost use lib.Seq.{paste};
 ghost use Rattle.slots.specs.Bytes.{get16, get32, get64, put16, put32, put64};
 ghost use Rattle.slots.specs.Slots.{moveSlot, thinBy};
@@ -81,7 +81,29 @@ pub fn copy_in(to: &mut [u8], at: usize, from: &[u8], n: usize)
     }
 }
 
-// Slot `from` into slot `to`, below it.
+// The n bytes from `a` on, to `b` on, by way of a block: so each copy is between two slices that lie apart.
+fn move_block(store: &mut [u8], block: &mut [u8], a: usize, b: usize, n: usize)
+    requires { ⌜ a + n ≤ length (now store) ⌝ }
+    requires { ⌜ b + n ≤ length (now store) ⌝ }
+    requires { ⌜ n ≤ length (now block) ⌝ }
+    ensures { λ _. ⌜ now (store .exit) ≡ paste (now (store .entry)) b (take n (drop a (now (store .entry)))) n ⌝ }
+{
+    copy_in(block, 0, &store[a..a + n], n);
+    copy_in(store, b, block, n);
+}
+
+// How many bytes the next block takes, of those that are left.
+fn next_block(left: usize) -> usize
+    requires { ⌜ 0 < left ⌝ }
+    ensures { λ r. ⌜ (0 < r) × (r ≤ left) × (r ≤ 1024) ⌝ }
+{
+    if left < 1024 {
+        return left;
+    }
+    1024
+}
+
+// Slot `from` into slot `to`, below it, block by block.
 pub fn move_slot(store: &mut [u8], size: usize, from: usize, to: usize)
     requires { ⌜ from * size + size ≤ length (now store) ⌝ }
     requires { ⌜ to < from ⌝ }
@@ -89,11 +111,12 @@ pub fn move_slot(store: &mut [u8], size: usize, from: usize, to: usize)
 {
     let a = from * size;
     let b = to * size;
+    let mut block: [u8; 1024] = [0; 1024];
     let mut j = 0;
     while j < size {
-        let x = store[a + j];
-        store[b + j] = x;
-        j += 1;
+        let n = next_block(size - j);
+        move_block(store, &mut block, a + j, b + j, n);
+        j += n;
     }
 }
 
