@@ -1,0 +1,4 @@
+pub mod Encode
+pub mod EncodeCases
+pub mod EncodeFacts
+pub mod Examples
