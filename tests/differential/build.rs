@@ -8,7 +8,7 @@ use std::{env, fs};
 const FILES: [&str; 8] = ["symbol", "outcome", "alphabet", "machine", "tape", "sim", "rle", "checkpoint"];
 
 /// `Alphabet` keeps its fields to its own module and has no constructor for more than 64
-/// symbols. So its file becomes the body of an inline module, with this one below it.
+/// symbols, or for glyphs given twice. So its file becomes the body of an inline module, with this one below it.
 const DOOR: &str = r#"
     pub(crate) mod door {
         /// An alphabet of `k` symbols, whatever `MAX_SYMBOLS` says.
@@ -18,6 +18,11 @@ const DOOR: &str = r#"
                 glyphs: (0..k).map(glyph).collect(),
                 input: (0..k).map(|i| i > 0).collect(),
             }
+        }
+
+        /// An alphabet of these glyphs and flags, whatever they are.
+        pub(crate) fn any(glyphs: Vec<char>, input: Vec<bool>) -> super::Alphabet {
+            super::Alphabet { glyphs, input }
         }
     }
 "#;

@@ -1,6 +1,7 @@
 #!/bin/sh
 # Puts each fault of src/faults.rs into the mock, one at a time: the harness must find every one. A fault of the
-# run-length engine ("chain: ..") or of the timeline ("timeline: ..") is looked for in its kinds of runs only.
+# run-length engine ("chain: .."), the timeline ("timeline: ..") or the encoder ("encoder: ..") is looked for in its kinds
+# of runs only.
 # Needs a build with `--features mock`; run it in this folder. Arguments: the program, and the first fault to try.
 program=${1:-../../target/differential/release/differential}
 faults=$(sed -n '/^pub const FAULTS/,/^];/p' src/faults.rs | grep '^    "')
@@ -13,6 +14,7 @@ while [ "$i" -le "$number" ]; do
     kinds=
     echo "$faults" | sed -n "${i}p" | grep -q '"chain: ' && kinds=$chain
     echo "$faults" | sed -n "${i}p" | grep -q '"timeline: ' && kinds=$timeline
+    echo "$faults" | sed -n "${i}p" | grep -q '"encoder: ' && kinds="--only encode"
     # shellcheck disable=SC2086 # the kinds are words
     if found=$(MOCK_FAULT=$i "$program" $kinds 2>/dev/null); then
         echo "fault $i: NOT FOUND"

@@ -1,8 +1,9 @@
-// The engines and their timelines behind functions with C linkage, on numbers and slices. Each returns 0, or the number of
-// its refusal.
+// The engines, their timelines and the encoder behind functions with C linkage, on numbers and slices. Each returns 0, or
+// the number of its refusal.
 pub mod chain;
 pub mod chain_questions;
 pub mod chain_timelines;
+pub mod encoder;
 pub mod plain;
 pub mod questions;
 pub mod tables;

@@ -7,7 +7,7 @@ use Rattle.demands.specs.FirstChain.{ChainOperations, chain-operations}
 use Rattle.demands.specs.FirstTimelines.{BothTimelines, both-timelines}
 
 pub record FirstDemand : Type 0 where
-  -- the table check, the lookup, packing, the word's check
+  -- the table check, the lookup, packing, the word's check, the encoder
   pub tables : TableOperations
   -- the plain engine: new, step, run, the fast run, the tape questions; space
   pub plain : PlainOperations

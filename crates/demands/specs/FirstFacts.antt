@@ -20,6 +20,7 @@ use Rattle.machine.specs.Layout.{entryCount}
 use Rattle.machine.specs.Check.{within, demand, checkedOn, entryOk, entryAnswer, entriesCheck, sizeCheck, tableCheck}
 use Rattle.machine.specs.Packing.{packCheck}
 use Rattle.machine.specs.Word.{symbolIn, symbolAnswer, symbolsCheck, wordCheck}
+use Rattle.alphabet.specs.Encode.{allowedAt, glyphAnswer, glyphsCheck, encodeCheck}
 use Rattle.before.specs.Sizes as Sizes
 use Rattle.sim.specs.Engine as Plain
 use Rattle.sim.specs.Operations as Plains
@@ -29,7 +30,7 @@ use Rattle.rle.specs.Engine as Chain
 use Rattle.rle.specs.Fits as Fits
 use Rattle.rle.specs.Operations as Chains
 use Rattle.demands.specs.FirstClaims.{Test, or, firstOf, numbersOf, numberOr0, lowest, TurnsAway}
-use Rattle.demands.specs.FirstTests.{tableTests, packTests, wordTests, plainNewTests, plainSizes, plainFits, plainRunTests, plainFastTests, plainAskTests, oneTape, chainNewTests, chainAskTests, chainRunTests}
+use Rattle.demands.specs.FirstTests.{tableTests, packTests, wordTests, encodeTests, plainNewTests, plainSizes, plainFits, plainRunTests, plainFastTests, plainAskTests, oneTape, chainNewTests, chainAskTests, chainRunTests}
 
 -- ---- an operation that does as its check says
 
@@ -71,7 +72,7 @@ on-on : (a b c : Checked) → checkedOn (checkedOn a b) c ≡ checkedOn a (check
 on-on (Refused why) b c = refl
 on-on Accepted b c = refl
 
--- ---- 6 and 10: the lowest that fails
+-- ---- 6, 10 and 17: the lowest that fails
 
 scan-first : (p : ℕ → Bool) (n : ℕ) (f : Option ℕ → Checked) (why : ℕ → Refusal) → f none ≡ Accepted → ((j : ℕ) → f (some j) ≡ Refused (why j))
     → f (firstFail p n 0) ≡ pick (allIn p n 0) Accepted (Refused (why (lowest p n)))
@@ -96,6 +97,14 @@ module _ (m : Machine) (s : List ℕ) where
 pub word-first : (k : ℕ) (w : List ℕ) → wordCheck k w ≡ firstOf (wordTests k w)
 unfolding wordCheck symbolsCheck firstOf
 word-first k w = ap (demand (leb (length w) 1048576) Why.WordLength) (scan-first (symbolIn k w) (length w) symbolAnswer Why.WordSymbol refl (λ j. refl))
+
+pub encode-first : (glyphs flags word : List ℕ) (room : ℕ) → encodeCheck glyphs flags word room ≡ firstOf (encodeTests glyphs flags word room)
+unfolding encodeCheck glyphsCheck firstOf
+encode-first glyphs flags word room =
+    on-first _ _ (or (allIn (allowedAt glyphs flags word) (length word) 0) (Why.Glyph (lowest (allowedAt glyphs flags word) (length word))) ∷ [])
+    (or (leb (length word) room) Why.OutputSize ∷ [])
+    (scan-first (allowedAt glyphs flags word) (length word) glyphAnswer Why.Glyph refl (λ j. refl))
+    refl
 
 -- ---- the plain engine
 

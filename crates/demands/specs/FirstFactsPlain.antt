@@ -1,6 +1,6 @@
--- Each operation on tables and of the plain engine turns away what its list says, and changes nothing then. Assumes nothing.
+-- Each operation on tables and words and of the plain engine turns away what its list says, and changes nothing then. Assumes nothing.
 use mathlib.Core.Path.{_≡_, refl}
-use mathlib.Core.Bool.{true}
+use mathlib.Core.Bool.{true, false}
 use mathlib.Core.Option.{Option}
 use mathlib.Core.List.{List, [], _∷_}
 use Prim.Native.Nat.{ℕ, _≤_, _<_}
@@ -26,6 +26,8 @@ use Rattle.machine.specs.Layout.{strideOf, entryCount, entryNumber, entryAt}
 use Rattle.machine.specs.Check.{tableCheck, lookedOn, lookupOf}
 use Rattle.machine.specs.Packing.{wordAt, packCheck, packedOn, packInto}
 use Rattle.machine.specs.Word.{symbolIn, symbolAnswer, symbolsCheck, wordCheck}
+use Rattle.alphabet.specs.Encode.{allowedAt, byteAt, encodeCheck, heldOn, encodeInto}
+use Rattle.alphabet.specs.EncodeFacts.{refused-place}
 use Rattle.tape.specs.Moves.{freshOf}
 use Rattle.tape.specs.Questions.{cellOf, nonBlankOf, countOf, windowOf, findOf}
 use Rattle.sim.specs.declared.StopRule.{StopRule}
@@ -40,8 +42,8 @@ use Rattle.sim.specs.Engine as Plain
 use Rattle.sim.specs.Operations as Plains
 use Rattle.sim.specs.Questions as Asks
 use Rattle.demands.specs.FirstClaims.{numbersOf, TurnsAway, ofFresh, ofAnswer, ofStep, ofGot, ofExtent, ofCounted, ofLocated, ofLooked}
-use Rattle.demands.specs.FirstTests.{tableTests, packTests, wordTests, plainNewTests, plainRunTests, plainFastTests, plainAskTests}
-use Rattle.demands.specs.FirstFacts.{turns, table-first, pack-first, word-first, plain-new-first, plain-run-first, plain-fast-first, plain-ask-first}
+use Rattle.demands.specs.FirstTests.{tableTests, packTests, wordTests, encodeTests, plainNewTests, plainRunTests, plainFastTests, plainAskTests}
+use Rattle.demands.specs.FirstFacts.{turns, table-first, pack-first, word-first, encode-first, plain-new-first, plain-run-first, plain-fast-first, plain-ask-first}
 
 -- ---- tables and words
 
@@ -81,6 +83,20 @@ module _ (k : ℕ) (w : List ℕ) where
       by x (failed j a b z r) e =
           let q : j ≡ i = cc in
           rw (← q) (omega arith, omega (arith, ltb-false (getD w j 0) k z), λ l h. ltb-true (getD w l 0) k (r l (omega arith) h))
+
+module _ (glyphs flags word : List ℕ) where
+  pub encode-turns : (out : List ℕ)
+      → TurnsAway (17 ∷ 18 ∷ []) (encodeTests glyphs flags word (length out)) (λ (x : Checked × List ℕ). x .0) (λ why. (Refused why, out))
+      (encodeCheck glyphs flags word (length out), encodeInto glyphs flags word out)
+  unfolding numbersOf encodeInto
+  encode-turns out = turns _ (encodeTests glyphs flags word (length out)) (λ (x : Checked × List ℕ). x .0) (λ why. (Refused why, out))
+      (λ c. (c, heldOn c out (fillFrom (byteAt glyphs word) (length word) 0 out))) _ refl (encode-first glyphs flags word (length out)) refl (λ why. refl) (λ why. refl)
+
+  pub encode-place : (room i : ℕ) → encodeCheck glyphs flags word room ≡ Refused (Why.Glyph i)
+      → (i < length word) × (allowedAt glyphs flags word i ≡ false) × ((j : ℕ) → j < i → allowedAt glyphs flags word j ≡ true)
+  encode-place room i e =
+      let f = refused-place glyphs flags word room i e in
+      (f .inside, f .bad, f .good)
 
 -- ---- the plain engine
 

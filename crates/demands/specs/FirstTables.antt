@@ -1,5 +1,6 @@
--- THE FIRST DEMAND of the operations on tables and input words: the table check, the lookup, packing, and the word's check.
+-- THE FIRST DEMAND of the operations on tables and input words: the table check, the lookup, packing, the word's check, and the encoder.
 use mathlib.Core.Path.{_≡_}
+use mathlib.Core.Bool.{true, false}
 use mathlib.Core.Logic.{_↔_}
 use mathlib.Core.List.{List, [], _∷_}
 use Prim.Native.Nat.{ℕ, _≤_, _<_}
@@ -15,11 +16,12 @@ use Rattle.machine.specs.declared.Looked.the-variants as Looked
 use Rattle.machine.specs.Check.{tableCheck, lookupOf}
 use Rattle.machine.specs.Packing.{packCheck, packInto}
 use Rattle.machine.specs.Word.{wordCheck}
+use Rattle.alphabet.specs.Encode.{allowedAt, encodeCheck, encodeInto}
 use Rattle.tables.specs.WellFormed.{Bytes, WellFormed, FirstRefusal}
 use Rattle.tables.specs.CheckExact.{table-check-refuses-first, table-check-accepted, table-check-accepts}
 use Rattle.demands.specs.FirstClaims.{TurnsAway, ofLooked}
-use Rattle.demands.specs.FirstTests.{tableTests, packTests, wordTests}
-use Rattle.demands.specs.FirstFactsPlain.{table-turns, lookup-turns, pack-turns, word-turns, word-place}
+use Rattle.demands.specs.FirstTests.{tableTests, packTests, wordTests, encodeTests}
+use Rattle.demands.specs.FirstFactsPlain.{table-turns, lookup-turns, pack-turns, word-turns, word-place, encode-turns, encode-place}
 
 pub record TableOperations : Type 0 where
   -- the table check, "first in every operation that takes one"; it writes nothing
@@ -38,6 +40,12 @@ pub record TableOperations : Type 0 where
   pub word : (k : ℕ) (w : List ℕ) → TurnsAway (9 ∷ 10 ∷ []) (wordTests k w) (λ (r : Checked). r) Refused (wordCheck k w)
   pub word-first : (k : ℕ) (w : List ℕ) (i : ℕ) → wordCheck k w ≡ Refused (Why.WordSymbol i)
       → (i < length w) × (k ≤ getD w i 0) × ((j : ℕ) → j < i → getD w j 0 < k)
+  -- the encoder: the answer, with the lent output; of 17 the first place
+  pub encode : (glyphs flags word out : List ℕ)
+      → TurnsAway (17 ∷ 18 ∷ []) (encodeTests glyphs flags word (length out)) (λ (x : Checked × List ℕ). x .0) (λ why. (Refused why, out))
+      (encodeCheck glyphs flags word (length out), encodeInto glyphs flags word out)
+  pub encode-first : (glyphs flags word : List ℕ) (room i : ℕ) → encodeCheck glyphs flags word room ≡ Refused (Why.Glyph i)
+      → (i < length word) × (allowedAt glyphs flags word i ≡ false) × ((j : ℕ) → j < i → allowedAt glyphs flags word j ≡ true)
 
 pub table-operations : TableOperations
 table-operations = record {
@@ -48,4 +56,6 @@ table-operations = record {
   pack = pack-turns;
   word = word-turns;
   word-first = word-place;
+  encode = encode-turns;
+  encode-first = encode-place;
 }

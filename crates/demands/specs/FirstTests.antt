@@ -10,6 +10,7 @@ use Rattle.machine.specs.declared.Machine.{Machine}
 use Rattle.machine.specs.Layout.{entryCount}
 use Rattle.machine.specs.Check.{within, entryOk}
 use Rattle.machine.specs.Word.{symbolIn}
+use Rattle.alphabet.specs.Encode.{allowedAt}
 use Rattle.before.specs.Sizes.{sizesFit, fuelFits, wordsRight, freshSizes}
 use Rattle.sim.specs.Engine as Plain
 use Rattle.sim.specs.Operations.{simFits}
@@ -44,6 +45,13 @@ abbrev pub wordTests : (k : ℕ) → List ℕ → List Test
 wordTests k w =
     or (leb (length w) 1048576) Why.WordLength
     ∷ or (allIn (symbolIn k w) (length w) 0) (Why.WordSymbol (lowest (symbolIn k w) (length w)))
+    ∷ []
+
+-- "Encoder: 17 glyph not allowed (first place), 18 output shorter than the word."
+abbrev pub encodeTests : (glyphs flags word : List ℕ) (room : ℕ) → List Test
+encodeTests glyphs flags word room =
+    or (allIn (allowedAt glyphs flags word) (length word) 0) (Why.Glyph (lowest (allowedAt glyphs flags word) (length word)))
+    ∷ or (leb (length word) room) Why.OutputSize
     ∷ []
 
 -- ---- the plain engine

@@ -119,6 +119,15 @@ pub const FAULTS: &[&str] = &[
     "timeline: a new timeline writes its engine into the slot past the last",
     "timeline: a target of 2^62 is refused",
     "timeline: a call that is none of the three is a seek",
+    "encoder: refusal 18 comes before 17",
+    "encoder: the first 257 glyphs count",
+    "encoder: a missing flag counts as set",
+    "encoder: only a flag of 1 counts as set",
+    "encoder: the blank needs a flag",
+    "encoder: the flag of a later copy counts",
+    "encoder: refusal 17 gives the last place",
+    "encoder: a refused word has written the symbols before its place",
+    "encoder: the places past the word are cleared",
 ];
 
 static FAULT: LazyLock<usize> =

@@ -12,6 +12,7 @@ pub mod case;
 pub mod chain;
 pub mod compare;
 pub mod damage;
+pub mod encoder;
 #[cfg(feature = "mock")]
 pub mod faults;
 #[path = "gen.rs"] // `gen` is a word of the language

@@ -635,6 +635,41 @@ fn find(t: Tape, cells: &[u8], from: i64, dir: u8) -> Option<usize> {
     }
 }
 
+/// Writes the symbols of a word of glyphs.
+fn encode(glyphs: &[u32], flags: &[u8], word: &[u32], symbols: &mut [u8]) -> Answer<()> {
+    let short = word.len() > symbols.len();
+    if fault(116) && short {
+        return refuse(18);
+    }
+    let most = if fault(117) { 257 } else { 256 };
+    let flag = |s: usize| flags.get(s).map_or(fault(118), |&f| if fault(119) { f == 1 } else { f != 0 });
+    let allowed = |glyph: u32| {
+        let mut equal = (0..glyphs.len().min(most)).filter(|&i| glyphs[i] == glyph);
+        let first = equal.next()?;
+        let ok = first == 0 && !fault(120) || flag(first) || fault(121) && equal.any(flag);
+        ok.then_some(first as u8)
+    };
+    let mut all = Vec::new();
+    for (i, &glyph) in word.iter().enumerate() {
+        let Some(symbol) = allowed(glyph) else {
+            let place = if fault(122) { word.iter().rposition(|&g| allowed(g).is_none()).unwrap_or(i) } else { i };
+            return Err(No(17, Some(place as u64)));
+        };
+        all.push(symbol);
+        if fault(123) && i < symbols.len() {
+            symbols[i] = symbol;
+        }
+    }
+    if short {
+        return refuse(18);
+    }
+    symbols[..word.len()].copy_from_slice(&all);
+    if fault(124) && symbols.len() > word.len() {
+        symbols[word.len()..].fill(0);
+    }
+    Ok(())
+}
+
 /// The functions with the signatures of the port's library.
 #[path = "mock_exports.rs"]
 #[rustfmt::skip]

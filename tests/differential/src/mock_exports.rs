@@ -46,6 +46,15 @@ pub unsafe extern "C" fn tm_pack(
     number(pack([tapes, symbols, states, start], table, words), out)
 }
 
+pub unsafe extern "C" fn tm_encode(
+    glyphs: *const u32, glyphs_len: usize, flags: *const u8, flags_len: usize, word: *const u32, word_len: usize,
+    symbols: *mut u8, symbols_len: usize, out: *mut [u64; 8],
+) -> u8 {
+    let (glyphs, word) = unsafe { (from_raw_parts(glyphs, glyphs_len), from_raw_parts(word, word_len)) };
+    let (flags, symbols, out) = unsafe { (read((flags, flags_len)), write((symbols, symbols_len)), &mut *out) };
+    number(encode(glyphs, flags, word, symbols), out)
+}
+
 pub unsafe extern "C" fn tm_sim_new(
     tapes: u64, symbols: u64, states: u64, start: u64, table: *const u8, table_len: usize,
     word: *const u8, word_len: usize,

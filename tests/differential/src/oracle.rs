@@ -55,6 +55,14 @@ pub fn machine(sizes: &Sizes, table: &[u8]) -> Machine {
     }
 }
 
+/// The symbols of a word over any glyphs and flags, or the place of its first glyph that is not allowed.
+pub fn encode(glyphs: Vec<char>, input: Vec<bool>, word: &str) -> Result<Vec<u8>, usize> {
+    let mut machine = machine(&Sizes { tapes: 1, symbols: 1, states: 1, start: 0 }, &[0; 8]);
+    machine.alphabet = crate::alphabet::door::any(glyphs, input);
+    let symbols = machine.encode_input(word).map_err(|e| e.position)?;
+    Ok(symbols.into_iter().map(Symbol::get).collect())
+}
+
 /// The machine's packed words. The number inside is private; its hash is not.
 pub fn words(machine: &Machine) -> Vec<u64> {
     struct Catch(u64);

@@ -35,6 +35,8 @@ mod sys {
     unsafe extern "C" {
         pub fn tm_check(tapes: u64, symbols: u64, states: u64, start: u64, table: *const u8, table_len: usize, out: *mut Out) -> u8;
         pub fn tm_pack(tapes: u64, symbols: u64, states: u64, start: u64, table: *const u8, table_len: usize, words: *mut u64, words_len: usize, out: *mut Out) -> u8;
+        pub fn tm_encode(glyphs: *const u32, glyphs_len: usize, flags: *const u8, flags_len: usize, word: *const u32, word_len: usize,
+            symbols: *mut u8, symbols_len: usize, out: *mut Out) -> u8;
         pub fn tm_sim_new(tapes: u64, symbols: u64, states: u64, start: u64, table: *const u8, table_len: usize, word: *const u8, word_len: usize,
             c0: *mut u8, c0_len: usize, c1: *mut u8, c1_len: usize, c2: *mut u8, c2_len: usize, state: *mut u16, engine: *mut Engine, out: *mut Out) -> u8;
         pub fn tm_sim_step(tapes: u64, symbols: u64, states: u64, start: u64, table: *const u8, table_len: usize,
@@ -81,7 +83,7 @@ mod sys {
     }
 }
 
-pub use calls::{View, check, new, pack, run, run_packed, step};
+pub use calls::{View, check, encode, new, pack, run, run_packed, step};
 pub use chain_calls::{ChainView, chain_new, chain_run};
 
 // SAFETY of every call below: the port reads and writes inside what is lent, and keeps nothing.
@@ -100,6 +102,16 @@ mod calls {
             sys::tm_pack(
                 s.tapes, s.symbols, s.states, s.start, table.as_ptr(), table.len(),
                 words.as_mut_ptr(), words.len(), out,
+            )
+        }
+    }
+
+    /// Writes the symbols of a word of glyphs.
+    pub fn encode(glyphs: &[u32], flags: &[u8], word: &[u32], symbols: &mut [u8], out: &mut Out) -> u8 {
+        unsafe {
+            sys::tm_encode(
+                glyphs.as_ptr(), glyphs.len(), flags.as_ptr(), flags.len(), word.as_ptr(), word.len(),
+                symbols.as_mut_ptr(), symbols.len(), out,
             )
         }
     }

@@ -11,13 +11,13 @@ use crate::tally::Tally;
 use crate::timeline::facts;
 use crate::timeline::kind::{OnCells, OnRuns};
 use crate::timeline::runs as timeline;
-use crate::{damage, limits, runs, told};
+use crate::{damage, encoder, limits, runs, told};
 
 /// A kind of run: its name, what it does, and how.
 pub type Kind = (&'static str, &'static str, fn(&mut Runner));
 
 /// All kinds, in the order in which they run.
-pub const KINDS: [Kind; 34] = [
+pub const KINDS: [Kind; 35] = [
     ("cases", "document 01's own cases, with the answers written there", told::cases),
     ("damage", "tables with changed bytes, wrong sizes, changed words", damage::damage),
     ("limits", "the sizes, words, buffers, fuels and steps at their limits", limits::limits),
@@ -27,6 +27,7 @@ pub const KINDS: [Kind; 34] = [
     ("known", "busy beavers and a three-tape machine, in pieces of random fuel", runs::known),
     ("random", "random machines, words, buffers, fuels and stop rules", runs::random),
     ("small", "all tables of 2 states and 2 symbols", runs::small),
+    ("encode", "the encoder: words over glyphs and flags, all small ones and random ones", encoder::words),
     ("c-cases", "run-length engine: document 01's own cases", chain::cases),
     ("c-damage", "run-length engine: tables with changed bytes, wrong sizes, several tapes", chain::damage),
     ("c-limits", "run-length engine: words, places, fuels and steps at their limits", chain::limits),
