@@ -78,9 +78,6 @@ module _ (k : Task) (table : TableOf (k .machine) (tableIn k)) (single : k .mach
         by (P.lacks-place a e u l r g) = h _ (P.lacks-place a e u l r g)
         by (P.leaps a n e u g x r) = absurd (omega (arith, r .some, r .within))
 
-    pub no-fuel-stands : runOf k 0 σ .at ≡ σ
-    no-fuel-stands = stop-says (λ x. x .at ≡ σ) (λ o p. refl)
-
     pub no-fuel-verdict : k .proves ≡ true → Judged k (configOf σ) (runOf k 0 σ .outcome)
     no-fuel-verdict t = stop-says (λ x. Judged k (configOf σ) (x .outcome)) by
       where

@@ -82,11 +82,3 @@ module _ (k : Task) (quiet : k .proves ≡ false) (unruled : (q : State) → mat
         back : Ends (runOf k fuel σ) → FullWithin k fuel σ → (n : ℕ) × (runOf k fuel σ .outcome ≡ Full n)
         back (lacks-space made l o h r g) p = (runOf k fuel σ .at .sim .steps, o)
         back (goes-through n h g) p = absurd (g (p .at) (p .within) (p .is))
-
-    -- where it does not end so, all the steps are made, or the machine has halted
-    pub goes-all-the-way : ((n : ℕ) → ¬ (runOf k fuel σ .outcome ≡ Full n)) → configOf (runOf k fuel σ .at) ≡ after k fuel σ
-    goes-all-the-way q = by run-ends-so
-      where
-        by : Ends (runOf k fuel σ) → configOf (runOf k fuel σ .at) ≡ after k fuel σ
-        by (lacks-space made l o h r g) = absurd (q _ o)
-        by (goes-through n h g) = h

@@ -142,18 +142,6 @@ trim-top : (s n : ℕ) (r : Stack) → 1 ≤ n → top (trim s n r) ≡ s
 trim-top s zero r h = absurd (omega arith)
 trim-top s (suc n) r h = refl
 
--- short of the run's end the next symbol is the run's
-pub top-take : (a j : ℕ) (r : Stack) → j < ahead a r → top (take j r) ≡ a
-unfolding take
-top-take a j empty h = absurd (omega arith)
-top-take a j (over s n r) h = pick-cases (eqb s a) n 0 (λ m. j < m → top (trim s (n - j) r) ≡ a)
-    (λ t l. trim-top s (n - j) r (omega arith) ∙ eqb-true s a t)
-    (λ t l. absurd (omega arith)) h
-
-pub top-empty : (k : ℕ) → top (take k empty) ≡ 0
-unfolding take
-top-empty k = refl
-
 -- what was pushed is on top, the blank on nothing too
 pub top-push : (s n : ℕ) (r : Stack) → top (push s n r) ≡ s
 top-push s n r = push-cases (λ x. top x ≡ s) s n r (λ e. grown r e) (λ _. refl)

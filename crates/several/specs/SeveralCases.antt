@@ -32,9 +32,6 @@ module _ (moves next q : ℕ) where
   pub stuck-out : FreeIf true moves next q
   stuck-out = record { small = λ z. absurd (clash refl z); free = λ z. absurd (clash refl z) }
 
-  pub stuck-free : moves ≤ 26 → (moves ≡ 26 → ⊥) → FreeIf false moves next q
-  stuck-free l n = record { small = λ _. l; free = λ _ _. n }
-
   pub stuck-still : moves ≤ 26 → FreeIf (eqb next q) moves next q
   stuck-still l = record { small = λ _. l; free = λ z e _. absurd (clash (eq-eqb next q e) z) }
 

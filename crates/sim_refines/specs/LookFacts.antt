@@ -128,9 +128,3 @@ module _ (k : Task) (σ : Conf) (f : EngineFits (k .machine) σ) where
           → Sees k (heldBy k σ) (lookOn x (k .proves) (k .machine .tapes) (σ .sim .state) (readOf (tape0 σ)) (readOf (tape1 σ)) (readOf (tape2 σ)) (tape0 σ))
       by Undefined e = no-entry e
       by (Defined a) e = judge-sees a e
-
-  pub no-test-no-loop : k .proves ≡ false → (p : NonHaltProof) → ¬ (lookOf k σ ≡ Never p)
-  no-test-no-loop t p e = by (rw e at look-sees)
-    where
-      by : Sees k (heldBy k σ) (Never p) → ⊥
-      by (loops _ q v) = clash q t

@@ -112,10 +112,6 @@ module _ (size from to : ℕ) (d : List ℕ) (fits : from * size + size ≤ leng
   unfolding copied
   copied-none = paste-zero d (to * size) (slotOf size from d)
 
-  pub copied-length : (j : ℕ) → j ≤ size → length (copied size from to d j) ≡ length d
-  unfolding copied
-  copied-length j l = length-paste d (to * size) (slotOf size from d) j (omega (arith, lower, fits)) (omega (arith, whole))
-
   -- the next n bytes, read from the slot or from the store: what has been copied so far lies before them
   reads : (j n : ℕ) → j + n ≤ size → take n (drop (from * size + j) (copied size from to d j)) ≡ take n (drop j (slotOf size from d))
   unfolding copied slotOf

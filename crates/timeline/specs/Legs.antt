@@ -32,9 +32,6 @@ module _ {Mean : Type 0} (next : Mean → Mean) (NoRoom : Mean → Type 0) where
   from : (a b : ℕ) (x y : Mean) → y ≡ iterate next a x → iterate next b y ≡ iterate next (b + a) x
   from a b x y q = ap (iterate next b) q ∙ iterate-add next b a x
 
-  pub steps-add : (a b : ℕ) (x y z : Mean) → Steps a x y → Steps b y z → Steps (b + a) x z
-  steps-add a b x y z s t = record { room = room-add a b x y (s .ends) (s .room) (t .room); ends = t .ends ∙ from a b x y (s .ends) }
-
   pub steps-one : (x : Mean) → ¬ NoRoom x → Steps 1 x (next x)
   unfolding iterate
   steps-one x r = record { room = λ j l. subst (λ n. ¬ NoRoom (iterate next n x)) (zeroth j l) r; ends = refl }

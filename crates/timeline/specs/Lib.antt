@@ -3,7 +3,6 @@ pub mod Automaton
 pub mod Laws
 pub mod Claim
 pub mod Statement
-pub mod Replay
 pub mod Walk
 pub mod Keep
 pub mod Loop
@@ -13,7 +12,6 @@ pub mod Cited
 pub mod Through
 pub mod Shelves
 pub mod Legs
-pub mod Code
 pub mod TableRun
 pub mod Parts
 pub mod Instance

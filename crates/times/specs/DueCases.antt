@@ -103,6 +103,3 @@ module _ (v : Times) (size : ℕ) (t : List ℕ) where
   pub thin-half : (t₁ : List ℕ) → v .most < v .count → t₁ ≡ thinBy (moveSlot size) ((v .count - 1) / 2) t → Thinned v (halved v) size t t₁
   unfolding thinTimes thinStore
   thin-half t₁ h e = record { value = sym (pick-true _ _ _ (lt-ltb _ _ h)); store = e ∙ sym (pick-true _ _ _ (lt-ltb _ _ h)) }
-
-pub record-thin : (v : Times) (t : List ℕ) (size : ℕ) → RecordOk v t size → ThinOk (oneMore v) t size
-record-thin v t size o = record { few = omega (arith, o .few); some = omega arith; inside = o .inside; doubles = o .doubles }

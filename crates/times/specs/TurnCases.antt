@@ -26,9 +26,6 @@ use Rattle.times.specs.Sound.{worldOf, Sound, Shape, RecOk, LoopOk, Stri
 -- ---- the stride
 
 module _ (v : Times) (t p stop : ℕ) (stops : stop ≡ stopFor t v p) where
-  pub stride-up : p ≤ stop
-  stride-up = omega arith
-
   pub stride-fuel : p ≤ t → t ≤ limit → p + (stop - p) ≤ limit
   stride-fuel l h = omega arith
 

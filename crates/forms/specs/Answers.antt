@@ -1,0 +1,67 @@
+-- What the code's answers and lent slices say, and the ranges that its numbers keep, for the contracts. Definitions only.
+use Prim.Native.Nat.{ℕ, zero, suc, _+_, _*_, _≤_, _<_}
+use mathlib.Core.List.{List, [], _∷_, _++_}
+use mathlib.Core.Option.{Option, none, some}
+use lib.ListN.{getD, take}
+use Rattle.machine.specs.declared.Machine.{Machine}
+use Rattle.times.specs.Timeline.{Call, seek, forward, back}
+use Rattle.forms.specs.declared.Rule.{Rule}
+use Rattle.forms.specs.declared.MachineLine.{MachineLine}
+use Rattle.forms.specs.declared.MachineLine.the-variants as ML
+use Rattle.forms.specs.declared.EntryLine.{EntryLine}
+use Rattle.forms.specs.declared.EntryLine.the-variants as EL
+use Rattle.forms.specs.declared.CallLine.{CallLine}
+use Rattle.forms.specs.declared.CallLine.the-variants as CL
+use Rattle.forms.specs.declared.Count.{Count}
+use Rattle.forms.specs.declared.Count.the-variants as C
+
+-- ---- what a line says
+
+unfoldable pub machineIn : MachineLine → Option Machine
+machineIn (ML.Of m) = some m
+machineIn ML.Bad = none
+
+unfoldable pub ruleIn : EntryLine → Option Rule
+ruleIn (EL.Of e) = some e
+ruleIn EL.Bad = none
+
+-- the word stands in the first places of the lent bytes
+unfoldable pub wordIn : Count → List ℕ → Option (List ℕ)
+wordIn (C.Of n) w = some (take n w)
+wordIn C.Bad w = none
+
+-- the call meant by two numbers: 0 seek, 1 forward, else back
+abbrev pub callFor : (kind number : ℕ) → Call
+callFor zero n = seek n
+callFor (suc zero) n = forward n
+callFor (suc (suc k)) n = back n
+
+unfoldable pub callIn : CallLine → Option Call
+callIn (CL.Of c) = some (callFor (c .kind) (c .number))
+callIn CL.Bad = none
+
+-- the first n calls of a slice of numbers: call i has its kind at 2i and its number at 2i + 1
+unfoldable pub callsOf : ℕ → List ℕ → List Call
+callsOf zero c = []
+callsOf (suc n) c = callsOf n c ++ (callFor (getD c (2 * n) 0) (getD c (2 * n + 1) 0) ∷ [])
+
+-- ---- ranges
+
+-- a machine whose table has room in 512 places
+pub record Small (m : Machine) : Type 0 where
+  pub few-symbols : m .symbols ≤ 256
+  pub few-states : m .states ≤ 65536
+  pub few : m .states * m .symbols ≤ 512
+
+-- an entry of the machine
+pub record RuleOk (m : Machine) (e : Rule) : Type 0 where
+  pub state-ok : e .state < m .states
+  pub read-ok : e .read < m .symbols
+  pub write-ok : e .write < m .symbols
+  pub dir-ok : e .dir < 3
+  pub next-ok : e .next < m .states
+
+-- a line of 80 bytes has at most 81 fields
+abbrev pub CountOk : Count → Type 0
+CountOk (C.Of n) = n ≤ 81
+CountOk C.Bad = Unit {0}

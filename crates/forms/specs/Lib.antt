@@ -1,0 +1,4 @@
+pub mod Forms
+pub mod Answers
+pub mod FormFacts
+pub mod FormCases

@@ -1,0 +1,4 @@
+pub mod Listing
+pub mod Reading
+pub mod TurnCases
+pub mod ParseCases

@@ -1,0 +1,107 @@
+// What a line says, one function for each line that may be due. Each writes at most one of the lent slices, so its
+// contract holds for any lists in place of the others.
+use super::Due;
+use super::Reader;
+use super::Turn;
+use forms::CallLine;
+use forms::Count;
+use forms::EntryLine;
+use forms::MachineLine;
+ghost use mathlib.Core.Path.{_≡_};
+ghost use mathlib.Core.List.{List};
+ghost use Prim.Native.Nat.{ℕ, _≤_};
+ghost use lib.ListN.{length};
+ghost use Rattle.reader.specs.declared.Due.the-variants.{Names, Numbers, Columns, Entries, Word, Heading, Calls};
+ghost use Rattle.reader.specs.Listing.{line};
+ghost use Rattle.reader.specs.Reading.{sofar, nextOf, ReaderOk, TurnOk};
+
+pub(crate) fn names_turn(x: Reader, l: &[u8]) -> Turn
+    requires { ⌜ ReaderOk x ⌝ }
+    ensures { λ r. ⌜ ((t w k : List ℕ) → nextOf r t w k ≡ line Names (sofar x t w k) (now (l .entry))) × TurnOk r ⌝ }
+{
+    let machine = x.machine;
+    if forms::is_first(l) {
+        return Turn::On(Reader { due: Due::Numbers, machine, word: x.word, calls: x.calls });
+    }
+    Turn::Bad
+}
+
+pub(crate) fn numbers_turn(x: Reader, l: &[u8]) -> Turn
+    requires { ⌜ ReaderOk x ⌝ }
+    ensures { λ r. ⌜ ((t w k : List ℕ) → nextOf r t w k ≡ line Numbers (sofar x t w k) (now (l .entry))) × TurnOk r ⌝ }
+{
+    let f = forms::machine_line(l);
+    let MachineLine::Of(machine) = f else {
+        return Turn::Bad;
+    };
+    Turn::On(Reader { due: Due::Columns, machine, word: x.word, calls: x.calls })
+}
+
+pub(crate) fn columns_turn(x: Reader, l: &[u8]) -> Turn
+    requires { ⌜ ReaderOk x ⌝ }
+    ensures { λ r. ⌜ ((t w k : List ℕ) → nextOf r t w k ≡ line Columns (sofar x t w k) (now (l .entry))) × TurnOk r ⌝ }
+{
+    let machine = x.machine;
+    if forms::is_columns(l) {
+        return Turn::On(Reader { due: Due::Entries, machine, word: x.word, calls: x.calls });
+    }
+    Turn::Bad
+}
+
+pub(crate) fn entries_turn(x: Reader, l: &[u8], table: &mut [u8]) -> Turn
+    requires { ⌜ ReaderOk x × (length (now table) ≡ 4096) ⌝ }
+    ensures { λ r. ⌜ ((w k : List ℕ) → nextOf r (now (table .exit)) w k ≡ line Entries (sofar x (now (table .entry)) w k) (now (l .entry))) × TurnOk r ⌝ }
+{
+    let machine = x.machine;
+    if forms::is_word(l) {
+        return Turn::On(Reader { due: Due::Word, machine, word: x.word, calls: x.calls });
+    }
+    let f = forms::entry_line(machine, l);
+    let EntryLine::Of(e) = f else {
+        return Turn::Bad;
+    };
+    if forms::inner::give(machine, e, table) {
+        return Turn::Bad;
+    }
+    Turn::On(Reader { due: Due::Entries, machine, word: x.word, calls: x.calls })
+}
+
+pub(crate) fn word_turn(x: Reader, l: &[u8], word: &mut [u8]) -> Turn
+    requires { ⌜ ReaderOk x × (length (now l) ≤ 80) × (81 ≤ length (now word)) ⌝ }
+    ensures { λ r. ⌜ ((t k : List ℕ) → nextOf r t (now (word .exit)) k ≡ line Word (sofar x t (now (word .entry)) k) (now (l .entry))) × TurnOk r ⌝ }
+{
+    let machine = x.machine;
+    let f = forms::inner::read_word(machine.symbols, l, word);
+    let Count::Of(n) = f else {
+        return Turn::Bad;
+    };
+    Turn::On(Reader { due: Due::Heading, machine, word: n, calls: x.calls })
+}
+
+pub(crate) fn heading_turn(x: Reader, l: &[u8]) -> Turn
+    requires { ⌜ ReaderOk x ⌝ }
+    ensures { λ r. ⌜ ((t w k : List ℕ) → nextOf r t w k ≡ line Heading (sofar x t w k) (now (l .entry))) × TurnOk r ⌝ }
+{
+    let machine = x.machine;
+    if forms::is_heading(l) {
+        return Turn::On(Reader { due: Due::Calls, machine, word: x.word, calls: x.calls });
+    }
+    Turn::Bad
+}
+
+pub(crate) fn calls_turn(x: Reader, l: &[u8], calls: &mut [u64]) -> Turn
+    requires { ⌜ ReaderOk x × (128 ≤ length (now calls)) ⌝ }
+    ensures { λ r. ⌜ ((t w : List ℕ) → nextOf r t w (now (calls .exit)) ≡ line Calls (sofar x t w (now (calls .entry))) (now (l .entry))) × TurnOk r ⌝ }
+{
+    let machine = x.machine;
+    let n = x.calls;
+    if 64 <= n {
+        return Turn::Bad;
+    }
+    let f = forms::call_line(l);
+    let CallLine::Of(call) = f else {
+        return Turn::Bad;
+    };
+    forms::inner::put_call(calls, n, call.kind, call.number);
+    Turn::On(Reader { due: Due::Calls, machine, word: x.word, calls: n + 1 })
+}

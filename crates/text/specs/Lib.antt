@@ -1,0 +1,10 @@
+pub mod Text
+pub mod Pieces
+pub mod Numbers
+pub mod Show
+pub mod Steps
+pub mod Chain
+pub mod NumberCases
+pub mod PieceCases
+pub mod PrintCases
+pub mod ReadBack
