@@ -1,6 +1,8 @@
 //! The Rust's engines and the port's in one process, interleaved: processor time, median of nine.
-//! Options: `--reps N`, `--only NAME` (a machine, `chain` for the run-length engine's, or `timeline`).
+//! Options: `--reps N`, `--only NAME` (a machine, `chain` for the run-length engine's, `timeline`, or `growth`, which is
+//! measured only if it is asked for).
 
+mod growth;
 mod timeline;
 
 use differential::case::{NO_RULE, Subject};
@@ -222,12 +224,8 @@ fn main() {
     ];
     println!("port: {}; processor time, {reps} rounds", if cfg!(feature = "mock") { "mock.rs" } else { "libcapi" });
     println!(
-        "{:8} {:>12} {:>9} {:>9}  {:>17} {:>17}",
-        "machine", "steps", "Rust s", "ns/step", "run / Rust", "fast run / Rust"
-    );
-    println!(
-        "{:8} {:>12} {:>9} {:>9}  {:>17} {:>17}",
-        "", "", "median", "median", "medians (minima)", "medians (minima)"
+        "{:8} {:>12} {:>9} {:>9} {:>9} {:>9}  {:>17} {:>17}",
+        "machine", "steps", "Rust s", "Rust M/s", "run M/s", "fast M/s", "run / Rust", "fast run / Rust"
     );
     for job in jobs.iter().filter(|j| only.as_deref().is_none_or(|o| o == j.name)) {
         let packed = job.subject.sizes.tapes == 1;
@@ -244,9 +242,16 @@ fn main() {
             _ => format!("{:.3} ({:.3})", median(times) / median(&r), least(times) / least(&r)),
         };
         let steps = job.end.1;
-        let each = median(&r) / steps as f64 * 1e9;
-        println!("{:8} {:>12} {:>9.4} {:>9.2}  {:>17} {:>17}", job.name, steps, median(&r), each, ratio(&p), ratio(&f));
+        let rate = |times: &[f64]| match times {
+            [] => String::from("-"),
+            _ => format!("{:.0}", steps as f64 / median(times) / 1e6),
+        };
+        print!("{:8} {:>12} {:>9.4} {:>9} {:>9} {:>9}  ", job.name, steps, median(&r), rate(&r), rate(&p), rate(&f));
+        println!("{:>17} {:>17}", ratio(&p), ratio(&f));
     }
     chain(reps, only.as_deref(), marks.clone());
     timeline::timelines(reps, only.as_deref(), marks);
+    if only.as_deref() == Some("growth") {
+        growth::growth(reps);
+    }
 }
