@@ -74,15 +74,18 @@ machine-small l m r p q = good-small (machine-good l m (sym p ∙ ap machineIn q
 
 -- ---- `give` and `store`
 
-module _ (m : Machine) (e : Rule) (t : List ℕ) where
-  pub give-yes : getD t (8 * (e .state * m .symbols + e .read)) 0 ≡ 1 → (true ≡ given m t e) × (t ≡ pick true t (define m t e))
-  unfolding given place pick
-  give-yes h = (sym (eq-eqb _ _ h), refl)
+module _ (m : Machine) (e : Rule) (t : List ℕ) (at : ℕ) (p : at ≡ place m e) where
+  pub given-yes : getD t at 0 ≡ 1 → true ≡ given m t e
+  unfolding given
+  given-yes h = sym (eq-eqb _ _ (rw p at h))
 
-  pub give-no : (t′ : List ℕ) → t′ ≡ paste t (8 * (e .state * m .symbols + e .read)) (entryBytes (Defined (actionOf e))) 8
-      → (getD t (8 * (e .state * m .symbols + e .read)) 0 ≡ 1 → ⊥) → (false ≡ given m t e) × (t′ ≡ pick false t (define m t e))
-  unfolding given place define pick
-  give-no t′ p h = (sym (ne-eqb _ _ h), p)
+  pub given-no : (getD t at 0 ≡ 1 → ⊥) → false ≡ given m t e
+  unfolding given
+  given-no h = sym (ne-eqb _ _ (rw p at h))
+
+  pub defined : (t′ : List ℕ) → t′ ≡ paste t at (entryBytes (Defined (actionOf e))) 8 → t′ ≡ define m t e
+  unfolding define
+  defined t′ q = rw p at q
 
 -- the eight bytes as the code computes them
 pub stored : (t t′ : List ℕ) (at : ℕ) (e : Rule) → e .dir < 3
@@ -146,8 +149,11 @@ pub callsOf-put : (n : ℕ) (c : List ℕ) (k v : ℕ) → 2 * n + 2 ≤ length 
     → callsOf (n + 1) (set (set c (2 * n) k) (2 * n + 1) v) ≡ callsOf n c ++ (callFor k v ∷ [])
 unfolding callsOf
 callsOf-put n c k v h =
-    rw
-    (add-one n, callsOf-set n (2 * n + 1) v (set c (2 * n) k) (omega arith), callsOf-set n (2 * n) k c (omega arith),
+    rw (
+      add-one n,
+      callsOf-set n (2 * n + 1) v (set c (2 * n) k) (omega arith),
+      callsOf-set n (2 * n) k c (omega arith),
       getD-set-other (set c (2 * n) k) (2 * n + 1) (2 * n) v 0 (λ e. omega arith),
       getD-set-same c (2 * n) k 0 (omega arith),
-      getD-set-same (set c (2 * n) k) (2 * n + 1) v 0 (simp length-set (omega arith)))
+      getD-set-same (set c (2 * n) k) (2 * n + 1) v 0 (simp length-set (omega arith)),
+    )

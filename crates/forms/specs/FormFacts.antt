@@ -31,7 +31,7 @@ unfolding pick
 pick-inv true a h p = (refl, p)
 pick-inv false a h p = absurd (h p)
 
-no-value : {v : ℕ} → _≡_ {A = Num} Bad (Value v) → ⊥
+pub no-value : {v : ℕ} → _≡_ {A = Num} Bad (Value v) → ⊥
 no-value p = let z : _≡_ {A = ℕ} 0 1 = cc in omega arith
 
 pub below-lt : (top : ℕ) (f : List ℕ) (v : ℕ) → below top f ≡ Value v → v < top

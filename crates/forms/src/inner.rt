@@ -11,7 +11,7 @@ ghost use lib.Seq.{paste};
 ghost use Rattle.laws.specs.Choice.{pick};
 ghost use Rattle.machine.specs.declared.Entry.the-variants.{Defined};
 ghost use Rattle.tables.specs.WellFormed.{entryBytes};
-ghost use Rattle.forms.specs.Forms.{wordOf, given, define, actionOf};
+ghost use Rattle.forms.specs.Forms.{wordOf, place, given, define, actionOf};
 ghost use Rattle.forms.specs.Answers.{wordIn, CountOk, Small, RuleOk};
 
 // Defines an entry, unless it was given before; answers whether it was.
@@ -19,13 +19,20 @@ pub fn give(m: Machine, e: Rule, table: &mut [u8]) -> bool
     requires { ⌜ Small m × RuleOk m e × (length (now table) ≡ 4096) ⌝ }
     ensures { λ r. ⌜ (r ≡ given m (now (table .entry)) e) × (now (table .exit) ≡ pick r (now (table .entry)) (define m (now (table .entry)) e)) ⌝ }
 {
-    let i = e.state * m.symbols + e.read;
-    let at = (8 * i) as usize;
+    let at = place_of(m, e);
     if table[at] == 1 {
         return true;
     }
     store(table, at, e);
     false
+}
+
+// Where the entry stands: of 512 places of eight bytes.
+fn place_of(m: Machine, e: Rule) -> usize
+    requires { ⌜ Small m × RuleOk m e ⌝ }
+    ensures { λ r. ⌜ (r ≡ place m e) × (r + 8 ≤ 4096) ⌝ }
+{
+    (8 * (e.state * m.symbols + e.read)) as usize
 }
 
 // The eight bytes of an entry of one tape; the moves of the two that it lacks are N, 3 × 2 + 9 × 2.

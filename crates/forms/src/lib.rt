@@ -92,7 +92,12 @@ pub fn machine_line(l: &[u8]) -> MachineLine
         return MachineLine::Bad;
     };
     if machine_ok(tapes, symbols, states, start) {
-        return MachineLine::Of(Machine { tapes, symbols, states, start });
+        return MachineLine::Of(Machine {
+            tapes,
+            symbols,
+            states,
+            start,
+        });
     }
     MachineLine::Bad
 }
@@ -148,7 +153,13 @@ pub fn entry_line(m: Machine, l: &[u8]) -> EntryLine
     let Num::Value(next) = f4 else {
         return EntryLine::Bad;
     };
-    EntryLine::Of(Rule { state, read, write, dir, next })
+    EntryLine::Of(Rule {
+        state,
+        read,
+        write,
+        dir,
+        next,
+    })
 }
 
 // Field k of a line as a move's letter.

@@ -2,3 +2,8 @@ pub mod Listing
 pub mod Reading
 pub mod TurnCases
 pub mod ParseCases
+pub mod WordFacts
+pub mod TableFacts
+pub mod Asked
+pub mod FirstBytes
+pub mod Examples

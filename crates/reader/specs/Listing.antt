@@ -13,13 +13,14 @@ use Rattle.reader.specs.declared.Due.the-variants.{Names, Numbers, Colum
 
 -- ---- line after line
 
--- what the lines so far have said; the table is that of `define`
+-- what the lines so far have said; the table has 512 places of eight bytes
 pub record Sofar : Type 0 where
   pub machine : Machine
   pub table : List ℕ
   pub word : List ℕ
   pub calls : List Call
 
+-- before the first line; the machine's numbers are those of line 2, and no line before it looks at them
 unfoldable pub nothing : Sofar
 nothing =
     record {

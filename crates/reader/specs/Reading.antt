@@ -1,10 +1,8 @@
 -- What the reader's value and its lent slices stand for, and the ranges that they keep, for the contracts. Definitions only.
-use Prim.Native.Nat.{ℕ, _+_, _≤_}
+use Prim.Native.Nat.{ℕ, _≤_}
 use mathlib.Core.Path.{_≡_}
 use mathlib.Core.List.{List}
-use lib.Dec.{ltb}
 use lib.ListN.{take}
-use Rattle.laws.specs.Choice.{pick}
 use Rattle.forms.specs.Answers.{callsOf, Small}
 use Rattle.reader.specs.declared.Reader.{Reader}
 use Rattle.reader.specs.declared.Turn.{Turn}
@@ -46,7 +44,3 @@ pub record LentOk (t w c : ℕ) : Type 0 where
   pub table-long : t ≡ 4096
   pub word-long : 81 ≤ w
   pub calls-long : 128 ≤ c
-
--- where the line after one that ends at e begins: past its newline, if it has one
-abbrev pub nextStart : (e len : ℕ) → ℕ
-nextStart e len = pick (ltb e len) (e + 1) e

@@ -28,8 +28,8 @@ use Rattle.reader.specs.Reading.{sofar, nextOf}
 -- ---- an entry line that defines an entry, or finds it given
 
 module _ (x : Reader) (t w c l : List ℕ) (b : Bool) (n : b ≡ sameList l wordLine) (nz : b ≡ false)
-  (r : EntryLine) (f : ruleIn r ≡ entryLine (x .machine) l) (e : Rule) (q : r ≡ EL.Of e) (g : Bool) (t′ : List ℕ)
-  (p : (g ≡ given (x .machine) t e) × (t′ ≡ pick g t (define (x .machine) t e))) where
+    (r : EntryLine) (f : ruleIn r ≡ entryLine (x .machine) l) (e : Rule) (q : r ≡ EL.Of e) (g : Bool) (t′ : List ℕ)
+    (p : (g ≡ given (x .machine) t e) × (t′ ≡ pick g t (define (x .machine) t e))) where
   pub entries-given : g ≡ true → nextOf T.Bad t′ w c ≡ line Entries (sofar x t w c) l
   unfolding line nextOf sofar pick onSome ruleIn
   entries-given z = simp (← n, nz, ← f, q, ← p .0, z)

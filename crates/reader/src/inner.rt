@@ -7,19 +7,24 @@ use super::turns;
 use machine::Machine;
 ghost use mathlib.Core.Path.{_≡_};
 ghost use mathlib.Core.List.{List};
-ghost use Prim.Native.Nat.{ℕ, _≤_, _<_};
+ghost use Prim.Native.Nat.{ℕ, _+_, _≤_, min};
 ghost use lib.ListN.{length, replicate};
 ghost use Rattle.reader.specs.Listing.{line, atEnd, listing};
-ghost use Rattle.reader.specs.Reading.{sofar, nextOf, listingOf, ReaderOk, TurnOk, ParsedOk, LentOk, nextStart};
+ghost use Rattle.reader.specs.Reading.{sofar, nextOf, listingOf, ReaderOk, TurnOk, ParsedOk, LentOk};
 
-// Reads the input line by line. The table is lent blank; after a refusal the lent slices hold what was read before.
+// Reads the input line by line. The table is lent blank; what the lent slices hold after a refusal is left open.
 pub fn parse(input: &[u8], table: &mut [u8], word: &mut [u8], calls: &mut [u64]) -> Parsed
     requires { ⌜ LentOk (length (now table)) (length (now word)) (length (now calls)) × (now table ≡ replicate 4096 0) ⌝ }
     ensures { λ r. ⌜ (listingOf r (now (table .exit)) (now (word .exit)) (now (calls .exit)) ≡ listing (now (input .entry))) × ParsedOk r ⌝ }
 {
     let mut x = Reader {
         due: Due::Names,
-        machine: Machine { tapes: 0, symbols: 0, states: 0, start: 0 },
+        machine: Machine {
+            tapes: 0,
+            symbols: 0,
+            states: 0,
+            start: 0,
+        },
         word: 0,
         calls: 0,
     };
@@ -72,15 +77,14 @@ fn take_line(x: Reader, l: &[u8], table: &mut [u8], word: &mut [u8], calls: &mut
     }
 }
 
-// Where the line after one that ends at `e` begins.
+// Where the line after one that ends at `e` begins: past its newline, or at the end.
 fn after(e: usize, len: usize) -> usize
-    requires { ⌜ e ≤ len ⌝ }
-    ensures { λ r. ⌜ (r ≡ nextStart e len) × (e ≤ r) × (r ≤ len) × ((at : ℕ) → at ≤ e → at < len → at < r) ⌝ }
+    ensures { λ r. ⌜ r ≡ min (e + 1) len ⌝ }
 {
     if e < len {
         return e + 1;
     }
-    e
+    len
 }
 
 // Where the input ends: only call lines may be missing.

@@ -21,7 +21,12 @@ pub(crate) fn names_turn(x: Reader, l: &[u8]) -> Turn
 {
     let machine = x.machine;
     if forms::is_first(l) {
-        return Turn::On(Reader { due: Due::Numbers, machine, word: x.word, calls: x.calls });
+        return Turn::On(Reader {
+            due: Due::Numbers,
+            machine,
+            word: x.word,
+            calls: x.calls,
+        });
     }
     Turn::Bad
 }
@@ -34,7 +39,12 @@ pub(crate) fn numbers_turn(x: Reader, l: &[u8]) -> Turn
     let MachineLine::Of(machine) = f else {
         return Turn::Bad;
     };
-    Turn::On(Reader { due: Due::Columns, machine, word: x.word, calls: x.calls })
+    Turn::On(Reader {
+        due: Due::Columns,
+        machine,
+        word: x.word,
+        calls: x.calls,
+    })
 }
 
 pub(crate) fn columns_turn(x: Reader, l: &[u8]) -> Turn
@@ -43,7 +53,12 @@ pub(crate) fn columns_turn(x: Reader, l: &[u8]) -> Turn
 {
     let machine = x.machine;
     if forms::is_columns(l) {
-        return Turn::On(Reader { due: Due::Entries, machine, word: x.word, calls: x.calls });
+        return Turn::On(Reader {
+            due: Due::Entries,
+            machine,
+            word: x.word,
+            calls: x.calls,
+        });
     }
     Turn::Bad
 }
@@ -54,7 +69,12 @@ pub(crate) fn entries_turn(x: Reader, l: &[u8], table: &mut [u8]) -> Turn
 {
     let machine = x.machine;
     if forms::is_word(l) {
-        return Turn::On(Reader { due: Due::Word, machine, word: x.word, calls: x.calls });
+        return Turn::On(Reader {
+            due: Due::Word,
+            machine,
+            word: x.word,
+            calls: x.calls,
+        });
     }
     let f = forms::entry_line(machine, l);
     let EntryLine::Of(e) = f else {
@@ -63,7 +83,12 @@ pub(crate) fn entries_turn(x: Reader, l: &[u8], table: &mut [u8]) -> Turn
     if forms::inner::give(machine, e, table) {
         return Turn::Bad;
     }
-    Turn::On(Reader { due: Due::Entries, machine, word: x.word, calls: x.calls })
+    Turn::On(Reader {
+        due: Due::Entries,
+        machine,
+        word: x.word,
+        calls: x.calls,
+    })
 }
 
 pub(crate) fn word_turn(x: Reader, l: &[u8], word: &mut [u8]) -> Turn
@@ -75,7 +100,12 @@ pub(crate) fn word_turn(x: Reader, l: &[u8], word: &mut [u8]) -> Turn
     let Count::Of(n) = f else {
         return Turn::Bad;
     };
-    Turn::On(Reader { due: Due::Heading, machine, word: n, calls: x.calls })
+    Turn::On(Reader {
+        due: Due::Heading,
+        machine,
+        word: n,
+        calls: x.calls,
+    })
 }
 
 pub(crate) fn heading_turn(x: Reader, l: &[u8]) -> Turn
@@ -84,7 +114,12 @@ pub(crate) fn heading_turn(x: Reader, l: &[u8]) -> Turn
 {
     let machine = x.machine;
     if forms::is_heading(l) {
-        return Turn::On(Reader { due: Due::Calls, machine, word: x.word, calls: x.calls });
+        return Turn::On(Reader {
+            due: Due::Calls,
+            machine,
+            word: x.word,
+            calls: x.calls,
+        });
     }
     Turn::Bad
 }
@@ -103,5 +138,10 @@ pub(crate) fn calls_turn(x: Reader, l: &[u8], calls: &mut [u64]) -> Turn
         return Turn::Bad;
     };
     forms::inner::put_call(calls, n, call.kind, call.number);
-    Turn::On(Reader { due: Due::Calls, machine, word: x.word, calls: n + 1 })
+    Turn::On(Reader {
+        due: Due::Calls,
+        machine,
+        word: x.word,
+        calls: n + 1,
+    })
 }

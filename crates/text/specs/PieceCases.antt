@@ -31,7 +31,7 @@ pieces-cut sep last (b ∷ s) h = go (eqb b sep) (pieces-cut sep last s) h
     go : (t : Bool) → (upTo sep s < length s → pieces sep last s ≡ take (upTo sep s) s ∷ pieces sep last (drop (suc (upTo sep s)) s))
         → pick t 0 (suc (upTo sep s)) < suc (length s)
         → pick t ([] ∷ pieces sep last s) (onto b (pieces sep last s))
-          ≡ take (pick t 0 (suc (upTo sep s))) (b ∷ s) ∷ pieces sep last (drop (suc (pick t 0 (suc (upTo sep s)))) (b ∷ s))
+        ≡ take (pick t 0 (suc (upTo sep s))) (b ∷ s) ∷ pieces sep last (drop (suc (pick t 0 (suc (upTo sep s)))) (b ∷ s))
     go true f h = refl
     go false f h = rw (f (omega arith))
 
@@ -111,7 +111,7 @@ pub count-next : (l : List ℕ) (n i x d : ℕ) → d ≡ pick (eqb (getD l i 0)
 unfolding fieldsFrom
 count-next l n i x d e h p =
     let k : length (pieces 32 ([] ∷ []) (drop i l)) ≡ d + length (pieces 32 ([] ∷ []) (drop (suc i) l)) =
-      rw (drop-cons l i 0 h, e) (count-field 32 (getD l i 0) (drop (suc i) l)) in
+    rw (drop-cons l i 0 h, e) (count-field 32 (getD l i 0) (drop (suc i) l)) in
     rw (add-one i) (omega (arith, k))
 
 pub count-end : (l : List ℕ) (n i x : ℕ) → length l ≤ i → n + fieldsFrom l i ≡ 1 + x → n ≡ x
@@ -163,7 +163,7 @@ module _ (l : List ℕ) (at left e : ℕ) (x : List ℕ) (f : e ≡ at + upTo 32
   unfolding fieldFrom
   field-next h n p =
       let q : fields (drop at l) ≡ take (upTo 32 (drop at l)) (drop at l) ∷ fields (drop (suc (upTo 32 (drop at l))) (drop at l)) =
-        pieces-cut 32 ([] ∷ []) (drop at l) (omega (arith, length-drop at l)) in
+      pieces-cut 32 ([] ∷ []) (drop at l) (omega (arith, length-drop at l)) in
       go left n (rw q at p)
     where
       go : (k : ℕ) → 0 < k
@@ -182,6 +182,7 @@ module _ (l : List ℕ) (at left e : ℕ) (x : List ℕ) (f : e ≡ at + upTo 32
       few : (s : List ℕ) → upTo 32 s ≡ length s → fields s ≡ s ∷ []
       few [] e = refl
       few (b ∷ s) e = pieces-last 32 ([] ∷ []) (b ∷ s) (λ c. refl) e (λ z. omega arith)
+
       go : (k : ℕ) → 0 < k → getD (drop at l ∷ []) k [] ≡ x → [] ≡ x
       go zero n p = absurd (omega arith)
       go (suc k) n p = p

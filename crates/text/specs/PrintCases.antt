@@ -21,15 +21,15 @@ wrote-then {o} {at} {a} {o₁} {r₁} {b} {o₂} {r₂} p q =
     let l : length (a ++ b) ≡ length a + length b = length-append a b in
     let k : length o₁ ≡ length o = wrote-long p in
     let t : take r₁ o₁ ≡ take at o ++ a =
-      rw (p .ends, p .text) (take-paste o at a (length a) (omega (arith, p .fits)) (omega arith) ∙ ap (λ (z : List ℕ). take at o ++ z) (take-length a)) in
+    rw (p .ends, p .text) (take-paste o at a (length a) (omega (arith, p .fits)) (omega arith) ∙ ap (λ (z : List ℕ). take at o ++ z) (take-length a)) in
     let d₀ : drop r₁ o₁ ≡ drop (at + length a) o = rw (p .ends, p .text) (drop-paste o at a (length a) (omega (arith, p .fits)) (omega arith)) in
     let n : at + length a + length b ≡ at + length (a ++ b) = omega arith in
     let d : drop (r₁ + length b) o₁ ≡ drop (at + length (a ++ b)) o =
-      sym (drop-drop (length b) r₁ o₁) ∙ ap (λ (z : List ℕ). drop (length b) z) d₀ ∙ drop-drop (length b) (at + length a) o ∙ ap (λ (z : ℕ). drop z o) n in
+    sym (drop-drop (length b) r₁ o₁) ∙ ap (λ (z : List ℕ). drop (length b) z) d₀ ∙ drop-drop (length b) (at + length a) o ∙ ap (λ (z : ℕ). drop z o) n in
     record {
       ends = omega (arith, p .ends, q .ends);
       fits = omega (arith, p .ends, q .fits);
-      text = q .text ∙ rw (t, d, take-length b, take-length (a ++ b)) (simp append-assoc)
+      text = q .text ∙ rw (t, d, take-length b, take-length (a ++ b)) (simp append-assoc);
     }
 
 -- ---- digits, from the last to the first
@@ -97,21 +97,13 @@ print-done o at o′ r n b p q d l h =
     let k : length (take (20 - p) (drop p b)) ≡ length (show n) = ap length e in
     (wrote-put o at (take (20 - p) (drop p b)) o′ r (show n) e q (omega (arith, k, show-long n)), omega (arith, q .0, k, show-long n))
 
-pub minus-done : (o : List ℕ) (at : ℕ) (o₁ : List ℕ) (r₁ : ℕ) (o′ : List ℕ) (r n : ℕ)
-    → (r₁ ≡ at + 1) × (o₁ ≡ paste o at (45 ∷ []) 1) → Wrote o₁ r₁ (show n) o′ r × (r ≤ r₁ + 20) → at + 21 ≤ length o
-    → Wrote o at (45 ∷ show n) o′ r × (r ≤ at + 21)
-minus-done o at o₁ r₁ o′ r n p q h =
-    (wrote-then (wrote-put o at (45 ∷ []) o₁ r₁ (45 ∷ []) refl p (omega arith)) (q .0), omega (arith, p .0, q .1))
-
 pub up-done : (o : List ℕ) (at i g : ℕ) (o′ : List ℕ) (r : ℕ) → Wrote o at (show (i - g)) o′ r × (r ≤ at + 20) → g ≤ i → Wrote o at (showℤ (subℕ i g)) o′ r × (r ≤ at + 21)
 up-done o at i g o′ r w h = (rw (← pos-up i g h) (w .0), omega (arith, w .1))
 
 pub down-done : (o : List ℕ) (at i g : ℕ) (o′ : List ℕ) (r : ℕ) → Wrote o at (45 ∷ show (g - i)) o′ r × (r ≤ at + 21) → i < g → Wrote o at (showℤ (subℕ i g)) o′ r × (r ≤ at + 21)
 down-done o at i g o′ r w h = (rw (← pos-down i g h) (w .0), w .1)
 
--- ---- a row
-
--- a byte b before bs
+-- ---- one byte, then text
 pub byte-then : (o : List ℕ) (at b : ℕ) (o₁ : List ℕ) (r₁ : ℕ) (bs o′ : List ℕ) (r k : ℕ)
     → (r₁ ≡ at + 1) × (o₁ ≡ paste o at (b ∷ []) 1) → Wrote o₁ r₁ bs o′ r × (r ≤ r₁ + k) → at + 1 ≤ length o
     → Wrote o at (b ∷ bs) o′ r × (r ≤ at + (k + 1))

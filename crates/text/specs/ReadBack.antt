@@ -59,6 +59,7 @@ some-digit f n after p = go f (ltb n 10) (n / 10) ((48 + n % 10) ∷ after) (ome
         both-ways : (t : Bool) → 0 < length (showOn f (n / 10) ((48 + n % 10) ∷ s)) → 0 < length (pick t ((48 + n % 10) ∷ s) (showOn f (n / 10) ((48 + n % 10) ∷ s)))
         both-ways true q = omega arith
         both-ways false q = q
+
     go : (f : ℕ) (t : Bool) (m : ℕ) (s : List ℕ) → 0 < length s → length (pick t s (showOn f m s)) ≡ 0 → ⊥
     go f true m s h p = omega arith
     go f false m s h p = omega (arith, long f m s h)

@@ -49,7 +49,10 @@ pub fn field_at(l: &[u8], k: usize) -> Span
     while 0 < left {
         let e = inner::find(l, at, 32);
         if l.len() <= e {
-            return Span { start: l.len(), end: l.len() };
+            return Span {
+                start: l.len(),
+                end: l.len(),
+            };
         }
         at = e + 1;
         left -= 1;

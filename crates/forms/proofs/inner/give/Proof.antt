@@ -1,35 +1,31 @@
-use native.Mathlib.Omega.{arith}
+use mathlib.Core.Path.{refl}
 use borrow.Author.Needs.{needs}
-use Rattle.forms.specs.FormCases.{give-yes, give-no}
-use Rattle.forms.specs.FormFacts.{place-ok}
+use Rattle.laws.specs.Choice.{pick}
+use Rattle.forms.specs.FormCases.{given-yes, given-no, defined}
 use Rattle.forms.proofs.inner.give.Statement.{statement}
 use Rattle.forms.proofs.inner.give.Tie as tie
 
-mul-i : tie.Need-mul-i
-mul-i c = omega (arith, place-ok (c .before .before .before .args .m) (c .before .before .before .args .e) (c .before .before .before .pre .0) (c .before .before .before .pre .1))
-
-add-i : tie.Need-add-i
-add-i c = omega (arith, place-ok (c .before .before .before .before .args .m) (c .before .before .before .before .args .e) (c .before .before .before .before .pre .0) (c .before .before .before .before .pre .1))
-
-mul-at : tie.Need-mul-at
-mul-at c = omega (arith, place-ok (c .before .before .before .before .args .m) (c .before .before .before .before .args .e) (c .before .before .before .before .pre .0) (c .before .before .before .before .pre .1))
+place-of-requires : tie.Need-place-of-requires
+place-of-requires c κs = search needs
 
 slice-read-if1 : tie.Need-slice-read-if1
-slice-read-if1 c = omega (arith, place-ok (c .before .before .before .before .before .args .m) (c .before .before .before .before .before .args .e) (c .before .before .before .before .before .pre .0) (c .before .before .before .before .before .pre .1))
+slice-read-if1 c = search needs
 
 returns : tie.Need-returns
-returns c = search give-yes
+unfolding pick
+returns c = (search given-yes, refl)
 
 store-requires : tie.Need-store-requires
-store-requires c κs = omega (arith, place-ok (c .before .before .before .before .before .before .before .args .m) (c .before .before .before .before .before .before .before .args .e) (c .before .before .before .before .before .before .before .pre .0) (c .before .before .before .before .before .before .before .pre .1))
+store-requires c κs = search needs
 
 same-length : tie.Need-same-length
 same-length c = search needs
 
 returns-2 : tie.Need-returns-2
-returns-2 c = give-no _ _ _ _ (c .before .before .store .ensures) (c .before .before .before .before .if1 .left)
+unfolding pick
+returns-2 c = (search given-no, search defined)
 
 pub give-spec : {M : Type 1} → statement M
 give-spec =
     tie.close
-    (tie.spec mul-i add-i mul-at slice-read-if1 returns store-requires same-length returns-2)
+    (tie.spec place-of-requires slice-read-if1 returns store-requires same-length returns-2)

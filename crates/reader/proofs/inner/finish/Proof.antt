@@ -1,5 +1,6 @@
 use borrow.Author.Needs.{needs}
-use Rattle.reader.specs.ParseCases.{ends}
+use Rattle.reader.specs.ParseCases.{end-due}
+use Rattle.reader.specs.Listing.{atEnd}
 use Rattle.reader.specs.Reading.{listingOf}
 use Rattle.reader.proofs.inner.finish.Statement.{statement}
 use Rattle.reader.proofs.inner.finish.Tie as tie
@@ -8,50 +9,50 @@ enum-told : tie.Need-enum-told
 enum-told c = search needs
 
 returns : tie.Need-returns
-unfolding listingOf
-returns c = (λ t w k. search ends, search needs)
+unfolding listingOf atEnd
+returns c = (λ t w k. search end-due, search needs)
 
 enum-told-2 : tie.Need-enum-told-2
 enum-told-2 c = search needs
 
 returns-2 : tie.Need-returns-2
-unfolding listingOf
-returns-2 c = (λ t w k. search ends, tt)
+unfolding listingOf atEnd
+returns-2 c = (λ t w k. search end-due, tt)
 
 enum-told-3 : tie.Need-enum-told-3
 enum-told-3 c = search needs
 
 returns-3 : tie.Need-returns-3
-unfolding listingOf
-returns-3 c = (λ t w k. search ends, tt)
+unfolding listingOf atEnd
+returns-3 c = (λ t w k. search end-due, tt)
 
 enum-told-4 : tie.Need-enum-told-4
 enum-told-4 c = search needs
 
 returns-4 : tie.Need-returns-4
-unfolding listingOf
-returns-4 c = (λ t w k. search ends, tt)
+unfolding listingOf atEnd
+returns-4 c = (λ t w k. search end-due, tt)
 
 enum-told-5 : tie.Need-enum-told-5
 enum-told-5 c = search needs
 
 returns-5 : tie.Need-returns-5
-unfolding listingOf
-returns-5 c = (λ t w k. search ends, tt)
+unfolding listingOf atEnd
+returns-5 c = (λ t w k. search end-due, tt)
 
 enum-told-6 : tie.Need-enum-told-6
 enum-told-6 c = search needs
 
 returns-6 : tie.Need-returns-6
-unfolding listingOf
-returns-6 c = (λ t w k. search ends, tt)
+unfolding listingOf atEnd
+returns-6 c = (λ t w k. search end-due, tt)
 
 enum-told-7 : tie.Need-enum-told-7
 enum-told-7 c = search needs
 
 returns-7 : tie.Need-returns-7
-unfolding listingOf
-returns-7 c = (λ t w k. search ends, tt)
+unfolding listingOf atEnd
+returns-7 c = (λ t w k. search end-due, tt)
 
 pub finish-spec : {M : Type 1} → statement M
 finish-spec =

@@ -66,7 +66,7 @@ same-length-6 c = search needs
 
 returns-2 : tie.Need-returns-2 Inv-loop μ-loop
 unfolding listingOf
-returns-2 c = (parse-bad _ _ _ (c .before .before .before .before .before .before .before .before .before .before .before .before .before .before .find .ensures .2) (omega (arith, c .before .before .before .before .before .before .before .before .before .before .before .before .before .before .before .loop-test)) _ _ _ _ (c .before .before .before .before .before .before .before .before .before .before .before .before .before .before .before .before .loop .inv .same) _ _ _ _ (c .before .before .before .before .before .before .before .before .take-line .ensures .0) (c .enum-told .given .1) (omega (arith, c .before .before .before .before .before .before .before .before .before .before .before .before .before .if1)), tt)
+returns-2 c = (search (needs, parse-bad), tt)
 
 after-requires : tie.Need-after-requires Inv-loop μ-loop
 after-requires c κs = search needs
@@ -75,10 +75,10 @@ add-n : tie.Need-add-n Inv-loop μ-loop
 add-n c = search needs
 
 loop-less : tie.Need-loop-less Inv-loop μ-loop
-loop-less c = let h = c .after .ensures .3 (c .before .before .before .before .before .before .before .before .before .before .before .before .before .before .before .before .before .before .loop .at) (omega (arith, c .before .before .before .before .before .before .before .before .before .before .before .before .before .before .before .before .find .ensures)) (omega (arith, c .before .before .before .before .before .before .before .before .before .before .before .before .before .before .before .before .before .loop-test)) in omega arith
+loop-less c = search needs
 
 loop-again : tie.Need-loop-again Inv-loop μ-loop
-loop-again c = inv-next _ _ _ _ _ _ _ _ _ _ _ _ _ _ _ _ _ (c .before .before .before .before .before .before .before .before .before .before .before .before .before .before .before .before .before .before .loop .inv) (c .before .before .before .before .before .before .before .before .before .before .before .before .before .before .before .before .find .ensures .2) (omega (arith, c .before .before .before .before .before .before .before .before .before .before .before .before .before .before .before .before .before .loop-test)) (omega (arith, c .before .before .before .before .before .before .before .before .before .before .before .before .before .before .before .if1)) (c .before .before .before .before .before .before .before .before .before .before .take-line .ensures .0) (c .before .before .before .before .before .before .before .before .before .before .take-line .ensures .1) (c .before .before .t .given .1) (c .after .ensures .0) (c .after .ensures .2) (c .after .ensures .3 (c .before .before .before .before .before .before .before .before .before .before .before .before .before .before .before .before .before .before .loop .at) (omega (arith, c .before .before .before .before .before .before .before .before .before .before .before .before .before .before .before .before .find .ensures)) (omega (arith, c .before .before .before .before .before .before .before .before .before .before .before .before .before .before .before .before .before .loop-test))) (omega arith) (omega arith) (omega arith)
+loop-again c = search (needs, inv-next)
 
 finish-requires : tie.Need-finish-requires Inv-loop μ-loop
 finish-requires c κs = search needs

@@ -1,5 +1,6 @@
+use native.Mathlib.Omega.{arith}
 use borrow.Author.Needs.{needs}
-use Rattle.text.specs.PrintCases.{minus-done}
+use Rattle.text.specs.PrintCases.{byte-then}
 use Rattle.text.proofs.inner.print_minus.Statement.{statement}
 use Rattle.text.proofs.inner.print_minus.Tie as tie
 
@@ -16,7 +17,7 @@ same-length : tie.Need-same-length
 same-length c = search needs
 
 returns : tie.Need-returns
-returns c = minus-done _ _ _ _ _ _ _ (c .before .before .before .before .before .before .put .ensures) (c .before .before .print-u64 .ensures) (c .before .before .before .before .before .before .before .before .before .before .pre)
+returns c = byte-then _ _ 45 _ _ _ _ _ 20 (c .before .before .before .before .before .before .put .ensures) (c .before .before .print-u64 .ensures) (omega arith)
 
 pub print-minus-spec : {M : Type 1} → statement M
 print-minus-spec =

@@ -38,9 +38,11 @@ loop-again c =
     let l = c .before .before in
     let d = l .before .args .dst .now in
     let s = l .before .args .src .now in
-    let at = l .before .args .at in
-    (omega arith, simp length-set (l .loop .inv .1),
-      rw (l .loop .inv .2, add-one) (paste-suc d at s (l .loop .j) 0 (omega arith) (omega arith)))
+    let at = l .before .args .at in (
+      omega arith,
+      simp length-set (l .loop .inv .1),
+      rw (l .loop .inv .2, add-one) (paste-suc d at s (l .loop .j) 0 (omega arith) (omega arith)),
+    )
 
 add-result : tie.Need-add-result Inv-loop μ-loop
 add-result c = search needs

@@ -1,0 +1,182 @@
+-- What an accepted listing asks: its table and its word pass the checks of every operation that takes them. Assumes nothing.
+use Prim.Native.Nat.{ℕ, suc, zero, _+_, _*_, _^_, _≤_, _<_}
+use mathlib.Core.Path.{_≡_, refl, sym, ap, _∙_, subst}
+use mathlib.Core.List.{List, [], _∷_}
+use mathlib.Core.Option.{Option, none, some}
+use native.Mathlib.Omega.{arith}
+use native.Mathlib.Nat.{pow-zero, pow-suc}
+use lib.Dec.{leb, ltb}
+use lib.ListN.{length, getD, take, length-append, length-replicate}
+use lib.Seq.{getD-take, length-take-le}
+use borrow.Author.Tests.{leb-true, ltb-true, lt-ltb, le-leb}
+use Rattle.laws.specs.Tests.{pick-true, pick-cases}
+use Rattle.laws.specs.ScanFacts.{clean-none}
+use Rattle.machine.specs.declared.Machine.{Machine}
+use Rattle.machine.specs.declared.Checked.the-variants.{Accepted}
+use Rattle.machine.specs.Layout.{entryCount}
+use Rattle.machine.specs.Check.{tableCheck}
+use Rattle.machine.specs.Word.{symbolIn, symbolAnswer, symbolsCheck, wordCheck}
+use Rattle.tables.specs.WellFormed.{LaidOut, WellFormed}
+use Rattle.tables.specs.CheckExact.{table-check-accepts}
+use Rattle.text.specs.Pieces.{sameList, lines}
+use Rattle.forms.specs.Forms.{firstLine, columnsLine, wordLine, headingLine, onSome, machineLine, entryLine, wordOf, callLine, given}
+use Rattle.forms.specs.FormFacts.{Good, machine-good, rule-ok}
+use Rattle.reader.specs.declared.Due.{Due}
+use Rattle.reader.specs.declared.Due.the-variants.{Names, Numbers, Columns, Entries, Word, Heading, Calls}
+use Rattle.reader.specs.Listing.{Sofar, nothing, Next, on, bad, line, Listing, refused, asked, atEnd, onNext, readFrom, listing}
+use Rattle.reader.specs.WordFacts.{AllBelow, word-good}
+use Rattle.reader.specs.TableFacts.{Laid, laid-blank, define-length, laid-define}
+
+-- ---- what the lines keep, once line 2 is read
+
+pub record Kept (x : Sofar) : Type 0 where
+  pub good : Good (x .machine)
+  pub long : length (x .table) ≡ 4096
+  pub laid : Laid (x .machine) (x .table)
+  pub in-range : AllBelow (x .machine .symbols) (x .word)
+  pub short : length (x .word) ≤ 40
+  pub few-calls : length (x .calls) ≤ 64
+
+abbrev pub Ready : Due → Sofar → Type 0
+Ready Names x = x ≡ nothing
+Ready Numbers x = x ≡ nothing
+Ready Columns x = Kept x
+Ready Entries x = Kept x
+Ready Word x = Kept x
+Ready Heading x = Kept x
+Ready Calls x = Kept x
+
+abbrev pub ReadyNext : Next → Type 0
+ReadyNext (on d x) = Ready d x
+ReadyNext bad = Unit {0}
+
+pub some-cases : {A B : Type 0} (o : Option B) (out : A) (go : B → A) (P : A → Type 0) → P out → ((b : B) → o ≡ some b → P (go b)) → P (onSome o out go)
+unfolding onSome
+some-cases (some b) out go P p f = f b refl
+some-cases none out go P p f = p
+
+first-kept : (m : Machine) → Good m → Kept (record { machine = m; table = nothing .table; word = nothing .word; calls = nothing .calls })
+unfolding nothing
+first-kept m g =
+    record {
+      good = g;
+      long = length-replicate {A = ℕ} 4096 0;
+      laid = laid-blank m g;
+      in-range = λ i h. absurd (omega arith);
+      short = omega arith;
+      few-calls = omega arith;
+    }
+
+pub keeps : (d : Due) (x : Sofar) (l : List ℕ) → length l ≤ 80 → Ready d x → ReadyNext (line d x l)
+unfolding line
+keeps Names x l h r = pick-cases (sameList l firstLine) (on Numbers x) bad ReadyNext (λ _. r) (λ _. tt)
+keeps Numbers x l h r =
+    some-cases (machineLine l) bad _ ReadyNext tt
+    (λ m e. rw r (first-kept m (machine-good l m e)))
+keeps Columns x l h r = pick-cases (sameList l columnsLine) (on Entries x) bad ReadyNext (λ _. r) (λ _. tt)
+keeps Entries x l h r =
+    pick-cases (sameList l wordLine) (on Word x) _ ReadyNext (λ _. r)
+    (λ _. some-cases (entryLine (x .machine) l) bad _ ReadyNext tt
+    (λ e q. pick-cases (given (x .machine) (x .table) e) bad _ ReadyNext (λ _. tt)
+    (λ _.
+    record {
+      good = r .good;
+      long = define-length (x .machine) (x .table) e (r .good) (rule-ok (x .machine) l e q) (r .long);
+      laid = laid-define (x .machine) (x .table) e (r .good) (rule-ok (x .machine) l e q) (r .long) (r .laid);
+      in-range = r .in-range;
+      short = r .short;
+      few-calls = r .few-calls;
+    })))
+keeps Word x l h r =
+    some-cases (wordOf (x .machine .symbols) l) bad _ ReadyNext tt
+    (λ w q.
+    let k = word-good (x .machine .symbols) l w h q in
+    record { good = r .good; long = r .long; laid = r .laid; in-range = k .0; short = k .1; few-calls = r .few-calls })
+keeps Heading x l h r = pick-cases (sameList l headingLine) (on Calls x) bad ReadyNext (λ _. r) (λ _. tt)
+keeps Calls x l h r =
+    pick-cases (ltb (length (x .calls)) 64) _ bad ReadyNext
+    (λ q. some-cases (callLine l) bad _ ReadyNext tt
+    (λ c _.
+    record {
+      good = r .good;
+      long = r .long;
+      laid = r .laid;
+      in-range = r .in-range;
+      short = r .short;
+      few-calls = omega (arith, length-append (x .calls) (c ∷ []), ltb-true (length (x .calls)) 64 q);
+    }))
+    (λ _. tt)
+
+-- ---- the whole listing
+
+abbrev KeptListing : Listing → Type 0
+KeptListing (refused n) = Unit {0}
+KeptListing (asked x) = Kept x
+
+end-kept : (n : ℕ) (d : Due) (x : Sofar) → Ready d x → KeptListing (atEnd n d x)
+unfolding atEnd
+end-kept n Names x r = tt
+end-kept n Numbers x r = tt
+end-kept n Columns x r = tt
+end-kept n Entries x r = tt
+end-kept n Word x r = tt
+end-kept n Heading x r = tt
+end-kept n Calls x r = r
+
+next-kept : (y : Next) (n : ℕ) (go : Due → Sofar → Listing) → ReadyNext y → ((d : Due) (x : Sofar) → Ready d x → KeptListing (go d x)) → KeptListing (onNext y (refused n) go)
+unfolding onNext
+next-kept (on d x) n go r f = f d x r
+next-kept bad n go r f = tt
+
+read-kept : (n : ℕ) (d : Due) (x : Sofar) (ls : List (List ℕ)) → Ready d x → KeptListing (readFrom n d x ls)
+unfolding readFrom
+read-kept n d x [] r = end-kept n d x r
+read-kept n d x (l ∷ ls) r =
+    pick-cases (leb (length l) 80) _ (refused n) KeptListing
+    (λ q. next-kept (line d x l) n _ (keeps d x l (leb-true (length l) 80 q) r) (λ d′ x′ r′. read-kept (n + 1) d′ x′ ls r′))
+    (λ _. tt)
+
+pub asked-kept : (s : List ℕ) (x : Sofar) → listing s ≡ asked x → Kept x
+unfolding listing
+asked-kept s x e = subst KeptListing e (read-kept 1 Names nothing (lines s) refl)
+
+-- ---- the checks
+
+abbrev pub tableOf : Sofar → List ℕ
+tableOf x = take (8 * (x .machine .states * x .machine .symbols)) (x .table)
+
+module _ (x : Sofar) (k : Kept x) where
+  one-tape : entryCount (x .machine) ≡ x .machine .states * x .machine .symbols
+  one-tape =
+      let e : x .machine .symbols ^ 1 ≡ x .machine .symbols = pow-suc (x .machine .symbols) 0 ∙ ap (λ n. n * x .machine .symbols) (pow-zero (x .machine .symbols)) ∙ omega arith in
+      ap (λ n. x .machine .states * n) (ap (λ t. x .machine .symbols ^ t) (k .good .one) ∙ e)
+
+  kept-formed : WellFormed (x .machine) (tableOf x)
+  kept-formed zero = tt
+  kept-formed (suc zero) = (omega (arith, k .good .one), omega (arith, k .good .one))
+  kept-formed (suc (suc zero)) = (k .good .some-symbols, k .good .few-symbols)
+  kept-formed (suc (suc (suc zero))) = (k .good .some-states, k .good .few-states)
+  kept-formed (suc (suc (suc (suc zero)))) = k .good .start-in
+  kept-formed (suc (suc (suc (suc (suc zero))))) =
+      length-take-le (8 * (x .machine .states * x .machine .symbols)) (x .table) (omega (arith, k .long, k .good .few)) ∙ ap (λ n. 8 * n) (sym one-tape)
+  kept-formed (suc (suc (suc (suc (suc (suc zero)))))) = λ i h.
+      let q : i < x .machine .states * x .machine .symbols = omega (arith, h, one-tape) in
+      let old : LaidOut (x .machine) (x .table) i = k .laid i q in
+      record {
+        entry = old .entry;
+        of-machine = old .of-machine;
+        stands = λ j l. getD-take (8 * (x .machine .states * x .machine .symbols)) (x .table) (8 * i + j) 0 (omega arith) ∙ old .stands j l;
+      }
+  kept-formed (suc (suc (suc (suc (suc (suc (suc n))))))) = tt
+
+module _ (s : List ℕ) (x : Sofar) (e : listing s ≡ asked x) where
+  pub asked-good : tableCheck (x .machine) (tableOf x) ≡ Accepted
+  asked-good = table-check-accepts (x .machine) (tableOf x) (kept-formed x (asked-kept s x e))
+
+  pub asked-word : wordCheck (x .machine .symbols) (x .word) ≡ Accepted
+  unfolding wordCheck symbolsCheck
+  asked-word =
+      let k : Kept x = asked-kept s x e in
+      pick-true _ _ _ (le-leb (length (x .word)) 1048576 (omega (arith, k .short)))
+      ∙ ap symbolAnswer (clean-none (symbolIn (x .machine .symbols) (x .word)) (length (x .word)) 0
+      (λ i a b. lt-ltb (getD (x .word) i 0) (x .machine .symbols) (k .in-range i (omega arith))))

@@ -1,0 +1,319 @@
+/*
+ * The Turing machine engines, for C. Link target/staticlib/libcapi.a, which `rt staticlib capi` makes for x86-64 Linux.
+ *
+ * Every function returns 0, or the number of the first refusal that applies (below). A refused call changes nothing but
+ * out[0], and that only where a place is named. No call allocates, prints, or keeps a pointer.
+ *
+ * Slices. `T *x, size_t x_len` is memory of x_len elements; an empty one may be NULL. Memory that a call may write must
+ * overlap nothing else that is lent to the call.
+ *
+ * Machine: tapes (1 to 3), symbols (1 to 256), states (1 to 65536), start state. `table` has eight bytes for each
+ * entry; that of state q reading a0, a1, a2 is number q * symbols^tapes + a0 + symbols * a1 + symbols^2 * a2:
+ *     byte 0     1, or all eight bytes 0 for an entry that is not defined (the machine halts there)
+ *     bytes 1-2  the next state, low byte first
+ *     bytes 3-5  the symbol to write on each tape (0 for a tape that the machine lacks)
+ *     byte 6     move0 + 3 * move1 + 9 * move2, where a move is 0 left, 1 right, 2 none (2 for a tape that it lacks)
+ *     byte 7     0
+ *
+ * Plain engine: `state` and engine[16]: steps, then length, origin, head, lowest and highest of tapes 0, 1 and 2, as
+ * places in the tape's cells (position p is at origin + p). c0, c1, c2 are the cells of the tapes, at most 2^30 each;
+ * those of a tape that the machine lacks are neither read nor written.
+ *
+ * Run-length engine (one tape): `state`, `cur` (the symbol under the head) and engine[7]: steps, macro steps, live runs
+ * on the left, on the right, then head, lowest and highest, each raised by 2^63. ls and rs are the symbols, ll and rl
+ * the lengths of the runs of each side, nearest to the head last. A side has as many places as the shorter of its two
+ * slices, at most 1048576.
+ *
+ * The numbers of an engine come from tm_sim_new or tm_chain_new and go unchanged into the next call, with the same
+ * memory. Others are accepted where they fit, and else refused by 12.
+ *
+ * Stop rule: `rule` is the state whose step ends a run: on the plain engine after the step, on the run-length engine
+ * before it. TM_NO_RULE, or any number from 65536 on, is no rule.
+ *
+ * Outcome of a run, in out:
+ *     out[0]  TM_HALTED, TM_OUT_OF_FUEL, TM_NEVER_HALTS, TM_STOPPED or TM_FULL (the next step lacks space)
+ *     out[1]  steps made since the start
+ *     out[2]  the state, where halted or never halting, else 0
+ *     out[3]  where never halting, 0 if the machine stays for ever, 1 if it moves on over blanks; else 0
+ *     out[4]  where it moves on over blanks, the move (0 left, 1 right), else 0
+ *
+ * Refusals:
+ *      1  tapes not 1 to 3
+ *      2  symbols not 1 to 256
+ *      3  states not 1 to 65536
+ *      4  start not below states
+ *      5  table not of 8 bytes for each entry
+ *      6  an entry off its layout or out of range; out[0] is the lowest such entry's number
+ *      7  packed words not exactly the table's, or several tapes
+ *      8  several tapes
+ *      9  word over 1048576 symbols
+ *     10  a symbol of the word not below `symbols`; out[0] is the first such place
+ *     11  cells or run places too few or too many
+ *     12  numbers that are no engine of this machine, or a tape that the machine lacks
+ *     13  steps and fuel, or a timeline's target, over 2^62
+ *     14  a timeline's numbers out of range
+ *     15  a store of too few slots
+ *     16  the slot to restore holds no engine of its step
+ *     17  a glyph that is not allowed; out[0] is the first such place
+ *     18  an output too short
+ */
+#ifndef TURING_H
+#define TURING_H
+
+#include <stddef.h>
+#include <stdint.h>
+
+#ifdef __cplusplus
+extern "C" {
+#endif
+
+#define TM_NO_RULE 65536
+
+enum tm_outcome { TM_HALTED, TM_OUT_OF_FUEL, TM_NEVER_HALTS, TM_STOPPED, TM_FULL };
+enum tm_status { TM_RUNNING, TM_HAS_HALTED, TM_LACKS_SPACE };
+enum tm_call { TM_SEEK, TM_FORWARD, TM_BACK };
+
+/* ---- tables and words ---- */
+
+/* Whether the table is one of the machine. Refuses 1 to 6. */
+uint8_t tm_check(
+    uint64_t tapes, uint64_t symbols, uint64_t states, uint64_t start,
+    const uint8_t *table, size_t table_len,
+    uint64_t out[8]);
+
+/* Writes the packed words of a table of one tape, states * symbols of them, to the first places of `words`.
+ * Refuses 1 to 6; 7 several tapes; 18 too few words. */
+uint8_t tm_pack(
+    uint64_t tapes, uint64_t symbols, uint64_t states, uint64_t start,
+    const uint8_t *table, size_t table_len,
+    uint64_t *words, size_t words_len,
+    uint64_t out[8]);
+
+/* Writes the symbol of each glyph of `word` to the first places of `symbols`. A glyph's symbol is the place of the
+ * first equal one among the first 256 of `glyphs`; it must be 0, the blank, or have a flag that is not 0.
+ * Refuses 17; 18 `symbols` shorter than the word. */
+uint8_t tm_encode(
+    const uint32_t *glyphs, size_t glyphs_len,
+    const uint8_t *flags, size_t flags_len,
+    const uint32_t *word, size_t word_len,
+    uint8_t *symbols, size_t symbols_len,
+    uint64_t out[8]);
+
+/* ---- the plain engine ---- */
+
+/* A fresh engine: the start state, the word on tape 0 from position 0 on, heads at 0. Writes the cells, `state` and
+ * `engine`.
+ * Refuses 1 to 6; 9; 10; 11 cells under word + 32 (other tapes 32) or over 2^30. */
+uint8_t tm_sim_new(
+    uint64_t tapes, uint64_t symbols, uint64_t states, uint64_t start,
+    const uint8_t *table, size_t table_len,
+    const uint8_t *word, size_t word_len,
+    uint8_t *c0, size_t c0_len, uint8_t *c1, size_t c1_len, uint8_t *c2, size_t c2_len,
+    uint16_t *state, uint64_t engine[16],
+    uint64_t out[8]);
+
+/* One step; out[0] is TM_RUNNING (the step was made), TM_HAS_HALTED or TM_LACKS_SPACE.
+ * Refuses as tm_sim_run with fuel 1. */
+uint8_t tm_sim_step(
+    uint64_t tapes, uint64_t symbols, uint64_t states, uint64_t start,
+    const uint8_t *table, size_t table_len,
+    uint8_t *c0, size_t c0_len, uint8_t *c1, size_t c1_len, uint8_t *c2, size_t c2_len,
+    uint16_t *state, uint64_t engine[16],
+    uint64_t out[8]);
+
+/* Runs for at most `fuel` steps; out is the outcome.
+ * Refuses 1 to 6; 11 cells over 2^30; 12; 13. */
+uint8_t tm_sim_run(
+    uint64_t tapes, uint64_t symbols, uint64_t states, uint64_t start,
+    const uint8_t *table, size_t table_len,
+    uint8_t *c0, size_t c0_len, uint8_t *c1, size_t c1_len, uint8_t *c2, size_t c2_len,
+    uint16_t *state, uint64_t engine[16],
+    uint64_t rule, uint64_t fuel,
+    uint64_t out[8]);
+
+/* The same over the words that tm_pack writes, which is faster.
+ * Refuses 1 to 6; 7; 11 cells over 2^30; 12; 13. */
+uint8_t tm_sim_run_packed(
+    uint64_t tapes, uint64_t symbols, uint64_t states, uint64_t start,
+    const uint8_t *table, size_t table_len,
+    const uint64_t *words, size_t words_len,
+    uint8_t *c0, size_t c0_len, uint8_t *c1, size_t c1_len, uint8_t *c2, size_t c2_len,
+    uint16_t *state, uint64_t engine[16],
+    uint64_t rule, uint64_t fuel,
+    uint64_t out[8]);
+
+/* Questions on one tape, at any position. Each refuses 1 to 6; 11 cells over 2^30; 12. */
+
+/* out[0] is the symbol at position `at`. */
+uint8_t tm_sim_get(
+    uint64_t tapes, uint64_t symbols, uint64_t states, uint64_t start,
+    const uint8_t *table, size_t table_len,
+    const uint8_t *c0, size_t c0_len, const uint8_t *c1, size_t c1_len, const uint8_t *c2, size_t c2_len,
+    uint16_t state, const uint64_t engine[16],
+    uint64_t tape, int64_t at,
+    uint64_t out[8]);
+
+/* out[0] is 0 for a blank tape, else 1; then out[1] and out[2] are the lowest and the highest position that is not
+ * blank, raised by 2^63. */
+uint8_t tm_sim_non_blank(
+    uint64_t tapes, uint64_t symbols, uint64_t states, uint64_t start,
+    const uint8_t *table, size_t table_len,
+    const uint8_t *c0, size_t c0_len, const uint8_t *c1, size_t c1_len, const uint8_t *c2, size_t c2_len,
+    uint16_t state, const uint64_t engine[16],
+    uint64_t tape,
+    uint64_t out[8]);
+
+/* out[0] is the number of cells that are not blank. */
+uint8_t tm_sim_count(
+    uint64_t tapes, uint64_t symbols, uint64_t states, uint64_t start,
+    const uint8_t *table, size_t table_len,
+    const uint8_t *c0, size_t c0_len, const uint8_t *c1, size_t c1_len, const uint8_t *c2, size_t c2_len,
+    uint16_t state, const uint64_t engine[16],
+    uint64_t tape,
+    uint64_t out[8]);
+
+/* Writes the symbols at positions `from`, from + 1, .. to all of `cells`. */
+uint8_t tm_sim_window(
+    uint64_t tapes, uint64_t symbols, uint64_t states, uint64_t start,
+    const uint8_t *table, size_t table_len,
+    const uint8_t *c0, size_t c0_len, const uint8_t *c1, size_t c1_len, const uint8_t *c2, size_t c2_len,
+    uint16_t state, const uint64_t engine[16],
+    uint64_t tape, int64_t from,
+    uint8_t *cells, size_t cells_len,
+    uint64_t out[8]);
+
+/* The nearest cell that is not blank, from position `from` on, to the left for dir 0, to the right for 1, else at
+ * `from` alone: out[0] is 0 where there is none, else 1, and out[1] its position raised by 2^63. */
+uint8_t tm_sim_find(
+    uint64_t tapes, uint64_t symbols, uint64_t states, uint64_t start,
+    const uint8_t *table, size_t table_len,
+    const uint8_t *c0, size_t c0_len, const uint8_t *c1, size_t c1_len, const uint8_t *c2, size_t c2_len,
+    uint16_t state, const uint64_t engine[16],
+    uint64_t tape, int64_t from, uint8_t dir,
+    uint64_t out[8]);
+
+/* ---- a timeline of the plain engine ---- */
+
+/* A new timeline on the engine at hand, which is saved in slot 0: at most `most` slots are kept (1 to 512), `every`
+ * steps apart at first (1 to 2^32). Writes slot 0 of `store`, and `times`: most, starting step, slots recorded,
+ * interval. A slot is 128 bytes more than the cells of the machine's tapes; the store has most + 1 slots.
+ * Refuses 1 to 6; 11 cells over 2^30; 12; 14; 15. */
+uint8_t tm_sim_timeline_new(
+    uint64_t tapes, uint64_t symbols, uint64_t states, uint64_t start,
+    const uint8_t *table, size_t table_len,
+    const uint8_t *c0, size_t c0_len, const uint8_t *c1, size_t c1_len, const uint8_t *c2, size_t c2_len,
+    uint8_t *store, size_t store_len,
+    uint16_t state, const uint64_t engine[16],
+    uint64_t times[4], uint64_t most, uint64_t every,
+    uint64_t out[8]);
+
+/* Moves to step `number` (which: TM_SEEK), or that many steps forward (TM_FORWARD) or back (TM_BACK, or any other): no
+ * further than where the machine halts, and not back beyond the starting step. out is the outcome of a run there with
+ * fuel 0, or TM_FULL where a step on the way lacked space.
+ * Refuses 1 to 6; 11 cells over 2^30; 12; 14; 15; 13; 16. */
+uint8_t tm_sim_timeline_call(
+    uint64_t tapes, uint64_t symbols, uint64_t states, uint64_t start,
+    const uint8_t *table, size_t table_len,
+    uint8_t *c0, size_t c0_len, uint8_t *c1, size_t c1_len, uint8_t *c2, size_t c2_len,
+    uint8_t *store, size_t store_len,
+    uint16_t *state, uint64_t engine[16],
+    uint64_t times[4], uint8_t which, uint64_t number,
+    uint64_t out[8]);
+
+/* ---- the run-length engine ---- */
+
+/* A fresh engine, as tm_sim_new. Writes the right side's runs, `state`, `cur` and `engine`.
+ * Refuses 1 to 6; 8; 9; 10; 11 fewer right places than the word has runs after its first symbol, or a side over
+ * 1048576. */
+uint8_t tm_chain_new(
+    uint64_t tapes, uint64_t symbols, uint64_t states, uint64_t start,
+    const uint8_t *table, size_t table_len,
+    const uint8_t *word, size_t word_len,
+    const uint8_t *ls, size_t ls_len, const uint64_t *ll, size_t ll_len,
+    uint8_t *rs, size_t rs_len, uint64_t *rl, size_t rl_len,
+    uint16_t *state, uint8_t *cur, uint64_t engine[7],
+    uint64_t out[8]);
+
+/* Runs for at most `fuel` steps; out is the outcome.
+ * Refuses 1 to 6; 8; 11 a side over 1048576; 12; 13. */
+uint8_t tm_chain_run(
+    uint64_t tapes, uint64_t symbols, uint64_t states, uint64_t start,
+    const uint8_t *table, size_t table_len,
+    uint8_t *ls, size_t ls_len, uint64_t *ll, size_t ll_len,
+    uint8_t *rs, size_t rs_len, uint64_t *rl, size_t rl_len,
+    uint16_t *state, uint8_t *cur, uint64_t engine[7],
+    uint64_t rule, uint64_t fuel,
+    uint64_t out[8]);
+
+/* Questions, answered as the plain engine's. Each refuses 1 to 6; 8; 11 a side over 1048576; 12. */
+
+/* out[0] is the symbol at position `at`. */
+uint8_t tm_chain_get(
+    uint64_t tapes, uint64_t symbols, uint64_t states, uint64_t start,
+    const uint8_t *table, size_t table_len,
+    const uint8_t *ls, size_t ls_len, const uint64_t *ll, size_t ll_len,
+    const uint8_t *rs, size_t rs_len, const uint64_t *rl, size_t rl_len,
+    uint16_t state, uint8_t cur, const uint64_t engine[7],
+    int64_t at,
+    uint64_t out[8]);
+
+/* As tm_sim_non_blank. */
+uint8_t tm_chain_non_blank(
+    uint64_t tapes, uint64_t symbols, uint64_t states, uint64_t start,
+    const uint8_t *table, size_t table_len,
+    const uint8_t *ls, size_t ls_len, const uint64_t *ll, size_t ll_len,
+    const uint8_t *rs, size_t rs_len, const uint64_t *rl, size_t rl_len,
+    uint16_t state, uint8_t cur, const uint64_t engine[7],
+    uint64_t out[8]);
+
+/* out[0] is the number of cells that are not blank. */
+uint8_t tm_chain_count(
+    uint64_t tapes, uint64_t symbols, uint64_t states, uint64_t start,
+    const uint8_t *table, size_t table_len,
+    const uint8_t *ls, size_t ls_len, const uint64_t *ll, size_t ll_len,
+    const uint8_t *rs, size_t rs_len, const uint64_t *rl, size_t rl_len,
+    uint16_t state, uint8_t cur, const uint64_t engine[7],
+    uint64_t out[8]);
+
+/* Writes the symbols at positions `from`, from + 1, .. to all of `cells`. */
+uint8_t tm_chain_window(
+    uint64_t tapes, uint64_t symbols, uint64_t states, uint64_t start,
+    const uint8_t *table, size_t table_len,
+    const uint8_t *ls, size_t ls_len, const uint64_t *ll, size_t ll_len,
+    const uint8_t *rs, size_t rs_len, const uint64_t *rl, size_t rl_len,
+    uint16_t state, uint8_t cur, const uint64_t engine[7],
+    int64_t from,
+    uint8_t *cells, size_t cells_len,
+    uint64_t out[8]);
+
+/* ---- a timeline of the run-length engine ---- */
+
+/* As tm_sim_timeline_new; a slot is 128 bytes more than 9 * the run places of both sides.
+ * Refuses 1 to 6; 8; 11 a side over 1048576; 12; 14; 15. */
+uint8_t tm_chain_timeline_new(
+    uint64_t tapes, uint64_t symbols, uint64_t states, uint64_t start,
+    const uint8_t *table, size_t table_len,
+    const uint8_t *ls, size_t ls_len, const uint64_t *ll, size_t ll_len,
+    const uint8_t *rs, size_t rs_len, const uint64_t *rl, size_t rl_len,
+    uint8_t *store, size_t store_len,
+    uint16_t state, uint8_t cur, const uint64_t engine[7],
+    uint64_t times[4], uint64_t most, uint64_t every,
+    uint64_t out[8]);
+
+/* As tm_sim_timeline_call.
+ * Refuses 1 to 6; 8; 11 a side over 1048576; 12; 14; 15; 13; 16. */
+uint8_t tm_chain_timeline_call(
+    uint64_t tapes, uint64_t symbols, uint64_t states, uint64_t start,
+    const uint8_t *table, size_t table_len,
+    uint8_t *ls, size_t ls_len, uint64_t *ll, size_t ll_len,
+    uint8_t *rs, size_t rs_len, uint64_t *rl, size_t rl_len,
+    uint8_t *store, size_t store_len,
+    uint16_t *state, uint8_t *cur, uint64_t engine[7],
+    uint64_t times[4], uint8_t which, uint64_t number,
+    uint64_t out[8]);
+
+#ifdef __cplusplus
+}
+#endif
+
+#endif
