@@ -1,0 +1,66 @@
+-- THE OUTPUT of document 01 ("Listing"): from the bytes of the input to the bytes that `seekrun` prints. Definitions only.
+use Prim.Native.Nat.{ℕ, _*_}
+use mathlib.Core.List.{List, [], _++_}
+use lib.Dec.{ltb}
+use lib.ListN.{length, take, drop, replicate}
+use Rattle.laws.specs.Choice.{pick}
+use Rattle.outcome.specs.declared.Refusal.{Refusal}
+use Rattle.outcome.specs.declared.Refusal.the-variants as Why
+use Rattle.outcome.specs.Numbers.{refusalNumber}
+use Rattle.machine.specs.declared.Machine.{Machine}
+use Rattle.sim.specs.Engine.{Conf}
+use Rattle.times.specs.Timeline.{Reply, refused, answered, Call}
+use Rattle.times.specs.Kind.{WorldOf, newOn}
+use Rattle.sim_engine.specs.Kind.{Lent, createOf, plainKind}
+use Rattle.reader.specs.Listing.{Sofar, Listing, listing}
+use Rattle.reader.specs.Listing as Read
+use Rattle.rows.specs.Rows.{rowsOf, refusedLine, output}
+use Rattle.listing.specs.declared.Listed.{Listed}
+use Rattle.listing.specs.declared.Listed.the-variants as Did
+
+-- ---- "`seekrun` .. runs the plain engine: 4,096 cells a tape, m 8, interval 16"
+
+-- the machine has one tape, and lends none for the others
+unfoldable pub blankCells : Lent
+blankCells = record { c0 = replicate 4096 0; c1 = []; c2 = [] }
+
+-- m + 1 slots of 128 bytes more than the cells: 9 × 4,224
+unfoldable pub blankStore : List ℕ
+blankStore = replicate 38016 0
+
+-- what a reply leads to
+abbrev pub onReply : {A B : Type 0} → Reply A → (Refusal → B) → (A → B) → B
+onReply (refused why) out go = out why
+onReply (answered a) out go = go a
+
+-- `refused` and the refusal's number
+unfoldable pub turned : Refusal → List ℕ
+turned why = refusedLine (refusalNumber why)
+
+-- a new timeline over an engine, and the rows of the calls on it
+unfoldable pub answerOn : Machine → (table store : List ℕ) → List Call → Conf → List ℕ
+answerOn m s store calls e = onReply (newOn plainKind m s 8 16 e store) turned (λ w. output (rowsOf m s w calls))
+
+-- the same over the fresh engine
+unfoldable pub answerWith : Machine → (table word : List ℕ) → Lent → (store : List ℕ) → List Call → List ℕ
+answerWith m s word lent store calls = onReply (createOf m s word lent) turned (answerOn m s store calls)
+
+-- what is asked, answered: the table has 8 bytes for each of its entries
+unfoldable pub answerOf : Sofar → List ℕ
+answerOf x =
+    answerWith (x .machine) (take (8 * (x .machine .states * x .machine .symbols)) (x .table)) (x .word) blankCells blankStore (x .calls)
+
+-- "A bad line .. prints only `refused` and the line number"
+unfoldable pub answerFor : Listing → List ℕ
+answerFor (Read.refused n) = refusedLine n
+answerFor (Read.asked x) = answerOf x
+
+unfoldable pub answerTo : (input : List ℕ) → List ℕ
+answerTo input = answerFor (listing input)
+
+-- ---- the whole function, with its lent output: 18 where that is too short for a names line of 39 bytes and 64 rows of 136
+
+unfoldable pub listOf : (input out : List ℕ) → Listed × List ℕ
+listOf input out =
+    pick (ltb (length out) 8743) (Did.Refused Why.OutputSize, out)
+    (Did.Printed (length (answerTo input)), answerTo input ++ drop (length (answerTo input)) out)

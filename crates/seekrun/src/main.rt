@@ -1,0 +1,16 @@
+// Reads a listing from standard input, and writes its rows to standard output. A listing that is not refused is shorter
+// than the buffer; a longer input has a bad line within it.
+use listing::Listed;
+
+fn main() {
+    let mut input = io::large_buffer();
+    let n = io::read_full(0, &mut input);
+    let mut output = io::large_buffer();
+    let listed = listing::list(&input[..n], &mut output);
+    match listed {
+        Listed::Printed(m) => {
+            io::write_all(1, &output[..m]);
+        }
+        Listed::Refused(_) => {}
+    }
+}
