@@ -27,7 +27,7 @@ use Rattle.tape.specs.Growth.{extra}
 use Rattle.tape.specs.Moves.{Held, held, noTape, leaves, roomFor}
 use Rattle.before.specs.declared.inner.look.Look.{Look}
 use Rattle.before.specs.declared.inner.look.Look.the-variants.{Halt, Never, Go}
-use Rattle.sim.specs.Engine.{Task, Conf, conf, End, onLook, haltedEnd, neverEnd, fullEnd, stoppedEnd, matches, lookWith, roomsFor, roomyOf, stepOf, runOf, Once, once, onceOf}
+use Rattle.sim.specs.Engine.{Task, Conf, conf, End, onLook, haltedEnd, neverEnd, fullEnd, stoppedEnd, matches, lookWith, roomsFor, roomyOf, stepOf, runWith, runOf, Once, once, onceOf}
 use Rattle.sim.specs.Operations.{bareSim, bareOf, handBack, backOf}
 use Rattle.sim_refines.specs.Meaning.{has, FitsIf, EngineFits}
 use Rattle.sim_refines.specs.Statement.{tableIn, heldBy, Judged, Sees, no-entry, loops, goes-on}
@@ -138,7 +138,7 @@ back-bare m σ = λ i. conf (record {
 module _ (k : Task) (σ : Conf) (f : EngineFits (k .machine) σ) (a : Action) (reads : entry (tableIn k) (heldBy k σ) ≡ Defined a)
     (going : Judged k (heldBy k σ) (outOfFuelAt (heldBy k σ))) (lacks : roomyOf σ a ≡ false) where
   pub full-ends : (fuel : ℕ) → runOf k (suc fuel) σ ≡ fullEnd σ
-  unfolding runOf
+  unfolding runOf runWith
   full-ends fuel = by (look-sees k σ f)
     where
       same : (x : Entry) (b : Action) → x ≡ Defined b → x ≡ Defined a → b ≡ a

@@ -1,7 +1,7 @@
 -- The run-length engine over its lent places, as the code goes: what a configuration is, what comes next, a macro step, the run. Definitions only.
 use mathlib.Core.Bool.{Bool, false}
 use mathlib.Core.List.{List}
-use Prim.Native.Nat.{ℕ, zero, suc, _+_, _-_, min, max}
+use Prim.Native.Nat.{ℕ, zero, suc, _+_, _-_}
 use lib.Dec.{eqb}
 use Rattle.laws.specs.Choice.{pick, both}
 use Rattle.symbol.specs.declared.State.{State}
@@ -10,13 +10,14 @@ use Rattle.symbol.specs.declared.Dir.the-variants.{L, R, N}
 use Rattle.outcome.specs.declared.NonHaltProof.{NonHaltProof}
 use Rattle.outcome.specs.declared.NonHaltProof.the-variants.{StayLoop, ChainToInfinity}
 use Rattle.outcome.specs.declared.Outcome.{Outcome}
-use Rattle.outcome.specs.declared.Outcome.the-variants.{Halted, OutOfFuel, NeverHalts, Stopped, Full}
+use Rattle.outcome.specs.declared.Outcome.the-variants.{Halted, OutOfFuel, NeverHalts, Full}
 use Rattle.machine.specs.declared.Action.{Action}
 use Rattle.machine.specs.declared.Entry.{Entry}
 use Rattle.machine.specs.declared.Entry.the-variants.{Undefined, Defined}
 use Rattle.sim.specs.declared.StopRule.{StopRule}
 use Rattle.sim.specs.Engine.{Task, entryOf, matches}
 use Rattle.stacks.specs.Sides.{Side, side, placesOf}
+use Rattle.tally.specs.Tally.{fuelThen, Tally, tallied}
 use Rattle.rle.specs.declared.ChainSim.{ChainSim}
 pub use Rattle.spans.specs.Leaps.{Carried, carried}
 unfoldable pub use Rattle.spans.specs.Leaps.{chainFor, fullFor, carryOf}
@@ -87,8 +88,7 @@ spaceOf p a fuel σ =
 
 unfoldable pub fuelOf : Sure → StopRule → Action → ℕ → Conf → Plan
 fuelOf p rule a fuel σ =
-    pick (eqb fuel 0) (Stop (OutOfFuel (σ .sim .steps)))
-    (pick (matches rule (σ .sim .state)) (Stop (Stopped (σ .sim .steps))) (spaceOf p a fuel σ))
+    fuelThen Stop fuel (σ .sim .steps) (matches rule (σ .sim .state)) (spaceOf p a fuel σ)
 
 unfoldable pub neverOf : (proves : Bool) → Sure → StopRule → Action → ℕ → Conf → Plan
 neverOf proves Open rule a fuel σ = fuelOf Open rule a fuel σ
@@ -106,18 +106,23 @@ planOf k fuel σ =
 
 -- ---- a macro step
 
--- "`macro_steps` adds one a macro step"
+-- the engine's numbers, and the engine that has such numbers
+abbrev pub tallyOf : ChainSim → Tally
+tallyOf v = record { steps = v .steps; macros = v .macros; head = v .tape .head; lowest = v .lowest; highest = v .highest }
+
+abbrev pub simWith : State → Tally → (left cur right : ℕ) → ChainSim
+simWith q t l cur r = record {
+  state = q;
+  steps = t .steps;
+  macros = t .macros;
+  tape = record { left = l; cur = cur; right = r; head = t .head };
+  lowest = t .lowest;
+  highest = t .highest;
+}
+
 abbrev pub landed : Leap → Conf → (head cur : ℕ) → (left right : Side) → Conf
 landed j σ head cur l r =
-    conf
-    (record {
-      state = j .next;
-      steps = σ .sim .steps + j .repeats;
-      macros = σ .sim .macros + 1;
-      tape = record { left = l .count; cur = cur; right = r .count; head = head };
-      lowest = min (σ .sim .lowest) head;
-      highest = max (σ .sim .highest) head;
-    })
+    conf (simWith (j .next) (tallied (tallyOf (σ .sim)) (j .repeats) head) (l .count) cur (r .count))
     (l .symbols) (l .lengths) (r .symbols) (r .lengths)
 
 abbrev pub leftward : Leap → Conf → Carried → Conf

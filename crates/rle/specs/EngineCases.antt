@@ -19,6 +19,9 @@ use Rattle.spans.specs.Leaps.{loopsFor, proofOf, headFor}
 use Rattle.rle.specs.declared.ChainSim.{ChainSim}
 use Rattle.rle.specs.declared.inner.Turn.{Turn}
 use Rattle.rle.specs.declared.inner.Turn.the-variants.{Ends, Takes}
+use Rattle.tally.specs.Tally.{Tally, tallied}
+use Rattle.tally.specs.TallyCases.{then-spent, then-stops, then-goes, tally-made}
+use Rattle.rle.specs.Engine.{tallyOf, simWith}
 use Rattle.rle.specs.Turns.{loopsOf, stepOf, fueledOf, provedOf, turnOn, turnOf, landedBy}
 
 -- ---- a proved loop
@@ -35,16 +38,16 @@ loops-keeps q a cur l r x h p = rw (p, eq-eqb (a .next .0) (q .0) h)
 
 module _ (loops : Bool) (rule : StopRule) (a : Action) (fuel : ℕ) (v : ChainSim) where
   pub fuel-none : fuel ≡ 0 → Ends (OutOfFuel (v .steps)) ≡ fueledOf loops rule a fuel v
-  unfolding fueledOf pick
-  fuel-none e = simp (eq-eqb fuel 0 e)
+  unfolding fueledOf
+  fuel-none e = then-spent Ends fuel (v .steps) _ _ e
 
   pub fuel-stops : (fuel ≡ 0 → ⊥) → (b : Bool) → b ≡ matches rule (v .state) → b ≡ true → Ends (Stopped (v .steps)) ≡ fueledOf loops rule a fuel v
-  unfolding fueledOf pick
-  fuel-stops h b bp e = simp (ne-eqb fuel 0 h, ← bp, e)
+  unfolding fueledOf
+  fuel-stops h b bp e = then-stops Ends fuel (v .steps) _ _ h (sym bp ∙ e)
 
   pub fuel-goes : (fuel ≡ 0 → ⊥) → (b : Bool) → b ≡ matches rule (v .state) → b ≡ false → Takes (stepOf loops a (v .state)) ≡ fueledOf loops rule a fuel v
-  unfolding fueledOf pick
-  fuel-goes h b bp e = simp (ne-eqb fuel 0 h, ← bp, e)
+  unfolding fueledOf
+  fuel-goes h b bp e = then-goes Ends fuel (v .steps) _ _ h (sym bp ∙ e)
 
 pub asked-loops : (loops proves : Bool) → loops ≡ true → proves ≡ both loops proves
 unfolding both
@@ -85,12 +88,6 @@ pub landed-made : (d : Dir) (q : State) (v : ChainSim) (left cur right n head lo
       highest = hi;
     }
     ≡ landedBy d q v left cur right n
-landed-made d q v left cur right n head lo hi p a b i =
-    record {
-      state = q;
-      steps = v .steps + n;
-      macros = v .macros + 1;
-      tape = record { left = left; cur = cur; right = right; head = p i };
-      lowest = (a ∙ ap (min (v .lowest)) p) i;
-      highest = (b ∙ ap (max (v .highest)) p) i;
-    }
+landed-made d q v left cur right n head lo hi p a b =
+    ap (λ (t : Tally). simWith q t left cur right) (tally-made (tallyOf v) n head lo hi a b)
+    ∙ ap (λ (h : ℕ). simWith q (tallied (tallyOf v) n h) left cur right) p

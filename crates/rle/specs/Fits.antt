@@ -10,18 +10,15 @@ use Rattle.machine.specs.declared.Checked.{Checked}
 use Rattle.machine.specs.declared.Checked.the-variants.{Accepted}
 use Rattle.machine.specs.Check.{demand, checkedOn, tableCheck}
 use Rattle.sim.specs.Operations.{stepsMost, fuelFits}
-use Rattle.stacks.specs.Sides.{Side, placesOf, runsFit, cellsOf}
-pub use Rattle.spans.specs.Words.{slack}
+use Rattle.stacks.specs.Sides.{placesOf, cellsOf}
+pub use Rattle.tally.specs.Sums.{slack, sidesFit}
+unfoldable pub use Rattle.tally.specs.Sums.{sideFits}
 use Rattle.rle.specs.declared.ChainSim.{ChainSim}
 use Rattle.rle.specs.Engine.{Conf, leftOf, rightOf}
 
 -- position 0, raised
 abbrev pub zeroAt : ℕ
 zeroAt = 9223372036854775808
-
--- "the stack rule, each side's sum .. at most steps + 2^20", and its live runs in its places
-unfoldable pub sideFits : (k places most : ℕ) → Side → Bool
-sideFits k places most x = both (leb (x .count) places) (both (runsFit k x) (leb (cellsOf x) most))
 
 -- "lowest ≤ head ≤ highest, all within steps of 0"
 unfoldable pub headFits : ChainSim → Bool
@@ -45,9 +42,8 @@ unfoldable pub chainFits : Machine → Conf → Bool
 chainFits m σ =
     both (countsFit m (σ .sim))
     (both (headFits (σ .sim))
-    (both (sideFits (m .symbols) (placesOf (σ .ls) (σ .ll)) (σ .sim .steps + slack) (leftOf σ))
-    (both (sideFits (m .symbols) (placesOf (σ .rs) (σ .rl)) (σ .sim .steps + slack) (rightOf σ))
-    (reachFits (σ .sim) (cellsOf (leftOf σ)) (cellsOf (rightOf σ))))))
+    (sidesFit (m .symbols) (placesOf (σ .ls) (σ .ll)) (placesOf (σ .rs) (σ .rl)) (σ .sim .steps) (leftOf σ) (rightOf σ)
+    (reachFits (σ .sim) (cellsOf (leftOf σ)) (cellsOf (rightOf σ)))))
 
 -- "a run side over 1,048,576"
 unfoldable pub placesFit : Conf → Bool

@@ -2,12 +2,12 @@
 use mathlib.Core.Path.{_≡_, sym, _∙_, ap}
 use mathlib.Core.Bool.{Bool, true, false}
 use mathlib.Core.List.{List}
-use Prim.Native.Nat.{ℕ, _+_, _-_, _≤_, _<_, min}
+use Prim.Native.Nat.{ℕ, _+_, _-_, _≤_, _<_}
 use native.Mathlib.Omega.{arith}
 use borrow.Author.Tests.{leb-true, leb-false, le-leb, lt-leb, eq-eqb, ne-eqb}
 use lib.Dec.{leb}
 use Rattle.laws.specs.Choice.{pick, both}
-use Rattle.laws.specs.Tests.{both-split, by-test, pick-true, pick-false}
+use Rattle.laws.specs.Tests.{both-split, by-test}
 use Rattle.outcome.specs.declared.Refusal.{Refusal}
 use Rattle.outcome.specs.declared.Refusal.the-variants as Why
 use Rattle.machine.specs.declared.Machine.{Machine}
@@ -15,53 +15,11 @@ use Rattle.machine.specs.declared.Checked.{Checked}
 use Rattle.machine.specs.declared.Checked.the-variants.{Accepted, Refused}
 use Rattle.machine.specs.Check.{tableCheck}
 use Rattle.sim.specs.Operations.{fuelFits}
-use Rattle.stacks.specs.Sides.{Side, side, placesOf, runsFit, cellsOf}
+use Rattle.stacks.specs.Sides.{placesOf, cellsOf}
 use Rattle.rle.specs.declared.ChainSim.{ChainSim}
 use Rattle.rle.specs.Engine.{Conf, conf, leftOf, rightOf}
-use Rattle.rle.specs.Fits.{sideFits, headFits, reachFits, countsFit, chainFits, placesFit, valueCheck, engineCheck, runCheck}
-
--- ---- one side
-
-abbrev measured : (k p most : ℕ) → Side → ℕ
-measured k p most x = pick (sideFits k p most x) (cellsOf x) (most + 1)
-
-module _ (k p most : ℕ) (x : Side) where
-  pub measure-places : p < x .count → most + 1 ≡ measured k p most x
-  unfolding sideFits both pick
-  measure-places h = rw (lt-leb (x .count) p h)
-
-  module _ (h : x .count ≤ p) (b : Bool) (bp : b ≡ runsFit k x) where
-    pub measure-runs : b ≡ false → most + 1 ≡ measured k p most x
-    unfolding sideFits both pick
-    measure-runs e = rw (le-leb (x .count) p h, sym bp ∙ e)
-
-    side-is : b ≡ true → sideFits k p most x ≡ leb (cellsOf x) most
-    unfolding sideFits both
-    side-is e = rw (le-leb (x .count) p h, sym bp ∙ e)
-
-    pub measure-sum : b ≡ true → (r : ℕ) → r ≡ min (cellsOf x) (most + 1) → r ≡ measured k p most x
-    measure-sum e r q = by-test (leb (cellsOf x) most)
-        (λ l.
-        let z : r ≡ cellsOf x = omega (arith, q, leb-true (cellsOf x) most l) in
-        z ∙ sym (pick-true (sideFits k p most x) (cellsOf x) (most + 1) (side-is e ∙ l)))
-        (λ l.
-        let z : r ≡ most + 1 = omega (arith, q, leb-false (cellsOf x) most l) in
-        z ∙ sym (pick-false (sideFits k p most x) (cellsOf x) (most + 1) (side-is e ∙ l)))
-
-  side-in : sideFits k p most x ≡ true → cellsOf x ≤ most
-  unfolding sideFits
-  side-in t = leb-true (cellsOf x) most (both-split (both-split t .1) .1)
-
-  -- what a measure says of the side
-  pub measured-over : (r : ℕ) → r ≡ measured k p most x → most < r → sideFits k p most x ≡ false
-  measured-over r e h = by-test (sideFits k p most x)
-      (λ t. absurd (omega (arith, e ∙ pick-true (sideFits k p most x) (cellsOf x) (most + 1) t, side-in t)))
-      (λ f. f)
-
-  pub measured-fits : (r : ℕ) → r ≡ measured k p most x → r ≤ most → (sideFits k p most x ≡ true) × (r ≡ cellsOf x)
-  measured-fits r e h = by-test (sideFits k p most x)
-      (λ t. (t, e ∙ pick-true (sideFits k p most x) (cellsOf x) (most + 1) t))
-      (λ f. absurd (omega (arith, e ∙ pick-false (sideFits k p most x) (cellsOf x) (most + 1) f)))
+use Rattle.tally.specs.SumCases.{measured, measured-fits, sides-left, sides-right, sides-near}
+use Rattle.rle.specs.Fits.{headFits, reachFits, countsFit, chainFits, placesFit, valueCheck, engineCheck, runCheck}
 
 -- ---- the value
 
@@ -93,29 +51,28 @@ module _ (m : Machine) (v : ChainSim) (ls ll rs rl : List ℕ) where
     fits-head c q f = rw (← p, e, ← q, f)
 
     module _ (c : Bool) (q : c ≡ headFits v) (f : c ≡ true) (lp : ℕ) (lq : lp ≡ placesOf ls ll) (l : ℕ) (lm : l ≡ measured (m .symbols) lp (v .steps + 1048576) (leftOf here)) where
-      left-is : sideFits (m .symbols) lp (v .steps + 1048576) (leftOf here) ≡ sideFits (m .symbols) (placesOf ls ll) (v .steps + 1048576) (leftOf here)
-      left-is = ap (λ (p : ℕ). sideFits (m .symbols) p (v .steps + 1048576) (leftOf here)) lq
+      lefts : l ≡ measured (m .symbols) (placesOf ls ll) (v .steps + 1048576) (leftOf here)
+      lefts = lm ∙ ap (λ (p : ℕ). measured (m .symbols) p (v .steps + 1048576) (leftOf here)) lq
 
       pub fits-left : v .steps + 1048576 < l → false ≡ chainFits m here
       unfolding chainFits both
-      fits-left h = rw (← p, e, ← q, f, ← left-is, measured-over (m .symbols) lp (v .steps + 1048576) (leftOf here) l lm h)
+      fits-left h = rw (← p, e, ← q, f) (sides-left (m .symbols) (placesOf ls ll) (placesOf rs rl) (v .steps) (leftOf here) (rightOf here) _ l lefts h)
 
       module _ (lh : l ≤ v .steps + 1048576) (rp : ℕ) (rq : rp ≡ placesOf rs rl) (r : ℕ) (rm : r ≡ measured (m .symbols) rp (v .steps + 1048576) (rightOf here)) where
-        left-fits : (sideFits (m .symbols) lp (v .steps + 1048576) (leftOf here) ≡ true) × (l ≡ cellsOf (leftOf here))
-        left-fits = measured-fits (m .symbols) lp (v .steps + 1048576) (leftOf here) l lm lh
-
-        right-is : sideFits (m .symbols) rp (v .steps + 1048576) (rightOf here) ≡ sideFits (m .symbols) (placesOf rs rl) (v .steps + 1048576) (rightOf here)
-        right-is = ap (λ (p : ℕ). sideFits (m .symbols) p (v .steps + 1048576) (rightOf here)) rq
+        rights : r ≡ measured (m .symbols) (placesOf rs rl) (v .steps + 1048576) (rightOf here)
+        rights = rm ∙ ap (λ (p : ℕ). measured (m .symbols) p (v .steps + 1048576) (rightOf here)) rq
 
         pub fits-right : v .steps + 1048576 < r → false ≡ chainFits m here
         unfolding chainFits both
-        fits-right h = rw (← p, e, ← q, f, ← left-is, left-fits .0, ← right-is, measured-over (m .symbols) rp (v .steps + 1048576) (rightOf here) r rm h)
+        fits-right h = rw (← p, e, ← q, f) (sides-right (m .symbols) (placesOf ls ll) (placesOf rs rl) (v .steps) (leftOf here) (rightOf here) _ l lefts lh r rights h)
 
         pub fits-reach : r ≤ v .steps + 1048576 → (x : Bool) → x ≡ reachFits v l r → x ≡ chainFits m here
         unfolding chainFits both
         fits-reach h x xp =
-            let z : (sideFits (m .symbols) rp (v .steps + 1048576) (rightOf here) ≡ true) × (r ≡ cellsOf (rightOf here)) = measured-fits (m .symbols) rp (v .steps + 1048576) (rightOf here) r rm h in
-            xp ∙ (λ i. reachFits v (left-fits .1 i) (z .1 i)) ∙ sym (rw (← p, e, ← q, f, ← left-is, left-fits .0, ← right-is, z .0))
+            let y : l ≡ cellsOf (leftOf here) = measured-fits (m .symbols) (placesOf ls ll) (v .steps + 1048576) (leftOf here) l lefts lh .1 in
+            let z : r ≡ cellsOf (rightOf here) = measured-fits (m .symbols) (placesOf rs rl) (v .steps + 1048576) (rightOf here) r rights h .1 in
+            xp ∙ (λ i. reachFits v (y i) (z i))
+            ∙ rw (← p, e, ← q, f) (sides-near (m .symbols) (placesOf ls ll) (placesOf rs rl) (v .steps) (leftOf here) (rightOf here) _ l lefts lh r rights h)
 
 -- ---- the checks
 

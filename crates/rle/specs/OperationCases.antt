@@ -28,7 +28,7 @@ use Rattle.rle.specs.declared.Fresh.the-variants as New
 use Rattle.rle.specs.Engine.{Conf, end, runOf}
 use Rattle.rle.specs.Turns.{SidesOk, CountsOk, RunOk}
 use Rattle.rle.specs.Fits.{zeroAt, sideFits, headFits, countsFit, chainFits, placesFit, valueCheck, engineCheck, runCheck}
-use Rattle.rle.specs.Operations.{given, runAnswer, runsOf, laidOf, freshSizes, freshCheck, Made, made, newAnswer}
+use Rattle.rle.specs.Operations.{given, runAnswer, runsOf, wordOf, freshSizes, freshCheck, Made, made, newAnswer}
 
 -- ---- a value that passed
 
@@ -170,6 +170,6 @@ module _ (m : Machine) (s w ls ll rs rl : List ℕ) (lp rp : ℕ) (lq : lp ≡ p
         let p : FreshPassed m s w (placesOf ls ll) (placesOf rs rl) = fresh-says m s w (placesOf ls ll) (placesOf rs rl) (sym here ∙ passed) in
         (word-says (m .symbols) w (p .word) .0, fresh-places w (placesOf ls ll) (placesOf rs rl) (p .sizes))
 
-    pub new-made : (x : Side) (cur : ℕ) → x ≡ laidOf w (length w - 1) (side rs rl 0) → cur ≡ getD w 0 0 → madeAt m x cur ≡ newAnswer m s w ls ll rs rl
+    pub new-made : (x : Side) (cur : ℕ) → x ≡ wordOf w (side rs rl 0) → cur ≡ getD w 0 0 → madeAt m x cur ≡ newAnswer m s w ls ll rs rl
     unfolding newAnswer
     new-made x cur e f = (λ i. madeAt m (e i) (f i)) ∙ rw (← here, passed)

@@ -1,8 +1,8 @@
 -- The run-length engine's operations: what they answer, and what they leave in the lent places. Definitions only.
 use mathlib.Core.Bool.{true}
 use mathlib.Core.List.{List}
-use Prim.Native.Nat.{ℕ, _-_}
-use lib.ListN.{length, getD}
+use Prim.Native.Nat.{ℕ}
+use lib.ListN.{getD}
 use Rattle.symbol.specs.Kinds.{stateOf}
 use Rattle.machine.specs.declared.Machine.{Machine}
 use Rattle.machine.specs.declared.Checked.{Checked}
@@ -11,8 +11,10 @@ use Rattle.sim.specs.declared.StopRule.{StopRule}
 use Rattle.sim.specs.declared.Answer.{Answer}
 use Rattle.sim.specs.declared.Answer.the-variants as Ans
 use Rattle.sim.specs.Engine.{task}
+use Rattle.course.specs.Answers.{answered}
 use Rattle.stacks.specs.Sides.{Side, side, placesOf}
-unfoldable pub use Rattle.spans.specs.Words.{laidOf, runsOf, freshSizes, freshCheck}
+pub use Rattle.tally.specs.Words.{wordOf}
+unfoldable pub use Rattle.tally.specs.Words.{laidOf, runsOf, freshSizes, freshCheck}
 use Rattle.rle.specs.declared.ChainSim.{ChainSim}
 use Rattle.rle.specs.declared.Fresh.{Fresh}
 use Rattle.rle.specs.declared.Fresh.the-variants as New
@@ -29,8 +31,7 @@ abbrev pub given : Conf → Answer → Given
 given σ a = record { at = σ; answer = a }
 
 abbrev pub runOn : Checked → Conf → End → Given
-runOn (Refused why) σ e = given σ (Ans.Refused why)
-runOn Accepted σ e = given (e .at) (Ans.Done (e .outcome))
+runOn r σ e = answered given Ans.Refused r σ (e .at) (Ans.Done (e .outcome))
 
 unfoldable pub runAnswer : Machine → List ℕ → StopRule → ℕ → Conf → Given
 runAnswer m s rule fuel σ = runOn (runCheck m s fuel σ) σ (runOf (task m s true rule) fuel σ)
@@ -65,4 +66,4 @@ freshOn Accepted rs rl done = done
 
 unfoldable pub newAnswer : Machine → (s w ls ll rs rl : List ℕ) → Made
 newAnswer m s w ls ll rs rl =
-    freshOn (freshCheck m s w (placesOf ls ll) (placesOf rs rl)) rs rl (madeWith m w (laidOf w (length w - 1) (side rs rl 0)))
+    freshOn (freshCheck m s w (placesOf ls ll) (placesOf rs rl)) rs rl (madeWith m w (wordOf w (side rs rl 0)))

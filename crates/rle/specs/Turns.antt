@@ -1,13 +1,13 @@
 -- What the functions of a run may assume. Definitions only.
 use mathlib.Core.Path.{_≡_}
 use mathlib.Core.Bool.{Bool}
-use Prim.Native.Nat.{ℕ, _+_, _≤_, min, max}
+use Prim.Native.Nat.{ℕ, _+_, _≤_}
 use lib.Dec.{eqb}
 use lib.ListN.{length}
 use Rattle.laws.specs.Choice.{pick, both}
 use Rattle.symbol.specs.declared.State.{State}
 use Rattle.symbol.specs.declared.Dir.{Dir}
-use Rattle.outcome.specs.declared.Outcome.the-variants.{Halted, OutOfFuel, NeverHalts, Stopped}
+use Rattle.outcome.specs.declared.Outcome.the-variants.{Halted, NeverHalts}
 use Rattle.machine.specs.declared.Machine.{Machine}
 use Rattle.machine.specs.declared.Action.{Action}
 use Rattle.machine.specs.declared.Entry.{Entry}
@@ -22,7 +22,8 @@ use Rattle.sim.specs.declared.StopRule.{StopRule}
 use Rattle.sim.specs.Engine.{Task, entryOf, matches}
 use Rattle.spans.specs.declared.inner.leaps.Step.{Step}
 use Rattle.spans.specs.Leaps.{loopsFor, proofOf, headFor}
-use Rattle.rle.specs.Engine.{Conf, leftOf, rightOf, runOf}
+use Rattle.tally.specs.Tally.{fuelThen, tallied}
+use Rattle.rle.specs.Engine.{Conf, leftOf, rightOf, tallyOf, simWith, runOf}
 
 -- the machine's numbers, as an entry's number is made of them
 pub record TableOk (m : Machine) (stride : ℕ) : Type 0 where
@@ -56,8 +57,7 @@ stepOf loops a q = record { write = a .write0 .0; dir = a .dir0; next = a .next;
 
 unfoldable pub fueledOf : (loops : Bool) → StopRule → Action → ℕ → ChainSim → Turn
 fueledOf loops rule a fuel v =
-    pick (eqb fuel 0) (Ends (OutOfFuel (v .steps)))
-    (pick (matches rule (v .state)) (Ends (Stopped (v .steps))) (Takes (stepOf loops a (v .state))))
+    fuelThen Ends fuel (v .steps) (matches rule (v .state)) (Takes (stepOf loops a (v .state)))
 
 unfoldable pub provedOf : (proves loops : Bool) → StopRule → Action → ℕ → ChainSim → Turn
 provedOf proves loops rule a fuel v =
@@ -74,15 +74,7 @@ turnOf k fuel v =
 
 -- the value after a macro step of n steps that left the sides so
 abbrev pub landedBy : Dir → (next : State) → ChainSim → (left cur right n : ℕ) → ChainSim
-landedBy d q v l c r n =
-    record {
-      state = q;
-      steps = v .steps + n;
-      macros = v .macros + 1;
-      tape = record { left = l; cur = c; right = r; head = headFor d (v .tape .head) n };
-      lowest = min (v .lowest) (headFor d (v .tape .head) n);
-      highest = max (v .highest) (headFor d (v .tape .head) n);
-    }
+landedBy d q v l c r n = simWith q (tallied (tallyOf v) n (headFor d (v .tape .head) n)) l c r
 
 -- the lent slices are as long as they were
 pub record SameSizes (σ τ : Conf) : Type 0 where

@@ -16,6 +16,7 @@ use Rattle.sim.specs.declared.Answer.{Answer}
 use Rattle.sim.specs.declared.Answer.the-variants as Ans
 use Rattle.sim.specs.declared.StepAnswer.{StepAnswer}
 use Rattle.sim.specs.declared.StepAnswer.the-variants as StepAns
+use Rattle.course.specs.AnswerCases.{stays-refused, gives-accepted}
 use Rattle.sim.specs.Engine.{Conf, conf, task, end, runOf, statusOf}
 use Rattle.sim.specs.EngineCases.{once-run}
 use Rattle.sim.specs.Operations.{bareSim, handBack, runCheck, fastCheck, bareOf, Given, given, runAnswer, fastAnswer, StepGiven, stepGiven, stepBack, stepAnswer}
@@ -30,12 +31,12 @@ module _ (m : Machine) (s : List ℕ) (p : Bool) (rule : StopRule) (fuel : ℕ) 
   at = conf v c0 c1 c2
 
   pub ran-refused : (why : Refusal) → r ≡ Refused why → given at (Ans.Refused why) ≡ answerOf r m s p rule fuel at
-  ran-refused why e = rw e
+  ran-refused why e = stays-refused given Ans.Refused r at _ _ why e
 
   pub ran-done : (b u w : Simulator) (d0 d1 d2 : List ℕ) (o : Outcome) → r ≡ Accepted → b ≡ bareSim (m .tapes) v
       → end (conf u d0 d1 d2) o ≡ runOf (task m s p rule) fuel (conf b c0 c1 c2) → w ≡ handBack (m .tapes) v u
       → given (conf w d0 d1 d2) (Ans.Done o) ≡ answerOf r m s p rule fuel at
-  ran-done b u w d0 d1 d2 o a q e h = rw (a, h, ← q, ← e)
+  ran-done b u w d0 d1 d2 o a q e h = rw (h, ← q, ← e) (gives-accepted given Ans.Refused r at _ _ a)
 
 -- ---- the operations
 

@@ -2,7 +2,7 @@
 -- Definitions only.
 use mathlib.Core.Bool.{Bool, true, false}
 use mathlib.Core.List.{List}
-use Prim.Native.Nat.{ℕ, zero, suc, _+_}
+use Prim.Native.Nat.{ℕ, _+_}
 use lib.Dec.{eqb}
 use lib.ListN.{length}
 use Rattle.laws.specs.Choice.{pick, both}
@@ -21,6 +21,8 @@ use Rattle.sim.specs.declared.StopRule.the-variants as Rule
 use Rattle.before.specs.declared.inner.look.Look.{Look}
 pub use Rattle.before.specs.Look.{onLook}
 unfoldable pub use Rattle.before.specs.Look.{stays, staysAll, loopOf, judgeOf, lookOn, entryOf}
+pub use Rattle.course.specs.Run.{Steps}
+unfoldable pub use Rattle.course.specs.Run.{runWith}
 
 -- ---- what stays the same through a run
 
@@ -92,7 +94,7 @@ stepOf σ a =
     stepWith σ a (actOf (tape0 σ) (a .write0 .0) (a .dir0)) (actOf (tape1 σ) (a .write1 .0) (a .dir1))
     (actOf (tape2 σ) (a .write2 .0) (a .dir2))
 
--- ---- a run: "halted, never, fuel, space, in that order, before each step"; the stop rule after it
+-- ---- a run: "halted, never, fuel, space, in that order, before each step"; the stop rule after it (course/specs/Run.antt has the order)
 
 pub record End : Type 0 where
   pub at : Conf
@@ -120,13 +122,19 @@ fullEnd σ = end σ (Full (σ .sim .steps))
 abbrev pub stoppedEnd : Conf → End
 stoppedEnd σ = end σ (Stopped (σ .sim .steps))
 
+-- what a run asks of a configuration, and the step
+abbrev pub stepsOf : Task → Steps Conf
+stepsOf k = record {
+  state = λ σ. σ .sim .state;
+  steps = λ σ. σ .sim .steps;
+  look = lookOf k;
+  roomy = roomyOf;
+  stops = λ σ. matches (k .rule) (σ .sim .state);
+  step = stepOf;
+}
+
 unfoldable pub runOf : Task → ℕ → Conf → End
-runOf k zero σ = onLook (lookOf k σ) (haltedEnd σ) (neverEnd σ) (λ a. fuelEnd σ)
-runOf k (suc f) σ =
-    onLook (lookOf k σ) (haltedEnd σ) (neverEnd σ)
-    (λ a.
-    let on : End = runOf k f (stepOf σ a) in
-    pick (roomyOf σ a) (pick (matches (k .rule) (σ .sim .state)) (stoppedEnd (stepOf σ a)) on) (fullEnd σ))
+runOf k f σ = runWith (stepsOf k) end f σ
 
 -- ---- one step, without the tests of never and fuel (without the first, no look is never)
 

@@ -2,7 +2,7 @@
 use mathlib.Core.Path.{_≡_, refl, sym, ap, _∙_}
 use mathlib.Core.Bool.{Bool, true, false}
 use mathlib.Core.List.{List}
-use Prim.Native.Nat.{ℕ, zero, suc, _+_, _-_}
+use Prim.Native.Nat.{ℕ, _+_, _-_}
 use native.Mathlib.Omega.{arith}
 use borrow.Author.Tests.{eq-eqb, ne-eqb}
 use lib.Dec.{eqb}
@@ -24,8 +24,9 @@ use Rattle.sim.specs.declared.Simulator.{Simulator}
 use Rattle.sim.specs.declared.StopRule.the-variants as Rule
 pub use Rattle.before.specs.LookCases.{entry-is}
 use Rattle.before.specs.declared.inner.look.Look.{Look}
+use Rattle.course.specs.RunCases as Course
 use Rattle.before.specs.declared.inner.look.Look.the-variants.{Halt, Never, Go}
-use Rattle.sim.specs.Engine.{Task, Conf, conf, staysAll, loopOf, judgeOf, lookOn, entryOf, lookWith, lookOf, roomsFor, roomyOf, stepOf, matches, End, end, haltedEnd, neverEnd, fuelEnd, fullEnd, stoppedEnd, task, runOf, Once, once, onceOf, statusOf}
+use Rattle.sim.specs.Engine.{Task, Conf, conf, staysAll, loopOf, judgeOf, lookOn, entryOf, lookWith, lookOf, roomsFor, roomyOf, stepOf, matches, End, end, haltedEnd, neverEnd, fuelEnd, fullEnd, stoppedEnd, task, stepsOf, runWith, runOf, Once, once, onceOf, statusOf}
 
 -- ---- the step
 
@@ -50,36 +51,28 @@ rooms-each v n0 n1 n2 a r =
 module _ (k : Task) (σ : Conf) (x : End) where
   pub run-halt : (f : ℕ) → lookOf k σ ≡ Halt → runOf k f σ ≡ x → haltedEnd σ ≡ x
   unfolding runOf
-  run-halt zero e p = simp e at p
-  run-halt (suc f) e p = simp e at p
+  run-halt f e p = Course.run-halt (stepsOf k) end σ x f e p
 
   pub run-never : (f : ℕ) (n : NonHaltProof) → lookOf k σ ≡ Never n → runOf k f σ ≡ x → neverEnd σ n ≡ x
   unfolding runOf
-  run-never zero n e p = simp e at p
-  run-never (suc f) n e p = simp e at p
+  run-never f n e p = Course.run-never (stepsOf k) end σ x f n e p
 
   module _ (a : Action) (go : lookOf k σ ≡ Go a) where
     pub run-fuel : (f : ℕ) → f ≡ 0 → runOf k f σ ≡ x → fuelEnd σ ≡ x
     unfolding runOf
-    run-fuel zero z p = simp go at p
-    run-fuel (suc f) z p = absurd (omega arith)
+    run-fuel f z p = Course.run-fuel (stepsOf k) end σ x a go f z p
 
     pub run-full : (f : ℕ) → (f ≡ 0 → ⊥) → roomyOf σ a ≡ false → runOf k f σ ≡ x → fullEnd σ ≡ x
-    unfolding runOf pick
-    run-full zero n r p = absurd (n refl)
-    run-full (suc f) n r p = simp (go, r) at p
+    unfolding runOf
+    run-full f n r p = Course.run-full (stepsOf k) end σ x a go f n r p
 
     pub run-last : (f : ℕ) → (f ≡ 0 → ⊥) → roomyOf σ a ≡ true → matches (k .rule) (σ .sim .state) ≡ true → runOf k f σ ≡ x → stoppedEnd (stepOf σ a) ≡ x
-    unfolding runOf pick
-    run-last zero n r s p = absurd (n refl)
-    run-last (suc f) n r s p = simp (go, r, s) at p
+    unfolding runOf
+    run-last f n r s p = Course.run-last (stepsOf k) end σ x a go f n r s p
 
     pub run-next : (f : ℕ) → (f ≡ 0 → ⊥) → roomyOf σ a ≡ true → matches (k .rule) (σ .sim .state) ≡ false → runOf k f σ ≡ x → runOf k (f - 1) (stepOf σ a) ≡ x
-    unfolding runOf pick
-    run-next zero n r s p = absurd (n refl)
-    run-next (suc f) n r s p =
-        let e : suc f - 1 ≡ f = omega arith in
-        rw e (simp (go, r, s) at p)
+    unfolding runOf
+    run-next f n r s p = Course.run-next (stepsOf k) end σ x a go f n r s p
 
 -- ---- one step
 
@@ -89,7 +82,7 @@ onceEnd x = once (x .at) (statusOf (x .outcome))
 -- a run that stops after a step from this state is one step
 pub once-run : (m : Machine) (s : List ℕ) (σ : Conf) (x : End) → x ≡ runOf (task m s false (Rule.From (σ .sim .state))) 1 σ
     → once (x .at) (statusOf (x .outcome)) ≡ onceOf m s σ
-unfolding onceOf runOf pick matches
+unfolding onceOf runOf runWith pick matches
 once-run m s σ x e = ap onceEnd e ∙ look (lookWith m s false σ) refl
   where
     stops : eqb (σ .sim .state .0) (σ .sim .state .0) ≡ true

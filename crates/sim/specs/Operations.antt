@@ -20,6 +20,7 @@ use Rattle.tape.specs.Moves.{Held, held, noTape, freshOf}
 use Rattle.tape.specs.Fits.{tapeFits}
 pub use Rattle.before.specs.Sizes.{has1, has2, ifHas, cellsMost, stepsMost, wordRight, blankTape}
 unfoldable pub use Rattle.before.specs.Sizes.{sizesFit, fuelFits, wordsRight, freshSizes, freshCheck}
+use Rattle.course.specs.Answers.{answered}
 use Rattle.sim.specs.declared.Simulator.{Simulator}
 use Rattle.sim.specs.declared.StopRule.{StopRule}
 use Rattle.sim.specs.declared.Answer.{Answer}
@@ -103,8 +104,7 @@ abbrev pub ranBack : Machine → Conf → End → Given
 ranBack m σ e = given (backOf m σ (e .at)) (Ans.Done (e .outcome))
 
 abbrev pub runOn : Checked → Conf → Given → Given
-runOn (Refused why) σ done = given σ (Ans.Refused why)
-runOn Accepted σ done = done
+runOn r σ done = answered given Ans.Refused r σ (done .at) (done .answer)
 
 unfoldable pub runAnswer : Machine → List ℕ → StopRule → ℕ → Conf → Given
 runAnswer m s rule fuel σ =
@@ -128,8 +128,7 @@ abbrev pub stepBack : Machine → Conf → Once → StepGiven
 stepBack m σ o = stepGiven (backOf m σ (o .at)) (StepAns.Done (o .status))
 
 abbrev pub stepOn : Checked → Conf → StepGiven → StepGiven
-stepOn (Refused why) σ done = stepGiven σ (StepAns.Refused why)
-stepOn Accepted σ done = done
+stepOn r σ done = answered stepGiven StepAns.Refused r σ (done .at) (done .answer)
 
 unfoldable pub stepAnswer : Machine → List ℕ → Conf → StepGiven
 stepAnswer m s σ = stepOn (runCheck m s 1 σ) σ (stepBack m σ (onceOf m s (bareOf m σ)))

@@ -22,7 +22,7 @@ impl Simulator {
         if m.states <= q {
             return false;
         }
-        if 4611686018427387904 < self.steps {
+        if !sizes::steps_fit(self.steps) {
             return false;
         }
         if !t0.fits(k, c0) {

@@ -16,7 +16,7 @@ use Rattle.tape.specs.Fits.{tapeFits}
 use Rattle.before.specs.declared.inner.look.Look.{Look}
 use Rattle.before.specs.declared.inner.look.Look.the-variants.{Halt, Never, Go}
 use Rattle.sim.specs.declared.StopRule.the-variants as Rule
-use Rattle.sim.specs.Engine.{Task, task, Conf, conf, onLook, haltedEnd, neverEnd, fuelEnd, lookOf, runOf}
+use Rattle.sim.specs.Engine.{Task, task, Conf, conf, onLook, haltedEnd, neverEnd, fuelEnd, lookOf, runWith, runOf}
 use Rattle.sim.specs.Operations.{has1, has2, stepsMost, sizesFit, bareSim, bareOf, handBack, backOf, valueCheck, engineCheck, fuelFits, fuelCheck, runCheck}
 use Rattle.sim.specs.OperationCases.{Passed, engine-says}
 use Rattle.sim_engine.specs.Advance.{ranFrom, advanceOf}
@@ -132,7 +132,7 @@ module _ (m : Machine) (s : List ℕ) (n : ℕ) (σ : Conf) (checked : engineChe
 -- ---- a run without fuel leaves the engine as it is
 
 stands-at : (k : Task) (σ : Conf) → runOf k 0 σ .at ≡ σ
-unfolding runOf
+unfolding runOf runWith
 stands-at k σ = by (lookOf k σ)
   where
     by : (x : Look) → onLook x (haltedEnd σ) (neverEnd σ) (λ a. fuelEnd σ) .at ≡ σ

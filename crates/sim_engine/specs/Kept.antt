@@ -27,7 +27,7 @@ use Rattle.tape.specs.FitFacts.{fits-says, fits-holds}
 use Rattle.tape.specs.MoveFacts.{none-acts, act-fits, length-act}
 use Rattle.before.specs.declared.inner.look.Look.{Look}
 use Rattle.before.specs.declared.inner.look.Look.the-variants.{Halt, Never, Go}
-use Rattle.sim.specs.Engine.{Task, Conf, tape0, tape1, tape2, End, onLook, loopOf, judgeOf, lookOn, entryOf, lookWith, lookOf, matches, haltedEnd, neverEnd, fuelEnd, fullEnd, stoppedEnd, roomyOf, stepOf, runOf}
+use Rattle.sim.specs.Engine.{Task, Conf, tape0, tape1, tape2, End, onLook, loopOf, judgeOf, lookOn, entryOf, lookWith, lookOf, matches, haltedEnd, neverEnd, fuelEnd, fullEnd, stoppedEnd, roomyOf, stepOf, runWith, runOf}
 use Rattle.sim.specs.EngineCases.{rooms-each}
 use Rattle.sim.specs.Operations.{has1, has2}
 
@@ -183,7 +183,7 @@ module _ (k : Task) (accepted : tableCheck (k .machine) (k .table) ≡ Accepted)
   go-lawful σ a e = entry-lawful (k .machine) (k .table) accepted _ a (look-follows _ _ _ _ a _ _ _ _ e)
 
   pub run-goes : (f : ℕ) (σ : Conf) → Keeps (k .machine) σ → Here f σ (runOf k f σ)
-  unfolding runOf
+  unfolding runOf runWith
   run-goes zero σ s = by (lookOf k σ)
     where
       by : (x : Look) → Here 0 σ (onLook x (haltedEnd σ) (neverEnd σ) (λ a. fuelEnd σ))

@@ -14,7 +14,7 @@ use Rattle.turing.specs.TableMachine.{Config, Halted, Verdict, halts}
 use Rattle.turing.specs.Tables.{tableOf, TableOf}
 use Rattle.before.specs.declared.inner.look.Look.{Look}
 use Rattle.sim.specs.declared.StopRule.the-variants as Rule
-use Rattle.sim.specs.Engine.{Task, task, Conf, End, onLook, matches, haltedEnd, neverEnd, fuelEnd, fullEnd, stoppedEnd, roomyOf, stepOf, runOf}
+use Rattle.sim.specs.Engine.{Task, task, Conf, End, onLook, matches, haltedEnd, neverEnd, fuelEnd, fullEnd, stoppedEnd, roomyOf, stepOf, runWith, runOf}
 use Rattle.sim.specs.Operations.{bareSim, bareOf, backOf}
 use Rattle.sim.specs.OperationCases.{Passed}
 use Rattle.sim_refines.specs.Meaning.{configOf, EngineFits}
@@ -91,7 +91,7 @@ module _ (m : Machine) (s : List ℕ) (table : TableOf m (tableOf m s)) where
   step-counted σ a = refl
 
   ran : (n : ℕ) (σ : Conf) → EngineFits m σ → σ .sim .steps + n ≤ 2 ^ 62 → Ran n σ (runOf quiet n σ)
-  unfolding runOf matches
+  unfolding runOf runWith matches
   ran zero σ f small = by (look-sees quiet σ f)
     where
       by : {x : Look} → Sees quiet (heldBy quiet σ) x → Ran 0 σ (onLook x (haltedEnd σ) (neverEnd σ) (λ a. fuelEnd σ))

@@ -16,7 +16,7 @@ use Rattle.turing.specs.Tables.{TableOf}
 use Rattle.turing.specs.RunFacts.{not-defined, step-act}
 use Rattle.turing.specs.TableFacts.{accepted-table}
 use Rattle.before.specs.declared.inner.look.Look.{Look}
-use Rattle.sim.specs.Engine.{Task, task, Conf, End, end, onLook, matches, haltedEnd, neverEnd, fuelEnd, fullEnd, stoppedEnd, roomyOf, stepOf, runOf}
+use Rattle.sim.specs.Engine.{Task, task, Conf, End, end, onLook, matches, haltedEnd, neverEnd, fuelEnd, fullEnd, stoppedEnd, roomyOf, stepOf, runWith, runOf}
 use Rattle.sim_refines.specs.Meaning.{EngineFits}
 use Rattle.sim_refines.specs.Statement.{tableIn, heldBy, after, Judged, Unproved, leavesRule, Sees, no-entry, loops, goes-on, Kept, Went, Answers, verdict, halted, spent, stopped, full, Refines, PlainRefines}
 use Rattle.sim_refines.specs.StepFacts.{step-config, step-keeps}
@@ -144,7 +144,7 @@ module _ (k : Task) (σ : Conf) (f : EngineFits (k .machine) σ) (table : TableO
 
 module _ (k : Task) (table : TableOf (k .machine) (tableIn k)) where
   run-refines : (fuel : ℕ) (σ : Conf) → EngineFits (k .machine) σ → σ .sim .steps + fuel ≤ 2 ^ 62 → Refines k fuel σ (runOf k fuel σ)
-  unfolding runOf
+  unfolding runOf runWith
   run-refines zero σ f small = by (look-sees k σ f)
     where
       by : {x : Look} → Sees k (heldBy k σ) x → Refines k 0 σ (onLook x (haltedEnd σ) (neverEnd σ) (λ a. fuelEnd σ))

@@ -25,7 +25,7 @@ use Rattle.turing.specs.TableFacts.{accepted-table}
 use Rattle.sim.specs.declared.StopRule.{StopRule}
 use Rattle.before.specs.declared.inner.look.Look.{Look}
 use Rattle.before.specs.declared.inner.look.Look.the-variants.{Halt, Never, Go}
-use Rattle.sim.specs.Engine.{Task, task, Conf, End, onLook, matches, haltedEnd, neverEnd, fuelEnd, fullEnd, stoppedEnd, roomyOf, lookOf, stepOf, runOf}
+use Rattle.sim.specs.Engine.{Task, task, Conf, End, onLook, matches, haltedEnd, neverEnd, fuelEnd, fullEnd, stoppedEnd, roomyOf, lookOf, stepOf, runWith, runOf}
 use Rattle.sim_refines.specs.Meaning.{configOf, EngineFits}
 use Rattle.sim_refines.specs.Statement.{heldBy, Judged, Sees, no-entry, loops, goes-on, Answers, verdict, Refines}
 use Rattle.sim_refines.specs.StepFacts.{bare-config}
@@ -36,7 +36,7 @@ use Rattle.sim_refines.specs.Refinement.{plain-refines}
 
 module _ (k : Task) (proves : k .proves ≡ true) (σ : Conf) (fits : EngineFits (k .machine) σ) where
   no-fuel-verdict : Judged k (heldBy k σ) (runOf k 0 σ .outcome)
-  unfolding runOf
+  unfolding runOf runWith
   no-fuel-verdict = by (look-sees k σ fits)
     where
       by : {x : Look} → Sees k (heldBy k σ) x → Judged k (heldBy k σ) (onLook x (haltedEnd σ) (neverEnd σ) (λ a. fuelEnd σ) .outcome)
@@ -75,7 +75,7 @@ module _ (m : Machine) (s : List ℕ) (bytes : Bytes s) (accepted : tableCheck m
 -- ---- two runs in a row
 
 pub run-twice : (k : Task) (a b : ℕ) (σ : Conf) (n : ℕ) → runOf k a σ .outcome ≡ OutOfFuel n → runOf k b (runOf k a σ .at) ≡ runOf k (a + b) σ
-unfolding runOf pick
+unfolding runOf runWith pick
 run-twice k zero b σ n = rw zero-add (by (lookOf k σ))
   where
     by : (x : Look) → onLook x (haltedEnd σ) (neverEnd σ) (λ c. fuelEnd σ) .outcome ≡ OutOfFuel n → runOf k b (onLook x (haltedEnd σ) (neverEnd σ) (λ c. fuelEnd σ) .at) ≡ runOf k b σ

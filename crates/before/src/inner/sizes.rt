@@ -12,7 +12,7 @@ ghost use Rattle.laws.specs.Choice.{pick};
 ghost use Rattle.machine.specs.Check.{within};
 ghost use Rattle.tape.specs.Fits.{tapeFits};
 ghost use Rattle.tape.specs.Moves.{held};
-ghost use Rattle.before.specs.Sizes.{ifHas, cellsMost, sizesFit, fuelFits, freshSizes, freshCheck, blankTape};
+ghost use Rattle.before.specs.Sizes.{ifHas, cellsMost, stepsMost, sizesFit, fuelFits, freshSizes, freshCheck, blankTape};
 
 fn size_fits(has: bool, n: usize) -> bool
     ensures { λ r. ⌜ r ≡ ifHas has (leb n cellsMost) ⌝ }
@@ -42,6 +42,13 @@ pub fn tape_fits(has: bool, k: u64, t: Tape, cells: &[u8]) -> bool
         return t.fits(k, cells);
     }
     true
+}
+
+// Whether an engine may have made so many steps.
+pub fn steps_fit(made: u64) -> bool
+    ensures { λ r. ⌜ r ≡ leb made stepsMost ⌝ }
+{
+    made <= 4611686018427387904
 }
 
 pub fn fuel_fits(steps: u64, fuel: u64) -> bool

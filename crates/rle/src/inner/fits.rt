@@ -1,5 +1,6 @@
 // The parts of the test whether an engine's value fits that look at the value alone.
 use super::super::ChainSim;
+use before::inner::sizes;
 use machine::Machine;
 ghost use mathlib.Core.Path.{_≡_};
 ghost use Prim.Native.Nat.{_+_, _≤_};
@@ -15,7 +16,7 @@ impl ChainSim {
         if m.states <= state {
             return false;
         }
-        if 4611686018427387904 < self.steps {
+        if !sizes::steps_fit(self.steps) {
             return false;
         }
         if self.steps < self.macros {

@@ -7,8 +7,8 @@ ghost use mathlib.Core.Path.{_≡_};
 ghost use Prim.Native.Nat.{_+_, _-_, _≤_};
 ghost use lib.ListN.{length, getD};
 ghost use Rattle.stacks.specs.Sides.{side, placesOf};
-ghost use Rattle.spans.specs.Words.{laidOf, runsOf, freshSizes, freshCheck};
-ghost use Rattle.spans.specs.WordCases.{moreOf};
+ghost use Rattle.tally.specs.Words.{wordOf, runsOf, freshSizes, freshCheck};
+ghost use Rattle.tally.specs.WordCases.{moreOf};
 
 // A run more where a symbol differs from the one on top.
 fn more(count: usize, top: u8, s: u8) -> usize
@@ -41,7 +41,7 @@ fn runs_in(word: &[u8]) -> usize
 pub fn lay(symbols: &mut [u8], lengths: &mut [u64], word: &[u8]) -> usize
     requires { ⌜ length (now word) ≤ 1048576 ⌝ }
     requires { ⌜ runsOf (now word) (length (now word) - 1) 0 0 ≤ placesOf (now symbols) (now lengths) ⌝ }
-    ensures { λ r. ⌜ side (now (symbols .exit)) (now (lengths .exit)) r ≡ laidOf (now (word .entry)) (length (now (word .entry)) - 1) (side (now (symbols .entry)) (now (lengths .entry)) 0) ⌝ }
+    ensures { λ r. ⌜ side (now (symbols .exit)) (now (lengths .exit)) r ≡ wordOf (now (word .entry)) (side (now (symbols .entry)) (now (lengths .entry)) 0) ⌝ }
 {
     let mut i = word.len();
     let mut count = 0;

@@ -1,4 +1,4 @@
-use Rattle.laws.specs.Tests.{tests}
+use Rattle.laws.specs.Tests.{tests, via}
 use Rattle.rle.specs.Fits.{countsFit}
 use borrow.Author.Needs.{needs}
 use Rattle.rle.proofs.ChainSim.counts_fit.Statement.{statement}
@@ -14,17 +14,20 @@ returns : tie.Need-returns
 unfolding countsFit
 returns c = search tests
 
+steps-fit-requires : tie.Need-steps-fit-requires
+steps-fit-requires c κs = search needs
+
 returns-2 : tie.Need-returns-2
 unfolding countsFit
-returns-2 c = search tests
+returns-2 c = search (tests, via) depth 9
 
 returns-3 : tie.Need-returns-3
 unfolding countsFit
-returns-3 c = search tests
+returns-3 c = search (tests, via) depth 9
 
 returns-4 : tie.Need-returns-4
 unfolding countsFit
-returns-4 c = search tests
+returns-4 c = search (tests, via) depth 9
 
 pub counts-fit-spec : {M : Type 1} → statement M
-counts-fit-spec = tie.close (tie.spec cast-state cast-cur returns returns-2 returns-3 returns-4)
+counts-fit-spec = tie.close (tie.spec cast-state cast-cur returns steps-fit-requires returns-2 returns-3 returns-4)

@@ -11,6 +11,9 @@ returns : tie.Need-returns
 unfolding simFits
 returns c = search (tests, via) depth 9
 
+steps-fit-requires : tie.Need-steps-fit-requires
+steps-fit-requires c κs = search needs
+
 returns-2 : tie.Need-returns-2
 unfolding simFits
 returns-2 c = search (tests, via) depth 9
@@ -42,6 +45,7 @@ fits-spec =
     (tie.spec
     cast-q
     returns
+    steps-fit-requires
     returns-2
     fits-requires
     returns-3

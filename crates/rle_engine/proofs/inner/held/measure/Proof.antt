@@ -1,4 +1,4 @@
-use Rattle.rle.specs.FitsCases.{measure-places, measure-runs, measure-sum}
+use Rattle.tally.specs.SumCases.{measure-places, measure-runs, measure-sum}
 use borrow.Author.Tests.{not-true, not-false}
 use native.Mathlib.Omega.{arith}
 use borrow.Author.Needs.{needs}

@@ -1,4 +1,4 @@
-use Rattle.spans.specs.WordCases.{first-none}
+use Rattle.tally.specs.WordCases.{first-none}
 use borrow.Author.Needs.{needs}
 use Rattle.spans.proofs.inner.word.first.Statement.{statement}
 use Rattle.spans.proofs.inner.word.first.Tie as tie

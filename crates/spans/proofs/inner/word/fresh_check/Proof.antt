@@ -1,7 +1,7 @@
 use borrow.Author.Tests.{not-true, not-false}
 use mathlib.Core.Path.{sym, _∙_}
 use Rattle.machine.specs.WordFacts.{word-says}
-use Rattle.spans.specs.WordCases.{fresh-table, fresh-tapes, fresh-word, fresh-small, fresh-passed}
+use Rattle.tally.specs.WordCases.{fresh-table, fresh-tapes, fresh-word, fresh-small, fresh-passed}
 use borrow.Author.Needs.{needs}
 use Rattle.spans.proofs.inner.word.fresh_check.Statement.{statement}
 use Rattle.spans.proofs.inner.word.fresh_check.Tie as tie

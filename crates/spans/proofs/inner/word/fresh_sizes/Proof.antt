@@ -1,4 +1,4 @@
-use Rattle.spans.specs.WordCases.{sizes-left, sizes-right, sizes-runs}
+use Rattle.tally.specs.WordCases.{sizes-left, sizes-right, sizes-runs}
 use borrow.Author.Needs.{needs}
 use Rattle.spans.proofs.inner.word.fresh_sizes.Statement.{statement}
 use Rattle.spans.proofs.inner.word.fresh_sizes.Tie as tie

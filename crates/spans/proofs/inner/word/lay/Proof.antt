@@ -1,7 +1,7 @@
 use native.Mathlib.Omega.{arith}
 use borrow.Author.Needs.{needs}
 use Rattle.stacks.specs.Sides.{side, placesOf}
-use Rattle.spans.specs.WordCases.{Laying, laying-start, laying-asks, laying-on, laying-end}
+use Rattle.tally.specs.WordCases.{Laying, laying-start, laying-asks, laying-on, laying-end}
 use Rattle.spans.proofs.inner.word.lay.Statement.{statement}
 use Rattle.spans.proofs.inner.word.lay.Tie as tie
 

@@ -3,8 +3,8 @@ use Prim.Native.Nat.{_+_, _-_, _≤_}
 use mathlib.Core.Path.{_≡_, refl}
 use lib.ListN.{length}
 use borrow.Author.Needs.{needs}
-use Rattle.spans.specs.Words.{runsOf}
-use Rattle.spans.specs.WordCases.{runs-next, runs-end}
+use Rattle.tally.specs.Words.{runsOf}
+use Rattle.tally.specs.WordCases.{runs-next, runs-end}
 use Rattle.spans.proofs.inner.word.runs_in.Statement.{statement}
 use Rattle.spans.proofs.inner.word.runs_in.Tie as tie
 

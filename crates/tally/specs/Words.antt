@@ -12,15 +12,16 @@ use Rattle.machine.specs.declared.Checked.the-variants.{Accepted}
 use Rattle.machine.specs.Check.{demand, checkedOn, tableCheck}
 use Rattle.machine.specs.Word.{wordCheck}
 use Rattle.stacks.specs.Sides.{Side, pushOf}
-
--- a word's most symbols, and a side's most places
-abbrev pub slack : ℕ
-slack = 1048576
+use Rattle.tally.specs.Sums.{slack}
 
 -- symbols n to 1 of the word are pushed, in this order
 unfoldable pub laidOf : List ℕ → ℕ → Side → Side
 laidOf w zero x = x
 laidOf w (suc n) x = laidOf w n (pushOf (getD w (suc n) 0) 1 x)
+
+-- the word past its first symbol, which stands under the head
+abbrev pub wordOf : List ℕ → Side → Side
+wordOf w x = laidOf w (length w - 1) x
 
 -- how many runs that makes of a side of `count` with symbol `top` on top
 unfoldable pub runsOf : List ℕ → ℕ → (top count : ℕ) → ℕ

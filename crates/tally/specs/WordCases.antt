@@ -20,7 +20,7 @@ use Rattle.machine.specs.Word.{wordCheck}
 use Rattle.stacks.specs.Sides.{Side, side, placesOf, symbolUnder, topOf, grownOf, pushOf, lacks, sumOf}
 use Rattle.stacks.specs.SideCases.{has-place}
 use Rattle.stacks.specs.SideFacts.{SideOk, SameLengths, push-ok, push-same}
-use Rattle.spans.specs.Words.{laidOf, runsOf, freshSizes, freshCheck}
+use Rattle.tally.specs.Words.{laidOf, wordOf, runsOf, freshSizes, freshCheck}
 
 abbrev pub moreOf : (count top s : ℕ) → ℕ
 moreOf count top s = pick (eqb s top) count (count + 1)
@@ -126,7 +126,7 @@ pub record Laying (w : List ℕ) (p : ℕ) (x₀ x : Side) (i : ℕ) : Type 0 wh
   pub places : p ≡ placesOf (x .symbols) (x .lengths)
   pub runs : runsOf w (i - 1) (topOf x) (x .count) ≤ p
   pub sizes : SameLengths x₀ x
-  pub laid : laidOf w (i - 1) x ≡ laidOf w (length w - 1) x₀
+  pub laid : laidOf w (i - 1) x ≡ wordOf w x₀
 
 pub laying-start : (w ss ls : List ℕ) → runsOf w (length w - 1) 0 0 ≤ placesOf ss ls → Laying w (placesOf ss ls) (side ss ls 0) (side ss ls 0) (length w)
 unfolding symbolUnder sumOf pick
@@ -181,7 +181,7 @@ laying-asks w ss ls p n i x₀ g h b = (
   ),
 )
 
-pub laying-end : (w : List ℕ) (p : ℕ) (x₀ x : Side) (i : ℕ) → Laying w p x₀ x i → i ≤ 1 → x ≡ laidOf w (length w - 1) x₀
+pub laying-end : (w : List ℕ) (p : ℕ) (x₀ x : Side) (i : ℕ) → Laying w p x₀ x i → i ≤ 1 → x ≡ wordOf w x₀
 laying-end w p x₀ x i g h =
     let z : i - 1 ≡ 0 = omega arith in
     sym (laid-none w x) ∙ sym (ap (λ (j : ℕ). laidOf w j x) z) ∙ g .laid

@@ -1,0 +1,4 @@
+pub mod Run
+pub mod RunCases
+pub mod Answers
+pub mod AnswerCases
