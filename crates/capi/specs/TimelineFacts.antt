@@ -1,17 +1,14 @@
 -- A timeline's exported calls: from what the operation and the stores say to the call. Assumes nothing.
-use mathlib.Core.Path.{_≡_, refl, _∙_, ap}
+use mathlib.Core.Path.{_≡_, refl}
 use mathlib.Core.List.{List}
 use Prim.Native.Nat.{ℕ}
-use borrow.Author.Tests.{eq-eqb, ne-eqb}
-use Rattle.laws.specs.Tests.{pick-yes, pick-no}
 use Rattle.outcome.specs.declared.Outcome.{Outcome}
 use Rattle.outcome.specs.declared.Refusal.{Refusal}
 use Rattle.outcome.specs.Numbers.{refusalNumber}
-use Rattle.machine.specs.declared.Machine.{Machine}
 use Rattle.sim.specs.declared.Answer.{Answer}
 use Rattle.sim.specs.declared.Answer.the-variants as Ans
-use Rattle.times.specs.Timeline.{Reply, seek, forward, back}
-use Rattle.times.specs.Kind.{Kind, WorldOf, callOn}
+use Rattle.times.specs.Timeline.{Reply}
+use Rattle.times.specs.Kind.{WorldOf}
 use Rattle.sim_engine.specs.Kind.{plainKind}
 use Rattle.sim_timeline.specs.declared.Timeline.{Timeline}
 use Rattle.sim_timeline.specs.declared.Begun.{Begun}
@@ -19,24 +16,7 @@ use Rattle.sim_timeline.specs.declared.Begun.the-variants as New
 use Rattle.sim_timeline.specs.Worlds.{W, replied, begun}
 use Rattle.numbers.specs.Engines.{withEngine, withTimes}
 use Rattle.numbers.specs.Answers.{refusedOut, answerCode, answerOut}
-use Rattle.capi.specs.Timelines.{callFor, timelineNew, timelineNewCall, timelineCall, movedCall}
-
--- ---- which call was made, over either engine
-
-module _ (X : Kind) (m : Machine) (s : List ℕ) (w : WorldOf X) (y : Reply Outcome × WorldOf X) (k n : ℕ) where
-  pub was-seek : k ≡ 0 → y ≡ callOn X m s w (seek n) → y ≡ callOn X m s w (callFor k n)
-  unfolding callFor
-  was-seek z e = e ∙ ap (callOn X m s w) (pick-yes _ _ _ _ (eq-eqb k 0 z) refl)
-
-  pub was-forward : (k ≡ 0 → ⊥) → k ≡ 1 → y ≡ callOn X m s w (forward n) → y ≡ callOn X m s w (callFor k n)
-  unfolding callFor
-  was-forward h z e = e ∙ ap (callOn X m s w) (pick-no _ _ _ _ (ne-eqb k 0 h) (pick-yes _ _ _ _ (eq-eqb k 1 z) refl))
-
-  pub was-back : (k ≡ 0 → ⊥) → (k ≡ 1 → ⊥) → y ≡ callOn X m s w (back n) → y ≡ callOn X m s w (callFor k n)
-  unfolding callFor
-  was-back h g e = e ∙ ap (callOn X m s w) (pick-no _ _ _ _ (ne-eqb k 0 h) (pick-no _ _ _ _ (ne-eqb k 1 g) refl))
-
--- ---- over the plain engine
+use Rattle.capi.specs.Timelines.{timelineNew, timelineNewCall, timelineCall, movedCall}
 
 pub timeline-called : (v : Timeline) (d0 d1 d2 t xs ys us ws out o : List ℕ) (n : ℕ) (g : Reply Outcome × WorldOf plainKind) (a : Answer)
     → ys ≡ withEngine xs (v .engine) → ws ≡ withTimes us (v .times) → replied a (W v d0 d1 d2 t) ≡ g

@@ -1,21 +1,15 @@
 -- What the exported calls of a timeline leave behind, and those over the plain engine. Definitions only.
 use mathlib.Core.List.{List}
 use Prim.Native.Nat.{ℕ}
-use lib.Dec.{eqb}
-use Rattle.laws.specs.Choice.{pick}
 use Rattle.outcome.specs.declared.Outcome.{Outcome}
 use Rattle.outcome.specs.Numbers.{refusalNumber, valuesOf}
-use Rattle.times.specs.Timeline.{Call, seek, forward, back, Reply, refused, answered}
+use Rattle.times.specs.Timeline.{Reply, refused, answered}
 use Rattle.times.specs.Kind.{Kind, WorldOf}
 use Rattle.sim_engine.specs.Kind.{plainKind}
 use Rattle.numbers.specs.Engines.{withEngine, withTimes}
 use Rattle.numbers.specs.Answers.{refusedOut, valuesOut}
 
 -- ---- over either engine
-
--- the call meant by two numbers: 0 seek, 1 forward, else back
-unfoldable pub callFor : (which number : ℕ) → Call
-callFor which number = pick (eqb which 0) (seek number) (pick (eqb which 1) (forward number) (back number))
 
 abbrev pub replyCode : Reply Outcome → ℕ
 replyCode (refused why) = refusalNumber why

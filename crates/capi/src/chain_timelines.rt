@@ -1,17 +1,17 @@
 // A timeline over the run-length engine: a new one, and its calls. Its store of slots is lent as the runs are.
-use machine::Machine;
+use calls::chain;
 use numbers::answers;
 use numbers::engines;
-use rle_timeline::Answered;
 use rle_timeline::Begun;
 use rle_timeline::Timeline;
 ghost use mathlib.Core.Path.{_≡_};
 ghost use Rattle.rle.specs.Engine.{conf};
 ghost use Rattle.times.specs.Kind.{callOn, newWith};
 ghost use Rattle.rle_engine.specs.Kind.{chainKind};
-ghost use Rattle.rle_timeline.specs.Worlds.{W, tl, replied};
+ghost use Rattle.rle_timeline.specs.Worlds.{W, tl};
 ghost use Rattle.numbers.specs.Engines.{machineOf, chainOf, timesFrom};
-ghost use Rattle.capi.specs.Timelines.{callFor, timelineNew, timelineNewCall};
+ghost use Rattle.calls.specs.Which.{callFor};
+ghost use Rattle.capi.specs.Timelines.{timelineNew, timelineNewCall};
 ghost use Rattle.capi.specs.ChainTimelines.{chainTimelineCall, chainMovedCall};
 
 #[no_mangle]
@@ -50,30 +50,6 @@ pub extern "C" fn tm_chain_timeline_new(
     }
 }
 
-// Seek for 0, forward for 1, else back.
-fn moved(
-    timeline: Timeline,
-    m: Machine,
-    table: &[u8],
-    ls: &mut [u8],
-    ll: &mut [u64],
-    rs: &mut [u8],
-    rl: &mut [u64],
-    store: &mut [u8],
-    which: u8,
-    number: u64,
-) -> Answered
-    ensures { λ r. ⌜ replied (r .answer) (W (r .timeline) (now (ls .exit)) (now (ll .exit)) (now (rs .exit)) (now (rl .exit)) (now (store .exit))) ≡ callOn chainKind m (now (table .entry)) (W timeline (now (ls .entry)) (now (ll .entry)) (now (rs .entry)) (now (rl .entry)) (now (store .entry))) (callFor which number) ⌝ }
-{
-    if which == 0 {
-        return timeline.seek(m, table, ls, ll, rs, rl, store, number);
-    }
-    if which == 1 {
-        return timeline.forward(m, table, ls, ll, rs, rl, store, number);
-    }
-    timeline.back(m, table, ls, ll, rs, rl, store, number)
-}
-
 #[no_mangle]
 pub extern "C" fn tm_chain_timeline_call(
     tapes: u64,
@@ -101,7 +77,7 @@ pub extern "C" fn tm_chain_timeline_call(
         engine: engines::chain_of(*state, *cur, engine),
         times: engines::times_of(times),
     };
-    let answered = moved(timeline, m, table, ls, ll, rs, rl, store, which, number);
+    let answered = chain::moved(timeline, m, table, ls, ll, rs, rl, store, which, number);
     let after = answered.timeline;
     let answer = answered.answer;
     let sim = after.engine;

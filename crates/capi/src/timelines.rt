@@ -1,17 +1,17 @@
 // A timeline over the plain engine: a new one, and its calls. Its store of slots is lent as the cells are.
-use machine::Machine;
+use calls::plain;
 use numbers::answers;
 use numbers::engines;
-use sim_timeline::Answered;
 use sim_timeline::Begun;
 use sim_timeline::Timeline;
 ghost use mathlib.Core.Path.{_≡_};
 ghost use Rattle.sim.specs.Engine.{conf};
 ghost use Rattle.times.specs.Kind.{callOn, newWith};
 ghost use Rattle.sim_engine.specs.Kind.{plainKind};
-ghost use Rattle.sim_timeline.specs.Worlds.{W, tl, replied};
+ghost use Rattle.sim_timeline.specs.Worlds.{W, tl};
 ghost use Rattle.numbers.specs.Engines.{machineOf, engineOf, timesFrom};
-ghost use Rattle.capi.specs.Timelines.{callFor, timelineNew, timelineNewCall, timelineCall, movedCall};
+ghost use Rattle.calls.specs.Which.{callFor};
+ghost use Rattle.capi.specs.Timelines.{timelineNew, timelineNewCall, timelineCall, movedCall};
 
 #[no_mangle]
 pub extern "C" fn tm_sim_timeline_new(
@@ -47,29 +47,6 @@ pub extern "C" fn tm_sim_timeline_new(
     }
 }
 
-// Seek for 0, forward for 1, else back.
-fn moved(
-    timeline: Timeline,
-    m: Machine,
-    table: &[u8],
-    c0: &mut [u8],
-    c1: &mut [u8],
-    c2: &mut [u8],
-    store: &mut [u8],
-    which: u8,
-    number: u64,
-) -> Answered
-    ensures { λ r. ⌜ replied (r .answer) (W (r .timeline) (now (c0 .exit)) (now (c1 .exit)) (now (c2 .exit)) (now (store .exit))) ≡ callOn plainKind m (now (table .entry)) (W timeline (now (c0 .entry)) (now (c1 .entry)) (now (c2 .entry)) (now (store .entry))) (callFor which number) ⌝ }
-{
-    if which == 0 {
-        return timeline.seek(m, table, c0, c1, c2, store, number);
-    }
-    if which == 1 {
-        return timeline.forward(m, table, c0, c1, c2, store, number);
-    }
-    timeline.back(m, table, c0, c1, c2, store, number)
-}
-
 #[no_mangle]
 pub extern "C" fn tm_sim_timeline_call(
     tapes: u64,
@@ -95,7 +72,7 @@ pub extern "C" fn tm_sim_timeline_call(
         engine: engines::engine_of(*state, engine),
         times: engines::times_of(times),
     };
-    let answered = moved(timeline, m, table, c0, c1, c2, store, which, number);
+    let answered = plain::moved(timeline, m, table, c0, c1, c2, store, which, number);
     let after = answered.timeline;
     let answer = answered.answer;
     let sim = after.engine;

@@ -2,10 +2,10 @@
 use mathlib.Core.Bool.{Bool}
 use mathlib.Core.Option.{Option, none, some}
 use mathlib.Core.List.{List}
-use Prim.Native.Nat.{ℕ, _+_, _*_, _/_, _%_}
-use lib.Dec.{eqb, ltb, leb}
+use Prim.Native.Nat.{ℕ, _*_}
+use lib.Dec.{eqb, ltb}
 use lib.ListN.{length}
-use Rattle.laws.specs.Choice.{pick, both}
+use Rattle.laws.specs.Choice.{pick}
 use Rattle.laws.specs.Scan.{allIn, firstFail}
 use Rattle.symbol.specs.declared.Symbol.{Symbol}
 use Rattle.symbol.specs.declared.State.{State}
@@ -16,10 +16,9 @@ use Rattle.machine.specs.declared.Checked.{Checked}
 use Rattle.machine.specs.declared.Checked.the-variants.{Accepted, Refused}
 use Rattle.machine.specs.declared.Looked.{Looked}
 use Rattle.machine.specs.declared.Looked.the-variants as Look
-use Rattle.machine.specs.Layout.{strideOf, entryCount, entryNumber, flagAt, byteAt, entryAt}
-
-abbrev pub within : ℕ → ℕ → ℕ → Bool
-within low high x = both (leb low x) (leb x high)
+use Rattle.machine.specs.Layout.{strideOf, entryCount, entryNumber, flagAt, entryAt}
+use Rattle.entries.specs.Entries.{definedFor}
+pub use Rattle.entries.specs.Entries.{within, zeroAt, headOk, tapeOk, writesOk}
 
 -- where the test fails the refusal, else the rest
 abbrev pub demand : Bool → Refusal → Checked → Checked
@@ -32,27 +31,8 @@ checkedOn Accepted rest = rest
 
 -- ---- one entry
 
-abbrev pub zeroAt : List ℕ → ℕ → ℕ → Bool
-zeroAt s i j = eqb (byteAt s i j) 0
-
--- what stands in a defined entry beside its writes
-abbrev pub headOk : (n b0 next moves b7 : ℕ) → Bool
-headOk n b0 next moves b7 = both (eqb b0 1) (both (ltb next n) (both (ltb moves 27) (eqb b7 0)))
-
--- a tape's write is a symbol; where the machine lacks the tape, blank and N
-abbrev pub tapeOk : (has : Bool) (k write move : ℕ) → Bool
-tapeOk has k write move = pick has (ltb write k) (both (eqb write 0) (eqb move 2))
-
-abbrev pub writesOk : (t k w0 w1 w2 moves : ℕ) → Bool
-writesOk t k w0 w1 w2 moves =
-    both (ltb w0 k)
-    (both (tapeOk (ltb 1 t) k w1 (moves / 3 % 3)) (tapeOk (ltb 2 t) k w2 (moves / 9 % 3)))
-
 unfoldable pub definedOk : Machine → List ℕ → ℕ → Bool
-definedOk m s i =
-    both
-    (headOk (m .states) (flagAt s i) (byteAt s i 1 + 256 * byteAt s i 2) (byteAt s i 6) (byteAt s i 7))
-    (writesOk (m .tapes) (m .symbols) (byteAt s i 3) (byteAt s i 4) (byteAt s i 5) (byteAt s i 6))
+definedOk m s i = definedFor (m .states) (m .tapes) (m .symbols) s i
 
 -- an undefined entry is eight zeros
 unfoldable pub entryOk : Machine → List ℕ → ℕ → Bool

@@ -2,7 +2,7 @@
 use mathlib.Core.List.{List}
 use Prim.Native.Nat.{ℕ, _+_, _*_, _/_, _%_, _^_}
 use lib.Dec.{eqb, ltb}
-use lib.ListN.{length, getD}
+use lib.ListN.{length}
 use Rattle.laws.specs.Choice.{pick, both}
 use Rattle.symbol.specs.Kinds.{symbolOf, stateOf}
 use Rattle.symbol.specs.declared.Symbol.{Symbol}
@@ -13,6 +13,7 @@ use Rattle.machine.specs.declared.Machine.{Machine}
 use Rattle.machine.specs.declared.Action.{Action}
 use Rattle.machine.specs.declared.Entry.{Entry}
 use Rattle.machine.specs.declared.Entry.the-variants.{Undefined, Defined}
+pub use Rattle.entries.specs.Entries.{entryNumber, flagAt, byteAt}
 
 -- "With n states, k symbols and t tapes the stride is k^t."
 abbrev pub strideOf : Machine → ℕ
@@ -20,18 +21,6 @@ strideOf m = m .symbols ^ m .tapes
 
 abbrev pub entryCount : Machine → ℕ
 entryCount m = m .states * strideOf m
-
--- "The entry for state q and symbols a0, a1, a2 is number q × stride + a0 + k × a1 + k² × a2."
-abbrev pub entryNumber : (k stride q a0 a1 a2 : ℕ) → ℕ
-entryNumber k stride q a0 a1 a2 = q * stride + a0 + k * a1 + k * k * a2
-
--- byte 0 of entry i: "1 for a defined entry"
-abbrev pub flagAt : List ℕ → ℕ → ℕ
-flagAt s i = getD s (8 * i) 0
-
--- byte j of entry i
-abbrev pub byteAt : List ℕ → ℕ → ℕ → ℕ
-byteAt s i j = getD s (8 * i + j) 0
 
 -- "L 0, R 1, N 2"
 abbrev pub dirOf : ℕ → Dir

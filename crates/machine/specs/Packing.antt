@@ -1,7 +1,7 @@
 -- Packed words (document 01, machine.rs), and the packing of a table. Definitions only.
 use mathlib.Core.List.{List}
-use Prim.Native.Nat.{ℕ, _+_, _*_, _/_, _%_, _^_}
-use lib.Dec.{eqb, ltb, leb}
+use Prim.Native.Nat.{ℕ, _/_, _%_, _^_}
+use lib.Dec.{eqb, leb}
 use lib.ListN.{length}
 use Rattle.laws.specs.Choice.{pick}
 use Rattle.laws.specs.Fill.{fillFrom}
@@ -16,21 +16,15 @@ use Rattle.machine.specs.declared.Checked.{Checked}
 use Rattle.machine.specs.declared.Checked.the-variants.{Accepted, Refused}
 use Rattle.machine.specs.Layout.{entryCount, dirOf, entryAt, singleOf}
 use Rattle.machine.specs.Check.{demand, checkedOn, tableCheck}
-
--- "d0 + 256 × write + 65,536 × next + 2^32 × next × stride"
-abbrev pub wordOf : (d0 write next stride : ℕ) → ℕ
-wordOf d0 write next stride = d0 + 256 * write + 65536 * next + 2 ^ 32 * (next * stride)
+pub use Rattle.entries.specs.Words.{wordOf, wordFor}
 
 -- "undefined is 3"
 abbrev pub undefinedWord : ℕ
 undefinedWord = 3
 
--- the word of an action; one whose row passes 32 bits is packed as undefined, as in the Rust
+-- the word of an action
 unfoldable pub actionWord : Action → ℕ → ℕ
-actionWord a stride =
-    pick (ltb (a .next .0 * stride) (2 ^ 32))
-    (wordOf (dirNumber (a .dir0)) (a .write0 .0) (a .next .0) stride)
-    undefinedWord
+actionWord a stride = wordFor undefinedWord (dirNumber (a .dir0)) (a .write0 .0) (a .next .0) stride
 
 abbrev pub packWord : Entry → ℕ → ℕ
 packWord Undefined stride = undefinedWord

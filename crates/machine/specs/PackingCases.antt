@@ -2,10 +2,8 @@
 use mathlib.Core.Path.{_≡_, sym, ap, _∙_}
 use mathlib.Core.Bool.{Bool, true, false, not}
 use mathlib.Core.List.{List}
-use Prim.Native.Nat.{ℕ, _+_, _*_, _-_, _^_, _≤_, _<_}
-use native.Mathlib.Nat.{mul-le-mul, one-mul, zero-mul}
-use native.Mathlib.Omega.{arith}
-use borrow.Author.Tests.{lt-ltb, le-ltb, le-leb, lt-leb, eq-eqb, ne-eqb, not-true, not-false}
+use Prim.Native.Nat.{ℕ, _+_, _*_, _-_, _≤_, _<_}
+use borrow.Author.Tests.{le-leb, lt-leb, eq-eqb, ne-eqb, not-true, not-false}
 use lib.Dec.{eqb}
 use lib.ListN.{length, set}
 use Rattle.laws.specs.Choice.{pick}
@@ -25,37 +23,14 @@ use Rattle.machine.specs.declared.Checked.{Checked}
 use Rattle.machine.specs.declared.Checked.the-variants.{Accepted, Refused}
 use Rattle.machine.specs.Layout.{entryCount, entryAt, singleOf}
 use Rattle.machine.specs.Check.{tableCheck}
-use Rattle.machine.specs.Packing.{undefinedWord, actionWord, packWord, wordAt, wordDir, wordWrite, wordNext, wordAction, wordEntry, packCheck, packInto}
+use Rattle.machine.specs.Packing.{undefinedWord, wordFor, actionWord, packWord, wordAt, wordDir, wordWrite, wordNext, wordAction, wordEntry, packCheck, packInto}
 use Rattle.machine.specs.CheckCases.{stride-one}
 
 -- ---- one action
 
-module _ (a : Action) (stride d : ℕ) (is : d ≡ dirNumber (a .dir0)) where
-  pub word-row-zero : a .next .0 ≡ 0 → d + 256 * a .write0 .0 + 65536 * a .next .0 ≡ actionWord a stride
-  unfolding actionWord pick
-  word-row-zero z =
-      let r : a .next .0 * stride ≡ 0 = ap (λ (n : ℕ). n * stride) z ∙ zero-mul stride in
-      let f : a .next .0 * stride < 2 ^ 32 = omega arith in
-      simp (lt-ltb _ _ f) (omega arith)
-
-  pub word-row : a .next .0 * stride < 2 ^ 32 → d + 256 * a .write0 .0 + 65536 * a .next .0 + 4294967296 * (a .next .0 * stride) ≡ actionWord a stride
-  unfolding actionWord pick
-  word-row f = simp (lt-ltb _ _ f) (omega arith)
-
-module _ (a : Action) (stride : ℕ) where
-  pub word-row-over : 2 ^ 32 ≤ a .next .0 * stride → undefinedWord ≡ actionWord a stride
-  unfolding actionWord pick
-  word-row-over f = simp (le-ltb _ _ f)
-
-  pub word-stride-over : (a .next .0 ≡ 0 → ⊥) → 2 ^ 32 ≤ stride → undefinedWord ≡ actionWord a stride
-  word-stride-over z f =
-      let g : 1 * stride ≤ a .next .0 * stride = mul-le-mul {n₁ = 1} {m₁ = stride} (omega arith) (omega arith) in
-      word-row-over (omega (arith, one-mul stride))
-
-  pub row-fits : a .next .0 < 65536 → stride < 2 ^ 32 → a .next .0 * stride < 2 ^ 64
-  row-fits h f =
-      let g : a .next .0 * stride ≤ 65535 * 4294967295 = mul-le-mul {n₂ = 65535} {m₂ = 4294967295} (omega arith) (omega arith) in
-      omega arith
+pub word-made : (a : Action) (stride d w : ℕ) → d ≡ dirNumber (a .dir0) → w ≡ wordFor undefinedWord d (a .write0 .0) (a .next .0) stride → w ≡ actionWord a stride
+unfolding actionWord
+word-made a stride d w is e = e ∙ ap (λ (n : ℕ). wordFor undefinedWord n (a .write0 .0) (a .next .0) stride) is
 
 -- ---- one word
 

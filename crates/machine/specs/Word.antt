@@ -1,18 +1,15 @@
 -- The check of an input word: refusals 9 and 10, of 10 the first place. Definitions only.
-use mathlib.Core.Bool.{Bool}
 use mathlib.Core.Option.{Option, none, some}
 use mathlib.Core.List.{List}
 use Prim.Native.Nat.{ℕ}
-use lib.Dec.{ltb, leb}
-use lib.ListN.{length, getD}
+use lib.Dec.{leb}
+use lib.ListN.{length}
 use Rattle.laws.specs.Scan.{firstFail}
 use Rattle.outcome.specs.declared.Refusal.the-variants as Why
 use Rattle.machine.specs.declared.Checked.{Checked}
 use Rattle.machine.specs.declared.Checked.the-variants.{Accepted, Refused}
 use Rattle.machine.specs.Check.{demand}
-
-abbrev pub symbolIn : (k : ℕ) → List ℕ → ℕ → Bool
-symbolIn k w i = ltb (getD w i 0) k
+pub use Rattle.entries.specs.Entries.{symbolIn}
 
 abbrev pub symbolAnswer : Option ℕ → Checked
 symbolAnswer none = Accepted

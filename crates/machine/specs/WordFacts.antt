@@ -1,30 +1,36 @@
 -- The word's check: its loop, and what it says where it accepts. Assumes nothing.
-use mathlib.Core.Path.{_≡_, sym, ap}
-use mathlib.Core.Option.{Option}
+use mathlib.Core.Path.{_≡_, refl, sym, ap, _∙_}
+use mathlib.Core.Option.{Option, none, some}
 use mathlib.Core.List.{List}
-use Prim.Native.Nat.{ℕ, _+_, _-_, _≤_, _<_}
+use Prim.Native.Nat.{ℕ, _≤_, _<_}
 use native.Mathlib.Omega.{arith}
-use borrow.Author.Tests.{lt-ltb, le-ltb, leb-true, ltb-true}
+use borrow.Author.Tests.{leb-true, ltb-true}
 use lib.ListN.{length, getD}
 use Rattle.laws.specs.Scan.{firstFail}
-use Rattle.laws.specs.ScanFacts.{Scanned, clean, failed, scanned, first-hit, first-next, first-end}
+use Rattle.laws.specs.ScanFacts.{Scanned, clean, failed, scanned}
+use Rattle.symbol.specs.Places.{foundOf}
+use Rattle.symbol.specs.declared.position.Found.{Found}
+use Rattle.symbol.specs.declared.position.Found.the-variants.{At, Nothing}
 use Rattle.outcome.specs.declared.Refusal.the-variants as Why
-use Rattle.machine.specs.declared.Checked.{Checked}
 use Rattle.machine.specs.declared.Checked.the-variants.{Accepted, Refused}
 use Rattle.machine.specs.Word.{symbolIn, symbolAnswer, symbolsCheck, wordCheck}
 use Rattle.machine.specs.CheckFacts.{demand-says}
+use Rattle.machine.specs.CheckCases.{answerOf}
 
-module _ (k : ℕ) (w : List ℕ) (i : ℕ) (from : firstFail (symbolIn k w) (length w - i) i ≡ firstFail (symbolIn k w) (length w) 0) where
-  pub symbol-over : i < length w → k ≤ getD w i 0 → Refused (Why.WordSymbol i) ≡ symbolsCheck k w
+symbol-answer : (x : Option ℕ) → answerOf Why.WordSymbol (foundOf x) ≡ symbolAnswer x
+symbol-answer none = refl
+symbol-answer (some i) = refl
+
+module _ (k : ℕ) (w : List ℕ) (f : Found) (is : f ≡ foundOf (firstFail (symbolIn k w) (length w) 0)) where
+  answered : answerOf Why.WordSymbol f ≡ symbolsCheck k w
   unfolding symbolsCheck
-  symbol-over h z = sym (ap symbolAnswer (first-hit (symbolIn k w) (length w) i _ from h (le-ltb _ _ z)))
+  answered = ap (answerOf Why.WordSymbol) is ∙ symbol-answer (firstFail (symbolIn k w) (length w) 0)
 
-  pub symbol-next : i < length w → getD w i 0 < k → firstFail (symbolIn k w) (length w - (i + 1)) (i + 1) ≡ firstFail (symbolIn k w) (length w) 0
-  symbol-next h z = first-next (symbolIn k w) (length w) i _ from h (lt-ltb _ _ z)
+  pub symbol-over : (i : ℕ) → f ≡ At i → Refused (Why.WordSymbol i) ≡ symbolsCheck k w
+  symbol-over i e = ap (answerOf Why.WordSymbol) (sym e) ∙ answered
 
-  pub symbols-end : length w ≤ i → Accepted ≡ symbolsCheck k w
-  unfolding symbolsCheck
-  symbols-end h = sym (ap symbolAnswer (first-end (symbolIn k w) (length w) i _ from h))
+  pub symbols-end : f ≡ Nothing → Accepted ≡ symbolsCheck k w
+  symbols-end e = ap (answerOf Why.WordSymbol) (sym e) ∙ answered
 
 -- an accepted word is short, and all its symbols are the machine's
 pub word-says : (k : ℕ) (w : List ℕ) → wordCheck k w ≡ Accepted → (length w ≤ 1048576) × ((i : ℕ) → i < length w → getD w i 0 < k)

@@ -1,36 +1,16 @@
 // Steps of the operations that the crates above call too.
 use super::Action;
 use super::Entry;
+pub use entries::inner::entry_number;
+pub use entries::inner::stride;
 use symbol::Dir;
 use symbol::State;
 use symbol::Symbol;
 ghost use mathlib.Core.Path.{_≡_};
-ghost use Prim.Native.Nat.{_+_, _*_, _≤_, _<_, _^_};
+ghost use Prim.Native.Nat.{_+_, _*_, _≤_};
 ghost use lib.ListN.{length};
 ghost use Rattle.symbol.specs.Kinds.{stateOf};
-ghost use Rattle.machine.specs.Layout.{entryNumber, dirOf, actionAt, entryAt};
-
-// k^t.
-pub fn stride(tapes: u64, symbols: u64) -> u64
-    requires { ⌜ (1 ≤ tapes) × (tapes ≤ 3) × (symbols ≤ 256) ⌝ }
-    ensures { λ r. ⌜ (r ≡ symbols ^ tapes) × (r ≤ 16777216) ⌝ }
-{
-    if tapes == 1 {
-        return symbols;
-    }
-    if tapes == 2 {
-        return symbols * symbols;
-    }
-    symbols * symbols * symbols
-}
-
-// The number of an entry.
-pub fn entry_number(k: u64, stride: u64, q: u16, a0: u8, a1: u8, a2: u8) -> u64
-    requires { ⌜ (k ≤ 256) × (stride ≤ 16777216) ⌝ }
-    ensures { λ r. ⌜ (r ≡ entryNumber k stride q a0 a1 a2) × (r < 1099528404992) ⌝ }
-{
-    (q as u64) * stride + a0 as u64 + k * (a1 as u64) + k * k * (a2 as u64)
-}
+ghost use Rattle.machine.specs.Layout.{dirOf, actionAt, entryAt};
 
 // The entry of a number; past the table's end there is none.
 pub fn entry_at(table: &[u8], i: usize) -> Entry

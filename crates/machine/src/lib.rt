@@ -1,4 +1,5 @@
 // The machine's numbers, its table of eight-byte entries, the table check, and packed words.
+use entries::inner as bytes;
 use outcome::Refusal;
 use packed::Packed;
 use symbol::Dir;
@@ -10,7 +11,7 @@ ghost use Rattle.machine.specs.Layout.{singleOf};
 ghost use Rattle.machine.specs.Check.{tableCheck, lookupOf};
 ghost use Rattle.machine.specs.Packing.{packCheck, packInto};
 
-mod entries;
+mod checks;
 pub mod inner;
 pub mod packed;
 pub mod word;
@@ -75,20 +76,20 @@ impl Machine {
     pub fn check(self, table: &[u8]) -> Checked
         ensures { λ r. ⌜ r ≡ tableCheck self (now (table .entry)) ⌝ }
     {
-        if !entries::within(1, 3, self.tapes) {
+        if !bytes::within(1, 3, self.tapes) {
             return Checked::Refused(Refusal::Tapes);
         }
-        if !entries::within(1, 256, self.symbols) {
+        if !bytes::within(1, 256, self.symbols) {
             return Checked::Refused(Refusal::Symbols);
         }
-        if !entries::within(1, 65536, self.states) {
+        if !bytes::within(1, 65536, self.states) {
             return Checked::Refused(Refusal::States);
         }
         if self.states <= self.start {
             return Checked::Refused(Refusal::Start);
         }
         let stride = inner::stride(self.tapes, self.symbols);
-        entries::check_size(self, table, self.states * stride)
+        checks::check_size(self, table, self.states * stride)
     }
 
     // The entry for a state and the symbols read, one for each tape; past the table's end there is none.

@@ -2,6 +2,7 @@
 use super::Action;
 use super::Entry;
 use super::inner;
+use entries::inner as bytes;
 use symbol::Dir;
 use symbol::State;
 use symbol::Symbol;
@@ -90,20 +91,11 @@ impl Packed {
 fn pack_action(action: Action, stride: u64) -> Packed
     ensures { λ r. ⌜ r .0 ≡ actionWord action stride ⌝ }
 {
-    let next = action.next.0 as u64;
     let dir = action.dir0;
-    let low = (dir.number() as u64) + 256 * (action.write0.0 as u64) + 65536 * next;
-    if next == 0 {
-        return Packed(low);
-    }
-    if 4294967296 <= stride {
-        return Packed::UNDEFINED;
-    }
-    let row = next * stride;
-    if 4294967296 <= row {
-        return Packed::UNDEFINED;
-    }
-    Packed(low + 4294967296 * row)
+    let number = dir.number();
+    let undefined = Packed::UNDEFINED;
+    let word = bytes::word_of(number, action.write0.0, action.next.0, stride, undefined.0);
+    Packed(word)
 }
 
 // The words of the table's first `count` entries, into the first places of `out`.

@@ -1,6 +1,8 @@
 // The check of an input word, wherever one is taken.
 use super::Checked;
+use entries::inner as bytes;
 use outcome::Refusal;
+use symbol::position::Found;
 ghost use mathlib.Core.Path.{_≡_};
 ghost use Rattle.machine.specs.Word.{wordCheck, symbolsCheck};
 
@@ -17,13 +19,9 @@ pub fn check_word(symbols: u64, word: &[u8]) -> Checked
 fn check_symbols(symbols: u64, word: &[u8]) -> Checked
     ensures { λ r. ⌜ r ≡ symbolsCheck symbols (now (word .entry)) ⌝ }
 {
-    let mut i: usize = 0;
-    while i < word.len() {
-        let x = word[i];
-        if symbols <= (x as u64) {
-            return Checked::Refused(Refusal::WordSymbol(i as u64));
-        }
-        i += 1;
+    let found = bytes::first_over(symbols, word);
+    match found {
+        Found::At(i) => Checked::Refused(Refusal::WordSymbol(i as u64)),
+        Found::Nothing => Checked::Accepted,
     }
-    Checked::Accepted
 }

@@ -1,5 +1,6 @@
 -- Positions as the engines compute with them. Definitions only.
 use Prim.Native.Nat.{ℕ, _+_, _-_, _^_}
+use mathlib.Core.Option.{Option, none, some}
 use lib.Dec.{leb, ltb}
 use lib.IntN.{ℤ}
 use Rattle.laws.specs.Choice.{pick, both}
@@ -25,3 +26,8 @@ indexOf z origin len = indexAt (up z) (dn z) origin len
 -- the index of position raised − 2^63
 abbrev pub indexOfRaised : ℕ → ℕ → ℕ → Found
 indexOfRaised raised origin len = indexAt raised (2 ^ 63) origin len
+
+-- the index that a search found
+abbrev pub foundOf : Option ℕ → Found
+foundOf none = Nothing
+foundOf (some i) = At i

@@ -17,12 +17,13 @@ use Rattle.laws.specs.ScanFacts.{Scanned, scanned, clean, failed, all-says, all
 use Rattle.laws.specs.ScanDownFacts.{ScannedDown, scanned-down}
 use Rattle.laws.specs.ScanDownFacts as down
 use Rattle.laws.specs.Tests.{clash, pick-cases, pick-true, pick-false}
-use Rattle.symbol.specs.Places.{raisedOf}
+use Rattle.symbol.specs.Places.{raisedOf, foundOf}
 use Rattle.symbol.specs.declared.Dir.{Dir}
 use Rattle.symbol.specs.declared.Dir.the-variants.{L, R, N}
 use Rattle.tape.specs.declared.Spot.the-variants.{At, Nowhere}
 use Rattle.tape.specs.Moves.{Held}
-use Rattle.tape.specs.Questions.{blankAt, blankBeyond, cellOf, foundOf, firstWritten, lastWritten, spanOf, nonBlankOf, raisedCell, windowCell, windowFrom, windowOf, cellsBelow, spotOf, findOf}
+use Rattle.tape.specs.Questions.{blankAt, blankBeyond, cellOf, firstWritten, lastWritten, spanOf, nonBlankOf, windowCell, windowFrom, windowOf, spotOf, findOf}
+use Rattle.views.specs.Views.{raisedAt, cellsBelow}
 use Rattle.tape.specs.CellPlaces.{Place, below, inside, past, place, cell-in, cell-below, cell-past, cell-of-index}
 use Rattle.tape.specs.Answers.{Before, Finds, no-cell, nearest, Spans, no-cells, range}
 
@@ -110,7 +111,7 @@ module _ (h : Held) where
 
   module _ (z : ℤ) (fits : dn z ≤ 2 ^ 63) (out : List ℕ) (j : ℕ) (there : j < length out) where
     pub window-cell : (y : ℤ) → up y + dn z ≡ up z + j + dn y → up y < 2 ^ 63 → getD (windowOf h z out) j 0 ≡ cellOf h y
-    unfolding windowFrom raisedCell
+    unfolding windowFrom raisedAt
     window-cell y e small =
         let b : raisedOf z + j < 2 ^ 64 = omega arith in
         let p : (raisedOf z + j) ⊖ 2 ^ 63 ≡ y = omega (ints, diff-⊖ (raisedOf z + j) (2 ^ 63)) in
@@ -119,7 +120,7 @@ module _ (h : Held) where
         ∙ ap (cellOf h) p
 
     pub window-past : 2 ^ 63 + dn z ≤ up z + j → getD (windowOf h z out) j 0 ≡ 0
-    unfolding windowFrom raisedCell
+    unfolding windowFrom raisedAt
     window-past g =
         let b : 2 ^ 64 ≤ raisedOf z + j = omega arith in
         fill-in (windowCell h (raisedOf z)) (length out) 0 out j 0 (omega arith) (omega arith) there

@@ -8,11 +8,12 @@ use lib.IntN.{ℤ}
 use lib.ListN.{length, getD}
 use Rattle.laws.specs.Position.{_⊖_, up, dn}
 use Rattle.laws.specs.PositionFacts.{diff-⊖}
+use Rattle.cells.specs.Loops.{foundCell}
 use Rattle.symbol.specs.PlaceFacts.{index-in, index-before, index-past}
 use Rattle.symbol.specs.declared.Dir.{Dir}
 use Rattle.symbol.specs.declared.Dir.the-variants.{L, R, N}
 use Rattle.tape.specs.Moves.{Held, grownBy}
-use Rattle.tape.specs.Questions.{foundCell, cellAt, cellOf}
+use Rattle.tape.specs.Questions.{cellAt, cellOf}
 use Rattle.tape.specs.CellFacts.{left-new, left-old, right-new, right-old}
 
 -- where position z lies among len cells of which number o is position 0

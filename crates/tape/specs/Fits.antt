@@ -6,9 +6,8 @@ use lib.Dec.{ltb, leb}
 use lib.ListN.{length, getD}
 use Rattle.laws.specs.Choice.{both}
 use Rattle.laws.specs.Scan.{allIn}
-use Rattle.symbol.specs.declared.position.Found.{Found}
-use Rattle.symbol.specs.declared.position.Found.the-variants.{At, Nothing}
 use Rattle.tape.specs.declared.Tape.{Tape}
+pub use Rattle.cells.specs.Loops.{symbolAt, reach}
 
 -- "length from 32 to the buffer's, head and origin below it, lowest ≤ head ≤ highest, all inside"
 abbrev pub shapeFits : Tape → (cap : ℕ) → Bool
@@ -19,9 +18,6 @@ shapeFits t cap =
     (both (ltb (t .origin) (t .len))
     (both (leb (t .lowest) (t .head))
     (both (leb (t .head) (t .highest)) (ltb (t .highest) (t .len)))))))
-
-abbrev pub symbolAt : (k : ℕ) → List ℕ → ℕ → Bool
-symbolAt k c i = ltb (getD c i 0) k
 
 -- "symbols below k": of the first len cells, those past are not looked at
 unfoldable pub tapeFits : (k : ℕ) → Tape → List ℕ → Bool
@@ -40,8 +36,3 @@ pub record TapeOk (t : Tape) (c : List ℕ) : Type 0 where
 pub record TapeSafe (t : Tape) (c : List ℕ) : Type 0 where
   pub ok : TapeOk t c
   pub sized : t .head < t .len → length c ≤ 1073741824
-
--- how many cells there must be for an index that was found
-abbrev pub reach : Found → ℕ
-reach (At i) = i + 1
-reach Nothing = 0

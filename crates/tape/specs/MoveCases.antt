@@ -2,53 +2,26 @@
 use mathlib.Core.Path.{_≡_, refl, sym, ap, _∙_}
 use mathlib.Core.Bool.{Bool, true, false}
 use mathlib.Core.List.{List}
-use Prim.Native.Nat.{ℕ, suc, _+_, _-_, _≤_, _<_, min, max}
+use Prim.Native.Nat.{ℕ, _+_, _-_, _≤_, _<_, min, max}
 use native.Mathlib.Omega.{arith}
 use borrow.Author.Tests.{lt-ltb, le-ltb, leb-true, eqb-true, eqb-false, ne-eqb}
 use lib.Dec.{eqb, leb}
-use lib.ListN.{length, getD, set, length-set}
+use lib.ListN.{length, set, length-set}
 use Rattle.laws.specs.Choice.{pick}
-use Rattle.laws.specs.Fill.{fillFrom}
 use Rattle.laws.specs.Tests.{clash}
-use Rattle.laws.specs.FillFacts.{fill-before, set-fill}
 use Rattle.symbol.specs.declared.Dir.{Dir}
 use Rattle.symbol.specs.declared.Dir.the-variants.{L, R, N}
 use Rattle.tape.specs.declared.Tape.{Tape}
 use Rattle.tape.specs.Growth.{extra}
 use Rattle.tape.specs.GrowthFacts.{extra-most, extra-within}
-use Rattle.tape.specs.Moves.{Held, held, placed, laid, movedUp, blanked, leaves, roomFor, grownLeft, grownRight, grownBy, growOf, shiftOf, moveOf, actOf}
+use Rattle.tape.specs.Moves.{Held, held, freshTape, freshCells, freshOf, movedUp, blanked, leaves, roomFor, grownLeft, grownRight, grownBy, growOf, shiftOf, moveOf, actOf}
 use Rattle.tape.specs.Fits.{TapeOk}
 
--- ---- the word, and the copy from the last cell down to the first
+-- ---- a fresh tape
 
-pub lay-start : (at to : ℕ) (w c : List ℕ) → to ≡ at + length w → fillFrom (placed at w) (to - at) at c ≡ laid at w c
-unfolding laid
-lay-start at to w c h =
-    let e : to - at ≡ length w = omega arith in
-    ap (λ (n : ℕ). fillFrom (placed at w) n at c) e
-
-module _ (c₀ c : List ℕ) (by n i : ℕ) (from : c ≡ fillFrom (placed by c₀) (n - i) (i + by) c₀) where
-  pub copy-turn : 0 < i → i ≤ n → set c (i - 1 + by) (getD c (i - 1) 0) ≡ fillFrom (placed by c₀) (n - (i - 1)) (i - 1 + by) c₀
-  unfolding fillFrom
-  copy-turn h g =
-      let m : n - (i - 1) ≡ suc (n - i) = omega arith in
-      let k : i - 1 + by + 1 ≡ i + by = omega arith in
-      let b : i - 1 + by - by ≡ i - 1 = omega arith in
-      let e : getD c (i - 1) 0 ≡ placed by c₀ (i - 1 + by) = ap (λ (l : List ℕ). getD l (i - 1) 0) from ∙ fill-before (placed by c₀) (n - i) (i + by) c₀ (i - 1) 0 (omega arith) ∙ rw b in
-      (λ j. set (from j) (i - 1 + by) (e j))
-      ∙ set-fill (placed by c₀) (n - i) (i + by) c₀ (i - 1 + by) (placed by c₀ (i - 1 + by)) (omega arith)
-      ∙ sym (ap (λ (x : ℕ). fillFrom (placed by c₀) x (i - 1 + by) c₀) m ∙ ap (λ (x : ℕ). fillFrom (placed by c₀) (n - i) x (set c₀ (i - 1 + by) (placed by c₀ (i - 1 + by)))) k)
-
-  pub copy-end : i ≤ 0 → c ≡ movedUp by n c₀
-  unfolding movedUp
-  copy-end h =
-      let a : n - i ≡ n = omega arith in
-      let b : i + by ≡ by = omega arith in
-      from ∙ (λ j. fillFrom (placed by c₀) (a j) (b j) c₀)
-
-pub copy-start : (c : List ℕ) (by n : ℕ) → c ≡ fillFrom (placed by c) (n - n) (n + by) c
-unfolding fillFrom
-copy-start c by n = let e : n - n ≡ 0 = omega arith in rw e
+pub fresh-held : (w c c₁ : List ℕ) → c₁ ≡ freshCells w c → held (freshTape (length w)) c₁ ≡ freshOf w c
+unfolding freshOf
+fresh-held w c c₁ e = ap (held (freshTape (length w))) e
 
 -- ---- whether a move leaves the cells
 

@@ -6,11 +6,12 @@ use Prim.Native.Nat.{ℕ, _+_, _-_, min, max}
 use lib.Dec.{eqb, ltb, leb}
 use lib.ListN.{length, getD, set}
 use Rattle.laws.specs.Choice.{pick}
-use Rattle.laws.specs.Fill.{fillFrom}
 use Rattle.symbol.specs.declared.Dir.{Dir}
 use Rattle.symbol.specs.declared.Dir.the-variants.{L, R, N}
 use Rattle.tape.specs.declared.Tape.{Tape}
 use Rattle.tape.specs.Growth.{extra}
+pub use Rattle.cells.specs.Loops.{blankCell, placed, freshCells}
+unfoldable pub use Rattle.cells.specs.Loops.{blanked, laid, movedUp}
 
 -- the tape's numbers, and its whole buffer
 pub record Held : Type 0 where
@@ -20,36 +21,13 @@ pub record Held : Type 0 where
 abbrev pub held : Tape → List ℕ → Held
 held t c = record { tape = t; cells = c }
 
--- ---- what is written into the buffer
-
-abbrev pub blankCell : ℕ → ℕ
-blankCell j = 0
-
--- blanks from index `from` on, up to `to`
-unfoldable pub blanked : (from to : ℕ) → List ℕ → List ℕ
-blanked from to c = fillFrom blankCell (to - from) from c
-
--- what a list s has at j where it begins at index `at`
-abbrev pub placed : (at : ℕ) → List ℕ → ℕ → ℕ
-placed at s j = getD s (j - at) 0
-
--- the word from index `at` on
-unfoldable pub laid : (at : ℕ) → List ℕ → List ℕ → List ℕ
-laid at w c = fillFrom (placed at w) (length w) at c
-
--- the first n cells moved up by some places
-unfoldable pub movedUp : (by n : ℕ) → List ℕ → List ℕ
-movedUp by n c = fillFrom (placed by c) n by c
-
 -- ---- "Fresh: 16 blanks, the word, 16 blanks, origin and head at index 16."
 
 abbrev pub freshTape : (n : ℕ) → Tape
 freshTape n = record { len = 32 + n; origin = 16; head = 16; lowest = 16; highest = 16 }
 
--- the rest of the buffer stays
 unfoldable pub freshOf : (word cells : List ℕ) → Held
-freshOf w c =
-    held (freshTape (length w)) (blanked (16 + length w) (32 + length w) (laid 16 w (blanked 0 16 c)))
+freshOf w c = held (freshTape (length w)) (freshCells w c)
 
 -- a tape that the machine lacks
 abbrev pub noTape : Tape

@@ -2,64 +2,32 @@
 use super::Span;
 use super::Spot;
 use super::Tape;
-use super::cells;
+use cells::inner as loops;
 use symbol::Dir;
 use symbol::position;
 use symbol::position::Found;
+use views::inner as shown;
 ghost use mathlib.Core.Path.{_≡_};
 ghost use mathlib.Core.Bool.{true, false};
-ghost use Prim.Native.Nat.{_+_, _≤_, _^_};
+ghost use Prim.Native.Nat.{_+_, _≤_};
 ghost use lib.ListN.{length};
-ghost use Rattle.tape.specs.Growth.{extra};
 ghost use Rattle.tape.specs.Moves.{held, freshOf, readOf, leaves, roomFor, growOf, shiftOf, actOf};
 ghost use Rattle.tape.specs.Fits.{TapeOk, shapeFits, tapeFits, reach};
-ghost use Rattle.tape.specs.Questions.{blankBeyond, cellAt, spanOf, spotOf, nonBlankOf, countOf, raisedCell, windowFrom, windowOf, cellsBelow, findOf};
+ghost use Rattle.tape.specs.Questions.{blankBeyond, cellAt, spanOf, spotOf, nonBlankOf, countOf, windowOf, findOf};
 
 // A tape that holds a word from position 0 on.
 pub fn fresh(cells: &mut [u8], word: &[u8]) -> Tape
     requires { ⌜ 32 + length (now word) ≤ length (now cells) ⌝ }
     ensures { λ r. ⌜ held r (now (cells .exit)) ≡ freshOf (now (word .entry)) (now (cells .entry)) ⌝ }
 {
-    let n = word.len();
-    cells::blank(cells, 0, 16);
-    cells::lay(cells, 16, word);
-    cells::blank(cells, 16 + n, 32 + n);
+    loops::fresh(cells, word);
     Tape {
-        len: 32 + n,
+        len: 32 + word.len(),
         origin: 16,
         head: 16,
         lowest: 16,
         highest: 16,
     }
-}
-
-// How many cells a growth adds: as many as there are, where the buffer has room for them.
-pub fn extra(len: usize, cap: usize) -> usize
-    requires { ⌜ len ≤ 1073741824 ⌝ }
-    ensures { λ r. ⌜ (r ≡ extra len cap) × (r ≤ len) ⌝ }
-{
-    if len + len <= cap {
-        return len;
-    }
-    0
-}
-
-fn smaller(a: usize, b: usize) -> usize
-    ensures { λ r. ⌜ r ≡ Prim.Native.Nat.min a b ⌝ }
-{
-    if a < b {
-        return a;
-    }
-    b
-}
-
-fn larger(a: usize, b: usize) -> usize
-    ensures { λ r. ⌜ r ≡ Prim.Native.Nat.max a b ⌝ }
-{
-    if a < b {
-        return b;
-    }
-    a
 }
 
 impl Tape {
@@ -93,7 +61,7 @@ impl Tape {
         ensures { λ r. ⌜ r ≡ roomFor self cap d ⌝ }
     {
         if self.leaves(d) {
-            return 1 <= extra(self.len, cap);
+            return 1 <= loops::extra(self.len, cap);
         }
         true
     }
@@ -104,10 +72,10 @@ impl Tape {
         ensures { λ r. ⌜ held r (now (cells .exit)) ≡ growOf (held self (now (cells .entry))) d ⌝ }
     {
         let len = self.len;
-        let more = extra(len, cells.len());
+        let more = loops::extra(len, cells.len());
         match d {
             Dir::L => {
-                cells::open_left(cells, more, len);
+                loops::open_left(cells, more, len);
                 Tape {
                     len: len + more,
                     origin: self.origin + more,
@@ -117,7 +85,7 @@ impl Tape {
                 }
             }
             Dir::R => {
-                cells::blank(cells, len, len + more);
+                loops::blank(cells, len, len + more);
                 Tape {
                     len: len + more,
                     origin: self.origin,
@@ -138,7 +106,7 @@ impl Tape {
         match d {
             Dir::L => {
                 let head = self.head - 1;
-                let lowest = smaller(self.lowest, head);
+                let lowest = loops::smaller(self.lowest, head);
                 Tape {
                     len: self.len,
                     origin: self.origin,
@@ -149,7 +117,7 @@ impl Tape {
             }
             Dir::R => {
                 let head = self.head + 1;
-                let highest = larger(self.highest, head);
+                let highest = loops::larger(self.highest, head);
                 Tape {
                     len: self.len,
                     origin: self.origin,
@@ -172,7 +140,7 @@ impl Tape {
         if self.len <= head {
             return self;
         }
-        cells::put(cells, head, w);
+        loops::put(cells, head, w);
         if self.leaves(d) {
             let grown = self.grow(cells, d);
             return grown.shifted(d);
@@ -211,7 +179,7 @@ impl Tape {
         if !self.shape_fits(cells.len()) {
             return false;
         }
-        cells::all_below(cells, self.len, k)
+        loops::all_below(cells, self.len, k)
     }
 
     // Whether every cell strictly beyond the head that way is blank.
@@ -220,8 +188,8 @@ impl Tape {
         ensures { λ r. ⌜ r ≡ blankBeyond (held self (now (cells .entry))) d ⌝ }
     {
         match d {
-            Dir::L => cells::all_blank(cells, 0, self.head),
-            Dir::R => cells::all_blank(cells, self.head + 1, self.len),
+            Dir::L => loops::all_blank(cells, 0, self.head),
+            Dir::R => loops::all_blank(cells, self.head + 1, self.len),
             Dir::N => false,
         }
     }
@@ -231,8 +199,7 @@ impl Tape {
         requires { ⌜ TapeOk self (now cells) ⌝ }
         ensures { λ r. ⌜ r ≡ cellAt (self .origin) (self .len) (now (cells .entry)) at ⌝ }
     {
-        let found = position::index_of(at, self.origin, self.len);
-        cells::at(cells, found)
+        shown::cell(cells, self.origin, self.len, at)
     }
 
     // The positions of the lowest and the highest non-blank cell.
@@ -240,8 +207,8 @@ impl Tape {
         requires { ⌜ TapeOk self (now cells) ⌝ }
         ensures { λ r. ⌜ r ≡ nonBlankOf (held self (now (cells .entry))) ⌝ }
     {
-        let first = cells::first_written(cells, 0, self.len);
-        let last = cells::last_written(cells, self.len);
+        let first = loops::first_written(cells, 0, self.len);
+        let last = loops::last_written(cells, self.len);
         span(first, last, self.origin)
     }
 
@@ -250,33 +217,7 @@ impl Tape {
         requires { ⌜ TapeOk self (now cells) ⌝ }
         ensures { λ r. ⌜ r ≡ countOf (held self (now (cells .entry))) ⌝ }
     {
-        cells::count_written(cells, self.len)
-    }
-
-    // The symbol `j` places above a raised position; past i64 it is blank.
-    fn get_raised(self, cells: &[u8], from: u64, j: usize) -> u8
-        requires { ⌜ TapeOk self (now cells) ⌝ }
-        ensures { λ r. ⌜ r ≡ raisedCell (held self (now (cells .entry))) (from + j) ⌝ }
-    {
-        if 18446744073709551615 - from < j as u64 {
-            return 0;
-        }
-        let found = position::index_of_raised(from + j as u64, self.origin, self.len);
-        cells::at(cells, found)
-    }
-
-    // The symbols from a raised position on, into the whole of `out`.
-    fn fill_window(self, cells: &[u8], from: u64, out: &mut [u8])
-        requires { ⌜ TapeOk self (now cells) ⌝ }
-        ensures { λ _. ⌜ now (out .exit) ≡ windowFrom (held self (now (cells .entry))) from (now (out .entry)) ⌝ }
-    {
-        let n = out.len();
-        let mut j = 0;
-        while j < n {
-            let x = self.get_raised(cells, from, j);
-            out[j] = x;
-            j += 1;
-        }
+        loops::count_written(cells, self.len)
     }
 
     // The symbols from a position on, into the whole of `out`; positions past i64 are blank.
@@ -284,8 +225,7 @@ impl Tape {
         requires { ⌜ TapeOk self (now cells) ⌝ }
         ensures { λ _. ⌜ now (out .exit) ≡ windowOf (held self (now (cells .entry))) from (now (out .entry)) ⌝ }
     {
-        let raised = position::raised(from);
-        self.fill_window(cells, raised, out);
+        shown::window(cells, self.origin, self.len, from, out);
     }
 
     // The nearest non-blank cell at a position or beyond it that way; N looks at the position alone.
@@ -293,16 +233,15 @@ impl Tape {
         requires { ⌜ TapeOk self (now cells) ⌝ }
         ensures { λ r. ⌜ r ≡ findOf (held self (now (cells .entry))) from dir ⌝ }
     {
-        let raised = position::raised(from);
         match dir {
-            Dir::L => {
-                let to = cells_below(raised, self.origin + 1, self.len);
-                spot(cells::last_written(cells, to), self.origin)
-            }
-            Dir::R => {
-                let start = cells_below(raised, self.origin, self.len);
-                spot(cells::first_written(cells, start, self.len), self.origin)
-            }
+            Dir::L => spot(
+                shown::last_up_to(cells, self.origin, self.len, from),
+                self.origin,
+            ),
+            Dir::R => spot(
+                shown::first_from(cells, self.origin, self.len, from),
+                self.origin,
+            ),
             Dir::N => {
                 if self.get(cells, from) == 0 {
                     return Spot::Nowhere;
@@ -311,25 +250,6 @@ impl Tape {
             }
         }
     }
-}
-
-// How many of `len` cells lie below a raised position, where index `origin` is position 0.
-fn cells_below(raised: u64, origin: usize, len: usize) -> usize
-    requires { ⌜ (origin ≤ 4294967296) × (len ≤ 4294967296) ⌝ }
-    ensures { λ r. ⌜ r ≡ cellsBelow raised (2 ^ 63) origin len ⌝ }
-{
-    if raised < 9223372036854775808 {
-        let below = 9223372036854775808 - raised;
-        if origin as u64 <= below {
-            return 0;
-        }
-        return smaller(origin - below as usize, len);
-    }
-    let above = raised - 9223372036854775808;
-    if len as u64 <= above {
-        return len;
-    }
-    smaller(origin + above as usize, len)
 }
 
 // The positions of two indexes.

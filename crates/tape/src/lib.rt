@@ -1,5 +1,4 @@
 // One dense tape over a lent slice.
-mod cells;
 pub mod inner;
 
 // Of the lent cells the first `len` are the tape's. The other numbers are indexes into them: of position 0, of the

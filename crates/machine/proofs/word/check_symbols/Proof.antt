@@ -1,56 +1,23 @@
+use Rattle.machine.specs.WordFacts.{symbol-over, symbols-end}
 use borrow.Author.Needs.{needs}
-use native.Mathlib.Omega.{arith}
-use Rattle.machine.specs.WordFacts.{symbol-over, symbol-next, symbols-end}
-use Rattle.machine.specs.Word.{symbolIn}
-use Rattle.laws.specs.Scan.{firstFail}
-use lib.ListN.{length}
-use native.Mathlib.Nat.{sub-zero}
-use mathlib.Core.Path.{_≡_}
-use Prim.Native.Nat.{_-_}
 use Rattle.machine.proofs.word.check_symbols.Statement.{statement}
 use Rattle.machine.proofs.word.check_symbols.Tie as tie
 
-abbrev Inv-loop : tie.InvT-loop
-Inv-loop symbols word i₀ i = firstFail (symbolIn symbols word) (length word - i) i ≡ firstFail (symbolIn symbols word) (length word) 0
+first-over-requires : tie.Need-first-over-requires
+first-over-requires c κs = search needs
 
-abbrev μ-loop : tie.MeasureT-loop
-μ-loop symbols word i₀ i = length word - i
+enum-known-found : tie.Need-enum-known-found
+enum-known-found c = search needs
 
-loop-holds : tie.Need-loop-holds Inv-loop μ-loop
-loop-holds c = rw sub-zero
+enum-told : tie.Need-enum-told
+enum-told c = search needs
 
-shared-slice-read-x : tie.Need-shared-slice-read-x Inv-loop μ-loop
-shared-slice-read-x c = search needs
-
-cast-if1 : tie.Need-cast-if1 Inv-loop μ-loop
-cast-if1 c = omega (arith, c .shared-slice-known .given (c .before .before .loop .i))
-
-returns : tie.Need-returns Inv-loop μ-loop
+returns : tie.Need-returns
 returns c = search symbol-over
 
-add-i : tie.Need-add-i Inv-loop μ-loop
-add-i c = search needs
-
-loop-less : tie.Need-loop-less Inv-loop μ-loop
-loop-less c = search needs
-
-loop-again : tie.Need-loop-again Inv-loop μ-loop
-loop-again c = search symbol-next
-
-returns-2 : tie.Need-returns-2 Inv-loop μ-loop
+returns-2 : tie.Need-returns-2
 returns-2 c = search symbols-end
 
 pub check-symbols-spec : {M : Type 1} → statement M
 check-symbols-spec =
-    tie.close
-    (tie.spec
-    Inv-loop
-    μ-loop
-    loop-holds
-    shared-slice-read-x
-    cast-if1
-    returns
-    add-i
-    loop-less
-    loop-again
-    returns-2)
+    tie.close (tie.spec first-over-requires enum-known-found enum-told returns returns-2)

@@ -1,10 +1,12 @@
+use mathlib.Core.Path.{sym, _∙_}
+use native.Mathlib.Omega.{arith}
 use Rattle.tape.specs.MoveCases.{act-none, act-inside, act-grown, grown-inside}
 use borrow.Author.Needs.{needs}
 use Rattle.tape.proofs.Tape.act.Statement.{statement}
 use Rattle.tape.proofs.Tape.act.Tie as tie
 
 returns : tie.Need-returns
-returns c = search act-none
+returns c = act-none _ _ _ _ (c .if1 .taken)
 
 put-requires : tie.Need-put-requires
 put-requires c κs = search needs
@@ -22,16 +24,16 @@ same-length : tie.Need-same-length
 same-length c = search needs
 
 returns-2 : tie.Need-returns-2
-returns-2 c = search act-grown
+returns-2 c = act-grown _ _ _ _ _ _ _ (omega arith) (c .before .before .before .before .before .before .before .before .before .put .ensures) (c .before .before .before .before .before .before .leaves .ensures) _ _ (c .before .before .before .before .before .if2 .taken) (c .before .before .before .grow .ensures) (c .shifted .ensures)
 
 shifted-requires-2 : tie.Need-shifted-requires-2
-shifted-requires-2 c κs = (search needs, cc)
+shifted-requires-2 c κs = (search needs, sym (c .before .leaves .ensures) ∙ c .if2 .left)
 
 same-length-2 : tie.Need-same-length-2
 same-length-2 c = search needs
 
 returns-3 : tie.Need-returns-3
-returns-3 c = search act-inside
+returns-3 c = act-inside _ _ _ _ _ _ _ (omega arith) (c .before .before .before .before .before .put .ensures) (c .before .before .leaves .ensures) (c .before .if2 .left) (c .shifted2 .ensures)
 
 pub act-spec : {M : Type 1} → statement M
 act-spec =

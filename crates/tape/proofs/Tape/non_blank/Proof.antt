@@ -1,4 +1,5 @@
-use Rattle.tape.specs.QuestionCases.{first-reach, last-reach, non-blank-is}
+use Rattle.cells.specs.LoopCases.{first-reach, last-reach}
+use Rattle.tape.specs.QuestionCases.{non-blank-is}
 use borrow.Author.Needs.{needs}
 use Rattle.tape.proofs.Tape.non_blank.Statement.{statement}
 use Rattle.tape.proofs.Tape.non_blank.Tie as tie

@@ -4,11 +4,8 @@ use borrow.Author.Needs.{needs}
 use Rattle.tape.proofs.Tape.window.Statement.{statement}
 use Rattle.tape.proofs.Tape.window.Tie as tie
 
-raised-requires : tie.Need-raised-requires
-raised-requires c κs = search needs
-
-fill-window-requires : tie.Need-fill-window-requires
-fill-window-requires c κs = search needs
+window-requires : tie.Need-window-requires
+window-requires c κs = search needs
 
 same-length : tie.Need-same-length
 same-length c = search needs
@@ -17,4 +14,4 @@ returns : tie.Need-returns
 returns c = search (window-is, toZ-ofZ)
 
 pub window-spec : {M : Type 1} → statement M
-window-spec = tie.close (tie.spec raised-requires fill-window-requires same-length returns)
+window-spec = tie.close (tie.spec window-requires same-length returns)

@@ -1,42 +1,19 @@
-use Rattle.tape.specs.Moves.{freshOf}
+use Rattle.tape.specs.MoveCases.{fresh-held}
 use borrow.Author.Needs.{needs}
 use Rattle.tape.proofs.inner.fresh.Statement.{statement}
 use Rattle.tape.proofs.inner.fresh.Tie as tie
 
-blank-requires : tie.Need-blank-requires
-blank-requires c κs = search needs
+fresh-requires : tie.Need-fresh-requires
+fresh-requires c κs = search needs
 
-lay-requires : tie.Need-lay-requires
-lay-requires c κs = search needs
-
-add-blank : tie.Need-add-blank
-add-blank c = search needs
-
-add-blank-2 : tie.Need-add-blank-2
-add-blank-2 c = search needs
-
-blank-requires-2 : tie.Need-blank-requires-2
-blank-requires-2 c κs = search needs
-
-add-t11 : tie.Need-add-t11
-add-t11 c = search needs
+add-t7 : tie.Need-add-t7
+add-t7 c = search needs
 
 same-length : tie.Need-same-length
 same-length c = search needs
 
 returns : tie.Need-returns
-unfolding freshOf
-returns c = cc
+returns c = fresh-held _ _ _ (c .before .before .fresh .ensures)
 
 pub fresh-spec : {M : Type 1} → statement M
-fresh-spec =
-    tie.close
-    (tie.spec
-    blank-requires
-    lay-requires
-    add-blank
-    add-blank-2
-    blank-requires-2
-    add-t11
-    same-length
-    returns)
+fresh-spec = tie.close (tie.spec fresh-requires add-t7 same-length returns)

@@ -1,0 +1,3 @@
+// A timeline's call chosen by a number, over each engine.
+pub mod chain;
+pub mod plain;

@@ -1,0 +1,4 @@
+pub mod Growth
+pub mod Loops
+pub mod GrowthFacts
+pub mod LoopCases

@@ -1,0 +1,116 @@
+-- The loops over a tape's cells, one fact for each way through the code. Assumes nothing.
+use mathlib.Core.Path.{_≡_, sym, ap, _∙_}
+use mathlib.Core.Option.{Option}
+use mathlib.Core.List.{List}
+use Prim.Native.Nat.{ℕ, suc, _+_, _-_, _≤_, _<_}
+use native.Mathlib.Omega.{arith}
+use borrow.Author.Tests.{eq-eqb, ne-eqb}
+use lib.ListN.{length, getD, set}
+use Rattle.laws.specs.Fill.{fillFrom}
+use Rattle.laws.specs.FillFacts.{fill-before, set-fill}
+use Rattle.laws.specs.Scan.{firstFail}
+use Rattle.laws.specs.ScanFacts.{Scanned, scanned, clean, failed, first-hit, first-next, first-end}
+use Rattle.laws.specs.ScanDown.{lastFail}
+use Rattle.laws.specs.ScanDownFacts.{ScannedDown, scanned-down, last-hit, last-next, last-end}
+use Rattle.laws.specs.ScanDownFacts as down
+use Rattle.symbol.specs.Places.{foundOf}
+use Rattle.symbol.specs.declared.position.Found.{Found}
+use Rattle.symbol.specs.declared.position.Found.the-variants as Index
+use Rattle.cells.specs.Loops.{placed, laid, movedUp, blanked, freshCells, reach, blankAt, foundCell, firstWritten, lastWritten}
+
+-- ---- the word, and the copy from the last cell down to the first
+
+pub lay-start : (at to : ℕ) (w c : List ℕ) → to ≡ at + length w → fillFrom (placed at w) (to - at) at c ≡ laid at w c
+unfolding laid
+lay-start at to w c h =
+    let e : to - at ≡ length w = omega arith in
+    ap (λ (n : ℕ). fillFrom (placed at w) n at c) e
+
+module _ (c₀ c : List ℕ) (by n i : ℕ) (from : c ≡ fillFrom (placed by c₀) (n - i) (i + by) c₀) where
+  pub copy-turn : 0 < i → i ≤ n → set c (i - 1 + by) (getD c (i - 1) 0) ≡ fillFrom (placed by c₀) (n - (i - 1)) (i - 1 + by) c₀
+  unfolding fillFrom
+  copy-turn h g =
+      let m : n - (i - 1) ≡ suc (n - i) = omega arith in
+      let k : i - 1 + by + 1 ≡ i + by = omega arith in
+      let b : i - 1 + by - by ≡ i - 1 = omega arith in
+      let e : getD c (i - 1) 0 ≡ placed by c₀ (i - 1 + by) = ap (λ (l : List ℕ). getD l (i - 1) 0) from ∙ fill-before (placed by c₀) (n - i) (i + by) c₀ (i - 1) 0 (omega arith) ∙ rw b in
+      (λ j. set (from j) (i - 1 + by) (e j))
+      ∙ set-fill (placed by c₀) (n - i) (i + by) c₀ (i - 1 + by) (placed by c₀ (i - 1 + by)) (omega arith)
+      ∙ sym (ap (λ (x : ℕ). fillFrom (placed by c₀) x (i - 1 + by) c₀) m ∙ ap (λ (x : ℕ). fillFrom (placed by c₀) (n - i) x (set c₀ (i - 1 + by) (placed by c₀ (i - 1 + by)))) k)
+
+  pub copy-end : i ≤ 0 → c ≡ movedUp by n c₀
+  unfolding movedUp
+  copy-end h =
+      let a : n - i ≡ n = omega arith in
+      let b : i + by ≡ by = omega arith in
+      from ∙ (λ j. fillFrom (placed by c₀) (a j) (b j) c₀)
+
+pub copy-start : (c : List ℕ) (by n : ℕ) → c ≡ fillFrom (placed by c) (n - n) (n + by) c
+unfolding fillFrom
+copy-start c by n = let e : n - n ≡ 0 = omega arith in rw e
+
+-- ---- the blanks before the cells, and around the word
+
+pub open-is : (c c₁ c₂ : List ℕ) (more len : ℕ) → c₁ ≡ movedUp more len c → c₂ ≡ blanked 0 more c₁ → c₂ ≡ blanked 0 more (movedUp more len c)
+open-is c c₁ c₂ more len p q = q ∙ ap (blanked 0 more) p
+
+pub fresh-is : (w c c₁ c₂ c₃ : List ℕ) → c₁ ≡ blanked 0 16 c → c₂ ≡ laid 16 w c₁ → c₃ ≡ blanked (16 + length w) (32 + length w) c₂
+    → c₃ ≡ freshCells w c
+fresh-is w c c₁ c₂ c₃ p q r = r ∙ ap (λ (l : List ℕ). blanked (16 + length w) (32 + length w) l) (q ∙ ap (λ (l : List ℕ). laid 16 w l) p)
+
+-- ---- the scans
+
+module _ (c : List ℕ) (from to i : ℕ) (is : firstFail (blankAt c) (to - i) i ≡ firstFail (blankAt c) (to - from) from) where
+  pub first-here : i < to → (getD c i 0 ≡ 0 → ⊥) → Index.At i ≡ firstWritten c from to
+  unfolding firstWritten
+  first-here h z = sym (ap foundOf (first-hit (blankAt c) to i _ is h (ne-eqb _ _ z)))
+
+  pub first-onward : i < to → getD c i 0 ≡ 0 → firstFail (blankAt c) (to - (i + 1)) (i + 1) ≡ firstFail (blankAt c) (to - from) from
+  first-onward h z = first-next (blankAt c) to i _ is h (eq-eqb _ _ z)
+
+  pub first-nowhere : to ≤ i → Index.Nothing ≡ firstWritten c from to
+  unfolding firstWritten
+  first-nowhere h = sym (ap foundOf (first-end (blankAt c) to i _ is h))
+
+module _ (c : List ℕ) (to i : ℕ) (is : lastFail (blankAt c) i ≡ lastFail (blankAt c) to) where
+  pub last-here : 0 < i → (getD c (i - 1) 0 ≡ 0 → ⊥) → Index.At (i - 1) ≡ lastWritten c to
+  unfolding lastWritten
+  last-here h z = sym (ap foundOf (last-hit (blankAt c) i _ is h (ne-eqb _ _ z)))
+
+  pub last-onward : 0 < i → getD c (i - 1) 0 ≡ 0 → lastFail (blankAt c) (i - 1) ≡ lastFail (blankAt c) to
+  last-onward h z = last-next (blankAt c) i _ is h (eq-eqb _ _ z)
+
+  pub last-nowhere : i ≤ 0 → Index.Nothing ≡ lastWritten c to
+  unfolding lastWritten
+  last-nowhere h = sym (ap foundOf (last-end (blankAt c) i _ is h))
+
+-- what they find is one of the cells that they look at
+pub first-reach : (c : List ℕ) (from to n : ℕ) (f : Found) → f ≡ firstWritten c from to → to ≤ n → reach f ≤ n
+unfolding firstWritten
+first-reach c from to n f e h = rw e (by (scanned (blankAt c) (to - from) from))
+  where
+    by : {x : Option ℕ} → Scanned (blankAt c) (to - from) from x → reach (foundOf x) ≤ n
+    by (clean r) = omega arith
+    by (failed j a b z r) = omega arith
+
+pub last-reach : (c : List ℕ) (to n : ℕ) (f : Found) → f ≡ lastWritten c to → to ≤ n → reach f ≤ n
+unfolding lastWritten
+last-reach c to n f e h = rw e (by (scanned-down (blankAt c) to))
+  where
+    by : {x : Option ℕ} → ScannedDown (blankAt c) to x → reach (foundOf x) ≤ n
+    by (down.clean r) = omega arith
+    by (down.failed j a z r) = omega arith
+
+-- ---- the cell at an index that was found
+
+module _ (c : List ℕ) (f : Found) where
+  pub found-at : (x i : ℕ) → x ≡ getD c i 0 → f ≡ Index.At i → x ≡ foundCell c f
+  unfolding foundCell
+  found-at x i p e = rw e p
+
+  pub found-none : f ≡ Index.Nothing → 0 ≡ foundCell c f
+  unfolding foundCell
+  found-none e = rw e
+
+pub found-reach : (f : Found) (n i : ℕ) → f ≡ Index.At i → reach f ≤ n → i < n
+found-reach f n i e h = omega (arith, ap reach e)

@@ -1,0 +1,2 @@
+// The cells of a tape as a lent slice.
+pub mod inner;

@@ -1,0 +1,4 @@
+pub mod Entries
+pub mod Words
+pub mod EntryCases
+pub mod WordCases

@@ -1,0 +1,2 @@
+// What a tape's cells show at positions.
+pub mod inner;
