@@ -10,7 +10,7 @@ use Rattle.outcome.specs.Numbers.{refusalNumber}
 use Rattle.machine.specs.declared.Machine.{Machine}
 use Rattle.sim.specs.Engine.{Conf}
 use Rattle.times.specs.Timeline.{Reply, refused, answered, Call}
-use Rattle.times.specs.Kind.{WorldOf, newOn}
+use Rattle.times.specs.Kind.{newOn}
 use Rattle.sim_engine.specs.Kind.{Lent, createOf, plainKind}
 use Rattle.reader.specs.Listing.{Sofar, Listing, listing}
 use Rattle.reader.specs.Listing as Read

@@ -1,10 +1,10 @@
 -- What the code of the listing passes on, one fact for each return. Assumes nothing.
-use Prim.Native.Nat.{ℕ, _+_, _*_, _≤_, _<_}
+use Prim.Native.Nat.{ℕ, _+_, _≤_, _<_}
 use mathlib.Core.Path.{_≡_, refl, sym, ap, _∙_, subst}
-use mathlib.Core.List.{List, [], _∷_, _++_}
+use mathlib.Core.List.{List, _++_}
 use native.Mathlib.Omega.{arith}
 use borrow.Author.Tests.{lt-ltb, le-ltb}
-use lib.ListN.{length, take, drop}
+use lib.ListN.{length, drop}
 use lib.Seq.{paste, take-length}
 use Rattle.laws.specs.Choice.{pick}
 use Rattle.outcome.specs.declared.Refusal.{Refusal}
@@ -18,16 +18,16 @@ use Rattle.sim.specs.declared.Fresh.{Fresh}
 use Rattle.sim.specs.declared.Fresh.the-variants as New
 use Rattle.sim.specs.Engine.{Conf, conf}
 use Rattle.sim.specs.Operations.{engineCheck, made, newAnswer}
-use Rattle.times.specs.Timeline.{Reply, refused, answered, Call, newCheck, onNew, born, new}
+use Rattle.times.specs.Timeline.{refused, answered, Call, newCheck, onNew, new}
 use Rattle.times.specs.Kind.{WorldOf, opsFor, newOn, newWith}
 use Rattle.times.specs.CallCases.{new-passed}
-use Rattle.sim_engine.specs.Kind.{Lent, madeOn, plainKind}
+use Rattle.sim_engine.specs.Kind.{Lent, plainKind}
 use Rattle.sim_timeline.specs.declared.Timeline.{Timeline}
 use Rattle.sim_timeline.specs.declared.Begun.{Begun}
 use Rattle.sim_timeline.specs.declared.Begun.the-variants as Line
 use Rattle.sim_timeline.specs.Worlds.{W, begun}
 use Rattle.text.specs.Steps.{Wrote}
-use Rattle.text.specs.PrintCases.{wrote-then, wrote-put, wrote-long}
+use Rattle.text.specs.PrintCases.{wrote-then, wrote-put}
 use Rattle.reader.specs.declared.Reader.{Reader}
 use Rattle.reader.specs.declared.Parsed.{Parsed}
 use Rattle.reader.specs.declared.Parsed.the-variants as P
@@ -36,7 +36,7 @@ use Rattle.reader.specs.Reading.{sofar, listingOf, ReaderOk, ParsedOk}
 use Rattle.rows.specs.Rows.{rowsOf, rowLines, refusedLine, namesLine, output}
 use Rattle.listing.specs.declared.Listed.{Listed}
 use Rattle.listing.specs.declared.Listed.the-variants as Did
-use Rattle.listing.specs.Output.{turned, onReply, answerOn, answerWith, answerOf, answerFor, answerTo, listOf}
+use Rattle.listing.specs.Output.{turned, answerOn, answerWith, answerOf, answerFor, answerTo, listOf}
 
 -- the buffers that the code lends a fresh engine
 abbrev pub lentOf : (c0 c1 c2 : List ℕ) → Lent

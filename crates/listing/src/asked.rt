@@ -4,8 +4,7 @@ use sim::Fresh;
 use sim::Simulator;
 use sim_timeline::Begun;
 use sim_timeline::Timeline;
-ghost use mathlib.Core.Path.{_≡_};
-ghost use Prim.Native.Nat.{_*_, _≤_};
+ghost use Prim.Native.Nat.{_≤_};
 ghost use lib.ListN.{length};
 ghost use Rattle.sim.specs.Engine.{conf};
 ghost use Rattle.forms.specs.Answers.{callsOf};
@@ -42,7 +41,7 @@ fn on_timeline(
 }
 
 // The fresh engine on its buffers.
-fn with(
+fn on_engine(
     out: &mut [u8],
     m: Machine,
     table: &[u8],
@@ -69,7 +68,7 @@ fn with(
 }
 
 // 4,096 cells for the one tape, and a store of 9 slots of 4,224 bytes.
-pub(crate) fn fresh(
+pub(crate) fn in_buffers(
     out: &mut [u8],
     m: Machine,
     table: &[u8],
@@ -84,5 +83,16 @@ pub(crate) fn fresh(
     let mut c1: [u8; 0] = [0; 0];
     let mut c2: [u8; 0] = [0; 0];
     let mut store: [u8; 38016] = [0; 38016];
-    with(out, m, table, word, &mut c0, &mut c1, &mut c2, &mut store, calls, n)
+    on_engine(
+        out,
+        m,
+        table,
+        word,
+        &mut c0,
+        &mut c1,
+        &mut c2,
+        &mut store,
+        calls,
+        n,
+    )
 }

@@ -17,7 +17,7 @@ fn answer(x: Reader, out: &mut [u8], table: &[u8], word: &[u8], calls: &[u64]) -
     let m = x.machine;
     let size = (8 * (m.states * m.symbols)) as usize;
     let n = x.word;
-    asked::fresh(out, m, &table[..size], &word[..n], calls, x.calls)
+    asked::in_buffers(out, m, &table[..size], &word[..n], calls, x.calls)
 }
 
 // A bad line's number, or the answer.

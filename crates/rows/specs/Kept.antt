@@ -1,13 +1,11 @@
 -- A call leaves an engine that passes its check, where it was made on one. Assumes nothing.
-use mathlib.Core.Path.{_≡_, refl, sym}
+use mathlib.Core.Path.{_≡_, refl}
 use mathlib.Core.List.{List}
 use mathlib.Core.Option.{Option, none, some}
-use Prim.Native.Nat.{ℕ, zero, suc, _+_, _≤_, max}
+use Prim.Native.Nat.{ℕ, zero, suc, _≤_, max}
 use native.Mathlib.Omega.{arith}
 use borrow.Author.Tests.{leb-true, ltb-false}
 use lib.Dec.{eqb, ltb}
-use lib.ListN.{length}
-use Rattle.laws.specs.Choice.{pick}
 use Rattle.laws.specs.Tests.{both-split, pick-cases}
 use Rattle.outcome.specs.declared.Outcome.{Outcome}
 use Rattle.machine.specs.declared.Machine.{Machine}
@@ -22,7 +20,7 @@ use Rattle.times.specs.Ops.{limit, Ops}
 use Rattle.times.specs.Timeline.{Reply, Call, target, ended, turned, recordDue, stride, advanceTo, goOn, fromSlot, goBack, stay, goTo, callCheck, onCheck, call}
 use Rattle.times.specs.Code.{not-done, strides, Strides}
 use Rattle.times.specs.Kind.{Kind, WorldOf, opsOf, callOn}
-use Rattle.times.specs.Sound.{Sound, LoopOk, GoOk, rewindOf}
+use Rattle.times.specs.Sound.{Sound, GoOk, rewindOf}
 use Rattle.times.specs.TurnCases.{moves}
 use Rattle.times.specs.CallCases.{seek-ok, to-low, back-loop}
 use Rattle.sim_engine.specs.RoundTrip.{fitted}
@@ -63,7 +61,7 @@ module _ (X : Kind) (m : Machine) (s : List ℕ) (size : ℕ) (Fit : X .State �
     to-fits = pick-cases {A = Reply Outcome × WorldOf X} (eqb t (X .now (w .engine))) _ _ (λ r. Fit (r .1 .engine))
         (λ q. E .advance-fits 0 (w .engine) (ok .rec .fits) (to-low X m s size Fit E t w ok))
         (λ q. pick-cases (ltb t (X .now (w .engine))) (goBack O t w) (goOn O t w) (λ r. Fit (r .1 .engine))
-          (λ q. from-fits _ refl) (λ q. on-fits (ltb-false t (X .now (w .engine)) q)))
+        (λ q. from-fits _ refl) (λ q. on-fits (ltb-false t (X .now (w .engine)) q)))
 
   call-fits : (w : WorldOf X) (c : Call) → X .check m s (w .engine) ≡ Accepted → X .slotSize m (w .engine) ≡ size → Fit (call O w c .1 .engine)
   unfolding call

@@ -9,7 +9,6 @@ use borrow.Author.Tests.{ltb-true, ltb-false}
 use lib.Dec.{ltb}
 use lib.ListN.{length, getD, drop, drop-of-length-le, List·getD-append}
 use lib.Seq.{paste, paste-zero, drop-cons, getD-append-seam}
-use lib.IntN.{ℤ}
 use Rattle.laws.specs.Position.{_⊖_}
 use Rattle.laws.specs.Tests.{by-test}
 use Rattle.outcome.specs.declared.Outcome.{Outcome}
@@ -23,13 +22,11 @@ use Rattle.tape.specs.Fits.{TapeOk}
 use Rattle.sim.specs.declared.Simulator.{Simulator}
 use Rattle.sim.specs.declared.Answer.{Answer}
 use Rattle.sim.specs.declared.Answer.the-variants as Ans
-use Rattle.sim.specs.Engine.{conf}
 use Rattle.sim.specs.Operations.{engineCheck}
 use Rattle.times.specs.Timeline.{Reply, answered, Call, seek, forward, back}
 use Rattle.times.specs.Kind.{WorldOf, callOn}
 use Rattle.sim_engine.specs.Kind.{plainKind}
-use Rattle.sim_timeline.specs.declared.Timeline.{Timeline}
-use Rattle.sim_timeline.specs.Worlds.{W, replied}
+use Rattle.sim_timeline.specs.Worlds.{replied}
 use Rattle.text.specs.Text.{bytes}
 use Rattle.text.specs.Show.{show, showℤ}
 use Rattle.text.specs.Steps.{Wrote}
@@ -93,19 +90,21 @@ pub row-done : (o : List ℕ) (at : ℕ) (a : Outcome) (v : Simulator) (cells : 
 unfolding rowLine rowOf
 row-done o at a v cells c o₁ o₂ o₃ o₄ o₅ o₆ r₁ r₂ r₃ r₄ r₅ r₆ count p1 p2 p3 p4 p5 p6 f =
     let w = wrote-then (wrote-then (wrote-then (wrote-then (p1 .0) (p2 .0)) (p3 .0)) (p4 .0)) (p5 .0) in
-    let k : r₅ + 1 ≤ length o₅ = omega (arith, wrote-long w, p1 .1, p2 .1, p3 .1, p4 .1, p5 .1) in
-    (wrote-same (rowLine (rowOf (answered a) v cells))
-      (wrote-then w (wrote-put o₅ r₅ (10 ∷ []) o₆ r₆ (10 ∷ []) refl p6 k))
-      (rw (← count) (regroup (said a) (32 ∷ show (v .steps)) (32 ∷ show (v .state .0)) (32 ∷ showℤ (v .t0 .head ⊖ v .t0 .origin)) (32 ∷ showℤ (v .t0 .lowest ⊖ v .t0 .origin))
-        (32 ∷ showℤ (v .t0 .highest ⊖ v .t0 .origin)) (32 ∷ show c) (10 ∷ []))),
-      omega (arith, p1 .1, p2 .1, p3 .1, p4 .1, p5 .1, p6 .0))
+    let k : r₅ + 1 ≤ length o₅ = omega (arith, wrote-long w, p1 .1, p2 .1, p3 .1, p4 .1, p5 .1) in (
+      wrote-same (rowLine (rowOf (answered a) v cells))
+          (wrote-then w (wrote-put o₅ r₅ (10 ∷ []) o₆ r₆ (10 ∷ []) refl p6 k))
+          (rw (← count) (regroup (said a) (32 ∷ show (v .steps)) (32 ∷ show (v .state .0)) (32 ∷ showℤ (v .t0 .head ⊖ v .t0 .origin)) (32 ∷ showℤ (v .t0 .lowest ⊖ v .t0 .origin))
+          (32 ∷ showℤ (v .t0 .highest ⊖ v .t0 .origin)) (32 ∷ show c) (10 ∷ []))),
+      omega (arith, p1 .1, p2 .1, p3 .1, p4 .1, p5 .1, p6 .0),
+    )
 
 pub refused-done : (o : List ℕ) (at n : ℕ) (o₁ o₂ o₃ : List ℕ) (r₁ r₂ r₃ : ℕ) → (r₁ ≡ at + 8) × (o₁ ≡ paste o at (bytes "refused ") 8) → Wrote o₁ r₁ (show n) o₂ r₂ × (r₂ ≤ r₁ + 20)
     → (r₃ ≡ r₂ + 1) × (o₃ ≡ paste o₂ r₂ (10 ∷ []) 1) → at + 8 ≤ length o → r₂ + 1 ≤ length o₂ → Wrote o at (refusedLine n) o₃ r₃ × (r₃ ≤ at + 29)
 unfolding refusedLine
-refused-done o at n o₁ o₂ o₃ r₁ r₂ r₃ p1 p2 p3 h k =
-    (wrote-then (wrote-then (wrote-put o at (bytes "refused ") o₁ r₁ (bytes "refused ") refl p1 h) (p2 .0)) (wrote-put o₂ r₂ (10 ∷ []) o₃ r₃ (10 ∷ []) refl p3 k),
-      omega (arith, p1 .0, p2 .1, p3 .0))
+refused-done o at n o₁ o₂ o₃ r₁ r₂ r₃ p1 p2 p3 h k = (
+  wrote-then (wrote-then (wrote-put o at (bytes "refused ") o₁ r₁ (bytes "refused ") refl p1 h) (p2 .0)) (wrote-put o₂ r₂ (10 ∷ []) o₃ r₃ (10 ∷ []) refl p3 k),
+  omega (arith, p1 .0, p2 .1, p3 .0),
+)
 
 module _ (o : List ℕ) (at : ℕ) (o′ : List ℕ) (r : ℕ) (a : Answer) (v : Simulator) (cells : List ℕ) where
   pub row-turned : (why : Refusal) (n : ℕ) → a ≡ Ans.Refused why → n ≡ refusalNumber why → Wrote o at (refusedLine n) o′ r × (r ≤ at + 29)

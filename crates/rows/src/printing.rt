@@ -3,7 +3,6 @@ use outcome::Outcome;
 use sim::Simulator;
 use tape::Tape;
 use text::inner as write;
-ghost use mathlib.Core.Path.{_≡_};
 ghost use mathlib.Core.List.{_∷_, _++_};
 ghost use Prim.Native.Nat.{_+_, _≤_};
 ghost use lib.ListN.{length};

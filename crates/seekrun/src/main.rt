@@ -1,5 +1,5 @@
-// Reads a listing from standard input, and writes its rows to standard output. A listing that is not refused is shorter
-// than the buffer; a longer input has a bad line within it.
+// Reads a listing from standard input, and writes its rows to standard output. Of a longer input the first 65,536 bytes
+// are read: they are answered as the whole is (`answer-first`, in the specs of listing).
 use listing::Listed;
 
 fn main() {

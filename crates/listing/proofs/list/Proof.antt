@@ -4,23 +4,16 @@ use Rattle.listing.specs.OutputCases.{list-short, list-long}
 use borrow.Author.Needs.{needs}
 use Rattle.listing.proofs.list.Statement.{statement}
 use Rattle.listing.proofs.list.Tie as tie
-use Rattle.listing.proofs.list.Reads as reads
-use Rattle.listing.proofs.list.Lts as lts
-use Rattle.listing.proofs.printed.print.Reads as print-reads
 
--- src/lib.rt:22:9
 returns : tie.Need-returns
 returns c = (list-short _ _ (omega arith), tt)
 
--- src/lib.rt:24:21
 print-requires : tie.Need-print-requires
 print-requires c κs = search needs
 
--- src/lib.rt:18:1
 same-length : tie.Need-same-length
 same-length c = search needs
 
--- src/lib.rt:18:1
 returns-2 : tie.Need-returns-2
 returns-2 c = (list-long _ _ _ _ (omega arith) (c .before .before .print .ensures), omega (arith, c .before .before .print .ensures .ends, c .before .before .print .ensures .fits, wrote-long (c .before .before .print .ensures)))
 

@@ -3,95 +3,67 @@ use Rattle.listing.specs.OutputCases.{new-fits, new-turned, new-rows}
 use borrow.Author.Needs.{needs}
 use Rattle.listing.proofs.asked.on_timeline.Statement.{statement}
 use Rattle.listing.proofs.asked.on_timeline.Tie as tie
-use Rattle.listing.proofs.asked.on_timeline.Reads as reads
-use Rattle.listing.proofs.asked.on_timeline.Lts as lts
-use Rattle.outcome.proofs.Refusal.number.Reads as number-reads
-use Rattle.rows.proofs.inner.refused.Reads as refused-reads
-use Rattle.rows.proofs.inner.rows.Reads as rows-reads
-use Rattle.sim_timeline.proofs.Timeline.new.Reads as new-reads
-use Rattle.text.proofs.inner.put.Reads as put-reads
 
--- src/asked.rt:32:9
 new-requires : tie.Need-new-requires
 new-requires c κs = search needs
 
--- src/asked.rt:34:24
 enum-known-begun : tie.Need-enum-known-begun
 enum-known-begun c = search needs
 
--- src/asked.rt:35:49
 number-requires : tie.Need-number-requires
 number-requires c κs = search needs
 
--- src/asked.rt:35:49
 cast-refused : tie.Need-cast-refused
 cast-refused c = search needs
 
--- src/asked.rt:35:13
 refused-requires : tie.Need-refused-requires
 refused-requires c κs = search needs
 
--- src/asked.rt:35:13
 same-length : tie.Need-same-length
 same-length c = search needs
 
--- src/asked.rt:35:13
 same-length-2 : tie.Need-same-length-2
 same-length-2 c = search needs
 
--- src/asked.rt:35:13
 same-length-3 : tie.Need-same-length-3
 same-length-3 c = search needs
 
--- src/asked.rt:35:13
 same-length-4 : tie.Need-same-length-4
 same-length-4 c = search needs
 
--- src/asked.rt:35:13
 same-length-5 : tie.Need-same-length-5
 same-length-5 c = search needs
 
--- src/asked.rt:35:13
 returns : tie.Need-returns
 returns c = new-turned _ _ _ _ _ _ _ _ _ (c .before .before .before .before .before .before .before .before .before .before .new .ensures) _ _ _ (c .before .before .before .before .before .before .begun .given .1) (c .before .before .before .number .ensures) (c .before .before .refused .ensures)
 
--- src/asked.rt:37:21
 enum-known-begun-2 : tie.Need-enum-known-begun-2
 enum-known-begun-2 c = search needs
 
--- src/asked.rt:38:47
 slice-aggregate-put : tie.Need-slice-aggregate-put
 slice-aggregate-put c = search needs
 
--- src/asked.rt:38:17
 put-requires : tie.Need-put-requires
 put-requires c κs = omega (arith, c .before .before .before .before .before .before .before .before .before .before .before .before .before .before .before .before .before .before .before .pre .0)
 
--- src/asked.rt:39:13
 rows-requires : tie.Need-rows-requires
 rows-requires c κs = (omega (arith, c .before .before .before .before .before .before .before .before .before .before .before .before .before .before .before .before .before .before .before .before .before .before .before .before .before .before .before .pre .0, c .before .before .before .before .before .before .before .before .before .before .before .before .before .before .before .before .before .before .before .before .before .before .before .before .before .before .before .pre .2, c .before .before .before .before .before .before .before .put .ensures .0), omega (arith, c .before .before .before .before .before .before .before .before .before .before .before .before .before .before .before .before .before .before .before .before .before .before .before .before .before .before .before .pre .1, c .before .before .before .before .before .before .before .before .before .before .before .before .before .before .before .before .before .before .before .before .before .before .before .before .before .before .before .pre .2), new-fits _ _ _ _ _ _ _ _ _ (c .before .before .before .before .before .before .before .before .before .before .before .before .before .before .before .new .ensures) _ (c .before .before .before .before .before .before .before .before .before .before .before .begun2 .given .1))
 
--- src/asked.rt:39:13
 same-length-6 : tie.Need-same-length-6
 same-length-6 c = search needs
 
--- src/asked.rt:39:13
 same-length-7 : tie.Need-same-length-7
 same-length-7 c = search needs
 
--- src/asked.rt:39:13
 same-length-8 : tie.Need-same-length-8
 same-length-8 c = search needs
 
--- src/asked.rt:39:13
 same-length-9 : tie.Need-same-length-9
 same-length-9 c = search needs
 
--- src/asked.rt:39:13
 same-length-10 : tie.Need-same-length-10
 same-length-10 c = search needs
 
--- src/asked.rt:39:13
 returns-2 : tie.Need-returns-2
 returns-2 c = new-rows _ _ _ _ _ _ _ _ _ (c .before .before .before .before .before .before .before .before .before .before .before .before .before .before .before .before .before .before .before .before .before .before .before .before .before .before .new .ensures) _ _ _ _ _ (c .before .before .before .before .before .before .before .before .before .before .before .before .before .before .before .before .before .before .before .before .before .before .begun2 .given .1) (c .before .before .before .before .before .before .before .before .before .before .before .before .before .before .before .before .before .before .put .ensures) (omega (arith, c .before .before .before .before .before .before .before .before .before .before .before .before .before .before .before .before .before .before .before .before .before .before .before .before .before .before .before .before .before .before .before .before .before .before .before .before .before .before .pre .0)) (c .before .before .before .before .before .before .before .before .before .before .rows .ensures)
 

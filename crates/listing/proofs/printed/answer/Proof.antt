@@ -6,38 +6,28 @@ use Rattle.listing.specs.Output.{answerOf}
 use borrow.Author.Needs.{needs}
 use Rattle.listing.proofs.printed.answer.Statement.{statement}
 use Rattle.listing.proofs.printed.answer.Tie as tie
-use Rattle.listing.proofs.printed.answer.Reads as reads
-use Rattle.listing.proofs.printed.answer.Lts as lts
-use Rattle.listing.proofs.asked.fresh.Reads as fresh-reads
 
--- src/printed.rt:18:22
 mul-size : tie.Need-mul-size
 mul-size c = search needs
 
--- src/printed.rt:18:17
 mul-size-2 : tie.Need-mul-size-2
 mul-size-2 c = search needs
 
--- src/printed.rt:20:26
-slice-aggregate-fresh : tie.Need-slice-aggregate-fresh
-slice-aggregate-fresh c = sym (length-take-le _ (c .before .before .before .before .before .before .before .before .args .table .now) (omega (arith, c .before .before .before .before .before .before .before .before .pre .1 .small .few, c .before .before .before .before .before .before .before .before .pre .2)))
+slice-aggregate-in-buffers : tie.Need-slice-aggregate-in-buffers
+slice-aggregate-in-buffers c = sym (length-take-le _ (c .before .before .before .before .before .before .before .before .args .table .now) (omega (arith, c .before .before .before .before .before .before .before .before .pre .1 .small .few, c .before .before .before .before .before .before .before .before .pre .2)))
 
--- src/printed.rt:20:42
-slice-aggregate-fresh-2 : tie.Need-slice-aggregate-fresh-2
-slice-aggregate-fresh-2 c = sym (length-take-le _ (c .before .before .before .before .before .before .before .before .before .args .word .now) (omega (arith, c .before .before .before .before .before .before .before .before .before .pre .1 .word-ok, c .before .before .before .before .before .before .before .before .before .pre .3)))
+slice-aggregate-in-buffers-2 : tie.Need-slice-aggregate-in-buffers-2
+slice-aggregate-in-buffers-2 c = sym (length-take-le _ (c .before .before .before .before .before .before .before .before .before .args .word .now) (omega (arith, c .before .before .before .before .before .before .before .before .before .pre .1 .word-ok, c .before .before .before .before .before .before .before .before .before .pre .3)))
 
--- src/printed.rt:20:5
-fresh-requires : tie.Need-fresh-requires
-fresh-requires c κs = search needs
+in-buffers-requires : tie.Need-in-buffers-requires
+in-buffers-requires c κs = search needs
 
--- src/printed.rt:13:1
 same-length : tie.Need-same-length
 same-length c = search needs
 
--- src/printed.rt:13:1
 returns : tie.Need-returns
 unfolding answerOf sofar
-returns c = c .before .before .fresh .ensures
+returns c = c .before .before .in-buffers .ensures
 
 pub answer-spec : {M : Type 1} → statement M
 answer-spec =
@@ -45,8 +35,8 @@ answer-spec =
     (tie.spec
     mul-size
     mul-size-2
-    slice-aggregate-fresh
-    slice-aggregate-fresh-2
-    fresh-requires
+    slice-aggregate-in-buffers
+    slice-aggregate-in-buffers-2
+    in-buffers-requires
     same-length
     returns)

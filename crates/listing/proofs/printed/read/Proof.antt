@@ -1,47 +1,32 @@
-use native.Mathlib.Omega.{arith}
 use Rattle.listing.specs.OutputCases.{read-bad, read-asked, asked-ok}
 use borrow.Author.Needs.{needs}
 use Rattle.listing.proofs.printed.read.Statement.{statement}
 use Rattle.listing.proofs.printed.read.Tie as tie
-use Rattle.listing.proofs.printed.read.Reads as reads
-use Rattle.listing.proofs.printed.read.Lts as lts
-use Rattle.listing.proofs.printed.answer.Reads as answer-reads
-use Rattle.reader.proofs.inner.parse.Reads as parse-reads
-use Rattle.rows.proofs.inner.refused.Reads as refused-reads
 
--- src/printed.rt:34:9
 parse-requires : tie.Need-parse-requires
 parse-requires c κs = search needs
 
--- src/printed.rt:36:25
 enum-known-parsed : tie.Need-enum-known-parsed
 enum-known-parsed c = search needs
 
--- src/printed.rt:37:13
 refused-requires : tie.Need-refused-requires
 refused-requires c κs = search needs
 
--- src/printed.rt:37:13
 same-length : tie.Need-same-length
 same-length c = search needs
 
--- src/printed.rt:37:13
 returns : tie.Need-returns
 returns c = read-bad _ _ _ _ _ (c .before .before .before .before .before .before .before .parse .ensures .0) _ (c .before .before .before .before .before .parsed .given .1) (c .before .before .refused .ensures)
 
--- src/printed.rt:39:23
 enum-known-parsed-2 : tie.Need-enum-known-parsed-2
 enum-known-parsed-2 c = search needs
 
--- src/printed.rt:40:13
 answer-requires : tie.Need-answer-requires
 answer-requires c κs = (c .before .before .before .before .before .before .before .before .before .before .before .before .before .before .before .before .pre .0, asked-ok _ _ (c .before .before .before .before .before .before .before .before .parsed2 .given .1) (c .before .before .before .before .before .before .before .before .before .before .parse .ensures .1), search needs, search needs, search needs)
 
--- src/printed.rt:40:13
 same-length-2 : tie.Need-same-length-2
 same-length-2 c = search needs
 
--- src/printed.rt:40:13
 returns-2 : tie.Need-returns-2
 returns-2 c = read-asked _ _ _ _ _ (c .before .before .before .before .before .before .before .before .before .before .before .before .before .parse .ensures .0) _ (c .before .before .before .before .before .before .before .before .before .before .before .parsed2 .given .1) (c .before .before .answer .ensures)
 

@@ -2,81 +2,58 @@ use Rattle.rows.specs.RowCases.{was-seek, was-forward, was-back}
 use borrow.Author.Needs.{needs}
 use Rattle.rows.proofs.inner.call.Statement.{statement}
 use Rattle.rows.proofs.inner.call.Tie as tie
-use Rattle.rows.proofs.inner.call.Reads as reads
-use Rattle.rows.proofs.inner.call.Lts as lts
-use Rattle.sim_timeline.proofs.Timeline.back.Reads as back-reads
-use Rattle.sim_timeline.proofs.Timeline.forward.Reads as forward-reads
-use Rattle.sim_timeline.proofs.Timeline.seek.Reads as seek-reads
 
--- src/inner.rt:63:9
 seek-requires : tie.Need-seek-requires
 seek-requires c κs = search needs
 
--- src/inner.rt:63:9
 same-length : tie.Need-same-length
 same-length c = search needs
 
--- src/inner.rt:63:9
 same-length-2 : tie.Need-same-length-2
 same-length-2 c = search needs
 
--- src/inner.rt:63:9
 same-length-3 : tie.Need-same-length-3
 same-length-3 c = search needs
 
--- src/inner.rt:63:9
 same-length-4 : tie.Need-same-length-4
 same-length-4 c = search needs
 
--- src/inner.rt:63:9
 returns : tie.Need-returns
 returns c = was-seek _ _ _ _ _ _ (c .before .before .before .before .before .before .before .before .before .before .before .before .before .if1 .taken) (c .before .before .before .before .before .before .before .before .seek .ensures)
 
--- src/inner.rt:66:9
 forward-requires : tie.Need-forward-requires
 forward-requires c κs = search needs
 
--- src/inner.rt:66:9
 same-length-5 : tie.Need-same-length-5
 same-length-5 c = search needs
 
--- src/inner.rt:66:9
 same-length-6 : tie.Need-same-length-6
 same-length-6 c = search needs
 
--- src/inner.rt:66:9
 same-length-7 : tie.Need-same-length-7
 same-length-7 c = search needs
 
--- src/inner.rt:66:9
 same-length-8 : tie.Need-same-length-8
 same-length-8 c = search needs
 
--- src/inner.rt:66:9
 returns-2 : tie.Need-returns-2
 returns-2 c = was-forward _ _ _ _ _ _ (c .before .before .before .before .before .before .before .before .before .before .before .before .before .if2 .taken) (c .before .before .before .before .before .before .before .before .forward .ensures)
 
--- src/inner.rt:68:5
 back-requires : tie.Need-back-requires
 back-requires c κs = search needs
 
--- src/inner.rt:49:1
 same-length-9 : tie.Need-same-length-9
 same-length-9 c = search needs
 
--- src/inner.rt:49:1
 same-length-10 : tie.Need-same-length-10
 same-length-10 c = search needs
 
--- src/inner.rt:49:1
 same-length-11 : tie.Need-same-length-11
 same-length-11 c = search needs
 
--- src/inner.rt:49:1
 same-length-12 : tie.Need-same-length-12
 same-length-12 c = search needs
 
--- src/inner.rt:49:1
 returns-3 : tie.Need-returns-3
 returns-3 c = was-back _ _ _ _ _ _ (c .before .before .before .before .before .before .before .before .before .before .before .before .before .before .if1 .left) (c .before .before .before .before .before .before .before .before .before .before .before .before .before .if2 .left) (c .before .before .before .before .before .before .before .before .back .ensures)
 

@@ -3,36 +3,25 @@ use Rattle.rows.specs.RowCases.{refused-done}
 use borrow.Author.Needs.{needs}
 use Rattle.rows.proofs.inner.refused.Statement.{statement}
 use Rattle.rows.proofs.inner.refused.Tie as tie
-use Rattle.rows.proofs.inner.refused.Reads as reads
-use Rattle.rows.proofs.inner.refused.Lts as lts
-use Rattle.text.proofs.inner.print_u64.Reads as print-u64-reads
-use Rattle.text.proofs.inner.put.Reads as put-reads
 
--- src/inner.rt:28:34
 slice-aggregate-put : tie.Need-slice-aggregate-put
 slice-aggregate-put c = search needs
 
--- src/inner.rt:28:9
 put-requires : tie.Need-put-requires
 put-requires c κs = search needs
 
--- src/inner.rt:29:9
 print-u64-requires : tie.Need-print-u64-requires
 print-u64-requires c κs = search needs
 
--- src/inner.rt:30:25
 slice-aggregate-put-2 : tie.Need-slice-aggregate-put-2
 slice-aggregate-put-2 c = search needs
 
--- src/inner.rt:30:5
 put-requires-2 : tie.Need-put-requires-2
 put-requires-2 c κs = search needs
 
--- src/inner.rt:24:1
 same-length : tie.Need-same-length
 same-length c = search needs
 
--- src/inner.rt:24:1
 returns : tie.Need-returns
 returns c = refused-done _ _ _ _ _ _ _ _ _ (c .before .before .before .before .before .before .before .before .before .before .before .put .ensures) (c .before .before .before .before .before .before .before .print-u64 .ensures) (c .before .before .put2 .ensures) (omega arith) (omega arith)
 

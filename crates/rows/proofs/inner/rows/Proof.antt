@@ -7,92 +7,69 @@ use Rattle.rows.specs.RowCases.{RowsInv, rows-start, row-ready, rows-nex
 use borrow.Author.Needs.{needs}
 use Rattle.rows.proofs.inner.rows.Statement.{statement}
 use Rattle.rows.proofs.inner.rows.Tie as tie
-use Rattle.rows.proofs.inner.rows.Reads as reads
-use Rattle.rows.proofs.inner.rows.Lts as lts
-use Rattle.rows.proofs.inner.call.Reads as call-reads
-use Rattle.rows.proofs.inner.row.Reads as row-reads
 
 abbrev Inv-loop : tie.InvT-loop
-Inv-loop out₀ at m table c0₀ c1₀ c2₀ store₀ calls n line₀ end₀ i₀ out c0 c1 c2 store line end i = 
+Inv-loop out₀ at m table c0₀ c1₀ c2₀ store₀ calls n line₀ end₀ i₀ out c0 c1 c2 store line end i =
     RowsInv m table calls n out₀ at (W line₀ c0₀ c1₀ c2₀ store₀) (W line c0 c1 c2 store) out end i
     × (length c0 ≡ length c0₀) × (length c1 ≡ length c1₀) × (length c2 ≡ length c2₀) × (length store ≡ length store₀)
 
 abbrev μ-loop : tie.MeasureT-loop
 μ-loop out₀ at m table c0₀ c1₀ c2₀ store₀ calls n line₀ end₀ i₀ out c0 c1 c2 store line end i = n - i
 
--- src/inner.rt:91:5
 loop-holds : tie.Need-loop-holds Inv-loop μ-loop
 loop-holds c = (rows-start _ _ _ _ _ _ _ (c .before .before .before .before .before .before .before .pre .0) (c .before .before .before .before .before .before .before .pre .2), refl, refl, refl, refl)
 
--- src/inner.rt:92:26
 mul-kind : tie.Need-mul-kind Inv-loop μ-loop
 mul-kind c = search needs
 
--- src/inner.rt:92:20
 mul-kind-2 : tie.Need-mul-kind-2 Inv-loop μ-loop
 mul-kind-2 c = search needs
 
--- src/inner.rt:92:20
 shared-slice-read-kind : tie.Need-shared-slice-read-kind Inv-loop μ-loop
 shared-slice-read-kind c = search needs
 
--- src/inner.rt:93:28
 mul-number : tie.Need-mul-number Inv-loop μ-loop
 mul-number c = search needs
 
--- src/inner.rt:93:28
 add-number : tie.Need-add-number Inv-loop μ-loop
 add-number c = search needs
 
--- src/inner.rt:93:22
 mul-number-2 : tie.Need-mul-number-2 Inv-loop μ-loop
 mul-number-2 c = search needs
 
--- src/inner.rt:93:22
 shared-slice-read-number : tie.Need-shared-slice-read-number Inv-loop μ-loop
 shared-slice-read-number c = search needs
 
--- src/inner.rt:94:13
 call-requires : tie.Need-call-requires Inv-loop μ-loop
 call-requires c κs = search needs
 
--- src/inner.rt:98:9
 row-requires : tie.Need-row-requires Inv-loop μ-loop
 row-requires c κs = row-ready _ _ _ _ _ _ _ _ _ _ (c .before .before .before .before .before .before .before .before .before .before .before .before .call .result .answer) (c .before .before .before .before .before .before .before .before .before .before .before .before .call .ensures) _ _ (c .before .before .before .before .before .before .before .before .before .before .before .before .before .before .before .before .before .before .before .before .loop .inv .0) (omega arith) (c .before .before .before .before .before .before .before .before .before .before .before .before .before .before .before .before .before .before .before .before .before .before .before .before .before .before .before .before .pre .0)
 
--- src/inner.rt:99:9
 add-i : tie.Need-add-i Inv-loop μ-loop
 add-i c = omega (arith, c .before .before .before .before .before .before .before .before .before .before .before .before .before .before .before .before .before .before .before .before .before .before .before .before .before .before .before .before .before .before .before .good .1 .1 .1 .1 .1 .1 .1 .1 .1 .1 .0)
 
--- src/inner.rt:91:5
 loop-less : tie.Need-loop-less Inv-loop μ-loop
 loop-less c = search needs
 
--- src/inner.rt:91:5
 loop-again : tie.Need-loop-again Inv-loop μ-loop
 loop-again c = (rows-next _ _ _ _ _ _ _ _ _ _ (c .before .before .before .before .before .before .before .before .before .before .before .before .before .before .before .call .result .answer) (c .before .before .before .before .before .before .before .before .before .before .before .before .before .before .before .call .ensures) _ _ (c .before .before .before .before .before .before .before .before .before .before .before .before .before .before .before .before .before .before .before .before .before .before .before .loop .inv .0) (omega arith) _ _ (c .before .before .row .ensures), search needs, search needs, search needs, search needs)
 
--- src/inner.rt:72:1
 same-length : tie.Need-same-length Inv-loop μ-loop
 same-length c = search needs
 
--- src/inner.rt:72:1
 same-length-2 : tie.Need-same-length-2 Inv-loop μ-loop
 same-length-2 c = search needs
 
--- src/inner.rt:72:1
 same-length-3 : tie.Need-same-length-3 Inv-loop μ-loop
 same-length-3 c = search needs
 
--- src/inner.rt:72:1
 same-length-4 : tie.Need-same-length-4 Inv-loop μ-loop
 same-length-4 c = search needs
 
--- src/inner.rt:72:1
 same-length-5 : tie.Need-same-length-5 Inv-loop μ-loop
 same-length-5 c = search needs
 
--- src/inner.rt:72:1
 returns : tie.Need-returns Inv-loop μ-loop
 returns c = rows-end _ _ _ _ _ _ _ _ _ _ _ (c .before .loop .inv .0) (omega arith)
 

@@ -4,28 +4,19 @@ use Rattle.text.specs.PrintCases.{byte-then}
 use borrow.Author.Needs.{needs}
 use Rattle.rows.proofs.printing.position.Statement.{statement}
 use Rattle.rows.proofs.printing.position.Tie as tie
-use Rattle.rows.proofs.printing.position.Reads as reads
-use Rattle.rows.proofs.printing.position.Lts as lts
-use Rattle.text.proofs.inner.print_position.Reads as print-position-reads
-use Rattle.text.proofs.inner.put.Reads as put-reads
 
--- src/printing.rt:55:36
 slice-aggregate-put : tie.Need-slice-aggregate-put
 slice-aggregate-put c = search needs
 
--- src/printing.rt:55:9
 put-requires : tie.Need-put-requires
 put-requires c κs = search needs
 
--- src/printing.rt:56:5
 print-position-requires : tie.Need-print-position-requires
 print-position-requires c κs = search needs
 
--- src/printing.rt:51:1
 same-length : tie.Need-same-length
 same-length c = search needs
 
--- src/printing.rt:51:1
 returns : tie.Need-returns
 unfolding _⊖_
 returns c = byte-then _ _ _ _ _ _ _ _ _ (c .before .before .before .before .before .before .put .ensures) (c .before .before .print-position .ensures) (omega arith)

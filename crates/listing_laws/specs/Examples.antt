@@ -1,0 +1,42 @@
+-- Document 01's input and one other, answered by the definitions: their outputs, computed. Assumes nothing.
+use mathlib.Core.Path.{_≡_, refl}
+use Rattle.text.specs.Text.{bytes}
+use Rattle.laws.specs.Choice.{pick, both}
+use Rattle.laws.specs.Scan.{allIn, firstFail}
+use Rattle.laws.specs.ScanDown.{countFails}
+use Rattle.laws.specs.Fill.{fillFrom}
+use Rattle.laws.specs.Position.{_⊖_}
+use Rattle.machine.specs.Layout.{actionAt, entryAt}
+use Rattle.machine.specs.Check.{definedOk, entryOk, entriesCheck, sizeCheck, tableCheck}
+use Rattle.machine.specs.Word.{symbolsCheck, wordCheck}
+use Rattle.tape.specs.Growth.{extra}
+use Rattle.tape.specs.Moves.{blanked, laid, movedUp, freshOf, readOf, leaves, roomFor, grownBy, shiftOf, moveOf, actOf}
+use Rattle.tape.specs.Fits.{tapeFits}
+use Rattle.tape.specs.Questions.{blankBeyond, countOf}
+use Rattle.sim.specs.Engine.{lookWith, roomsFor, stepOf, matches, runOf, stays, staysAll, loopOf, judgeOf, lookOn, entryOf}
+use Rattle.sim.specs.Operations.{bareSim, handBack, simFits, valueCheck, engineCheck, fuelCheck, runCheck, newAnswer, sizesFit, fuelFits, freshSizes, freshCheck}
+use Rattle.slots.specs.Bytes.{get16, get32, get64, put16, put32, put64}
+use Rattle.slots.specs.Slots.{slotOf, putSlot, moveSlot, thinBy}
+use Rattle.times.specs.Timeline.{newOk, timesOk, ended, thinned, recorded, recordDue, advanceTo, goOn, goBack, stay, goTo, callCheck, call, newCheck, new}
+use Rattle.times.specs.Kind.{newOn, callOn}
+use Rattle.sim_engine.specs.Advance.{ranFrom, advanceOf}
+use Rattle.sim_engine.specs.Slots.{putTape, putHeld, putIf, putSim, packOf, tapeAt, simIn, holdsOne, fillIf, filled, unpackOf}
+use Rattle.text.specs.Pieces.{onto, pieces, sameList}
+use Rattle.text.specs.Numbers.{digits, number, onNum, below}
+use Rattle.text.specs.Show.{showOn, show, showℤ}
+use Rattle.forms.specs.Forms.{onSome, machineOk, machineLine, move, entryLine, symbolsOf, wordOf, callLine, place, given, define}
+use Rattle.reader.specs.Listing.{nothing, line, atEnd, onNext, readFrom, listing}
+use Rattle.rows.specs.Rows.{rowOf, rowsOf, refusedLine, rowLine, rowLines, output}
+use Rattle.listing.specs.Output.{blankCells, blankStore, turned, answerOn, answerWith, answerOf, answerFor, answerTo}
+
+pub record Examples : Type 0 where
+  -- document 01's
+  pub whole : answerTo (bytes "tapes symbols states start\n1 2 3 0\nstate read write move next\n0 0 1 R 1\n0 1 1 L 1\n1 0 1 L 0\n1 1 1 R 2\nword\n\ncall number\nseek 3\nforward 100\nback 2\nseek 0\n")
+      ≡ bytes "answer steps state head low high score\nfuel 3 1 -1 -1 1 2\nhalted 6 2 0 -2 1 4\nfuel 4 0 -2 -2 1 3\nfuel 0 0 0 0 0 0\n"
+  -- state 0 on blank writes 1, moves R, stays in 0: a slot recorded at step 16, a way back over it, a target over 2^62
+  pub walker : answerTo (bytes "tapes symbols states start\n1 2 1 0\nstate read write move next\n0 0 1 R 0\nword\n\ncall number\nseek 0\nseek 20\nback 1\nforward 4611686018427387904\n")
+      ≡ bytes "answer steps state head low high score\nnever 0 0 0 0 0 0\nnever 20 0 20 0 20 20\nnever 19 0 19 0 19 19\nrefused 13\n"
+
+pub examples : Examples
+unfolding get16 get32 get64 put16 put32 put64 pick both allIn firstFail countFails fillFrom _⊖_ actionAt entryAt definedOk entryOk entriesCheck sizeCheck tableCheck symbolsCheck wordCheck extra blanked laid movedUp freshOf readOf leaves roomFor grownBy shiftOf moveOf actOf tapeFits blankBeyond countOf lookWith roomsFor stepOf matches runOf stays staysAll loopOf judgeOf lookOn entryOf bareSim handBack simFits valueCheck engineCheck fuelCheck runCheck newAnswer sizesFit fuelFits freshSizes freshCheck slotOf putSlot moveSlot thinBy newOk timesOk ended thinned recorded recordDue advanceTo goOn goBack stay goTo callCheck call newCheck new newOn callOn ranFrom advanceOf putTape putHeld putIf putSim packOf tapeAt simIn holdsOne fillIf filled unpackOf onto pieces sameList digits number onNum below showOn show showℤ onSome machineOk machineLine move entryLine symbolsOf wordOf callLine place given define nothing line atEnd onNext readFrom listing rowOf rowsOf refusedLine rowLine rowLines output blankCells blankStore turned answerOn answerWith answerOf answerFor answerTo
+examples = record { whole = refl; walker = refl }
