@@ -1,5 +1,5 @@
 -- THE OUTPUT of document 01 ("Listing"): from the bytes of the input to the bytes that `seekrun` prints. Definitions only.
-use Prim.Native.Nat.{ℕ, _*_}
+use Prim.Native.Nat.{ℕ, _*_, _≤_}
 use mathlib.Core.List.{List, [], _++_}
 use lib.Dec.{ltb}
 use lib.ListN.{length, take, drop, replicate}
@@ -20,9 +20,12 @@ use Rattle.listing.specs.declared.Listed.the-variants as Did
 
 -- ---- "`seekrun` .. runs the plain engine: 4,096 cells a tape, m 8, interval 16"
 
--- the machine has one tape, and lends none for the others
+abbrev pub lentOf : (c0 c1 c2 : List ℕ) → Lent
+lentOf c0 c1 c2 = record { c0 = c0; c1 = c1; c2 = c2 }
+
+-- the machine has one tape: no cells for the others
 unfoldable pub blankCells : Lent
-blankCells = record { c0 = replicate 4096 0; c1 = []; c2 = [] }
+blankCells = lentOf (replicate 4096 0) [] []
 
 -- m + 1 slots of 128 bytes more than the cells: 9 × 4,224
 unfoldable pub blankStore : List ℕ
@@ -64,3 +67,8 @@ unfoldable pub listOf : (input out : List ℕ) → Listed × List ℕ
 listOf input out =
     pick (ltb (length out) 8743) (Did.Refused Why.OutputSize, out)
     (Did.Printed (length (answerTo input)), answerTo input ++ drop (length (answerTo input)) out)
+
+-- what was printed lies in the output
+abbrev pub PrintedIn : Listed → (long : ℕ) → Type 0
+PrintedIn (Did.Printed n) long = n ≤ long
+PrintedIn (Did.Refused why) long = Unit {0}

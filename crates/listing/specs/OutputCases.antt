@@ -36,16 +36,7 @@ use Rattle.reader.specs.Reading.{sofar, listingOf, ReaderOk, ParsedOk}
 use Rattle.rows.specs.Rows.{rowsOf, rowLines, refusedLine, namesLine, output}
 use Rattle.listing.specs.declared.Listed.{Listed}
 use Rattle.listing.specs.declared.Listed.the-variants as Did
-use Rattle.listing.specs.Output.{turned, answerOn, answerWith, answerOf, answerFor, answerTo, listOf}
-
--- the buffers that the code lends a fresh engine
-abbrev pub lentOf : (c0 c1 c2 : List ℕ) → Lent
-lentOf c0 c1 c2 = record { c0 = c0; c1 = c1; c2 = c2 }
-
--- what was printed lies in the output
-abbrev pub PrintedIn : Listed → (long : ℕ) → Type 0
-PrintedIn (Did.Printed n) long = n ≤ long
-PrintedIn (Did.Refused why) long = Unit {0}
+use Rattle.listing.specs.Output.{turned, answerOn, answerWith, answerOf, answerFor, answerTo, listOf, PrintedIn}
 
 -- ---- a refusal's line
 

@@ -9,8 +9,7 @@ ghost use lib.ListN.{length};
 ghost use Rattle.sim.specs.Engine.{conf};
 ghost use Rattle.forms.specs.Answers.{callsOf};
 ghost use Rattle.text.specs.Steps.{Wrote};
-ghost use Rattle.listing.specs.Output.{answerOn, answerWith, blankCells, blankStore};
-ghost use Rattle.listing.specs.OutputCases.{lentOf};
+ghost use Rattle.listing.specs.Output.{lentOf, answerOn, answerWith, blankCells, blankStore};
 
 // A new timeline, and the names line and the rows.
 fn on_timeline(

@@ -2,8 +2,7 @@
 use outcome::Refusal;
 ghost use mathlib.Core.Path.{_≡_};
 ghost use lib.ListN.{length};
-ghost use Rattle.listing.specs.Output.{listOf};
-ghost use Rattle.listing.specs.OutputCases.{PrintedIn};
+ghost use Rattle.listing.specs.Output.{listOf, PrintedIn};
 
 mod asked;
 mod printed;
