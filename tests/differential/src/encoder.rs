@@ -34,7 +34,7 @@ impl Case {
     }
 
     /// The Rust's answer. Its glyphs are `char`s: each number here becomes one of its own, since only equality counts.
-    fn rust(&self) -> Result<Vec<u8>, usize> {
+    pub(crate) fn rust(&self) -> Result<Vec<u8>, usize> {
         let mut seen: Vec<u32> = [&self.glyphs[..], &self.word].concat();
         seen.sort_unstable();
         seen.dedup();
@@ -107,7 +107,7 @@ fn glyph(rng: &mut Rng, few: u64) -> u32 {
 }
 
 /// A word of which most glyphs are allowed.
-fn random(rng: &mut Rng) -> Case {
+pub(crate) fn random(rng: &mut Rng) -> Case {
     let few = rng.pick(&[2, 5, 40, 300]);
     let many = rng.pick(&[3, 10, 255, 256, 257, 300]);
     let number = rng.below(many + 1);

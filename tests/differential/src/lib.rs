@@ -25,6 +25,7 @@ pub mod limits;
 pub mod mock;
 pub mod oracle;
 pub mod port;
+pub mod record;
 pub mod runner;
 pub mod runs;
 pub mod tally;

@@ -1,0 +1,53 @@
+use Prim.Native.Nat.{_≤_, _-_}
+use borrow.Author.Needs.{needs}
+use Rattle.replay.proofs.asks.ask_all.Statement.{statement}
+use Rattle.replay.proofs.asks.ask_all.Tie as tie
+
+abbrev Inv-loop : tie.InvT-loop
+Inv-loop row at m table sim c0 c1 c2 list₀ questions from₀ count₀ i₀ list from count i = i ≤ questions
+
+abbrev μ-loop : tie.MeasureT-loop
+μ-loop row at m table sim c0 c1 c2 list₀ questions from₀ count₀ i₀ list from count i = questions - i
+
+count-at-requires : tie.Need-count-at-requires Inv-loop μ-loop
+count-at-requires c κs = search needs
+
+past-requires : tie.Need-past-requires Inv-loop μ-loop
+past-requires c κs = search needs
+
+loop-holds : tie.Need-loop-holds Inv-loop μ-loop
+loop-holds c = search needs
+
+ask-requires : tie.Need-ask-requires Inv-loop μ-loop
+ask-requires c κs = search needs
+
+past-requires-2 : tie.Need-past-requires-2 Inv-loop μ-loop
+past-requires-2 c κs = search needs
+
+add-i : tie.Need-add-i Inv-loop μ-loop
+add-i c = search needs
+
+loop-less : tie.Need-loop-less Inv-loop μ-loop
+loop-less c = search needs
+
+loop-again : tie.Need-loop-again Inv-loop μ-loop
+loop-again c = search needs
+
+returns : tie.Need-returns Inv-loop μ-loop
+returns c = search needs
+
+pub ask-all-spec : {M : Type 1} → statement M
+ask-all-spec =
+    tie.close
+    (tie.spec
+    Inv-loop
+    μ-loop
+    count-at-requires
+    past-requires
+    loop-holds
+    ask-requires
+    past-requires-2
+    add-i
+    loop-less
+    loop-again
+    returns)

@@ -1,0 +1,19 @@
+use mathlib.Core.Path.{sym}
+use native.Mathlib.Omega.{arith}
+use lib.Seq.{length-take-le}
+use borrow.Author.Needs.{needs}
+use Rattle.replay.proofs.lists.head.Statement.{statement}
+use Rattle.replay.proofs.lists.head.Tie as tie
+
+slice-aggregate-result : tie.Need-slice-aggregate-result
+slice-aggregate-result c =
+    sym (length-take-le (c .before .before .args .count) (c .before .before .args .list .now) (omega arith))
+
+returns : tie.Need-returns
+returns c = search needs
+
+returns-2 : tie.Need-returns-2
+returns-2 c = search needs
+
+pub head-spec : {M : Type 1} → statement M
+head-spec = tie.close (tie.spec slice-aggregate-result returns returns-2)

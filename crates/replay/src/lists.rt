@@ -1,0 +1,128 @@
+// Lists of numbers: a line of the data as a row, and what the port tells. A place past a row's end holds 0, and a list
+// takes no number past its end, so that no call asks for a bound; a case whose lists differ in length differs.
+use symbol::position;
+
+// How many numbers a row and a list have room for.
+const ROOM: usize = 1024;
+
+// The number at a place of a row.
+pub(crate) fn number(row: &[u64], at: usize) -> u64 {
+    if at < row.len() {
+        return row[at];
+    }
+    0
+}
+
+// The place `count` numbers further on, or the last place that any row has.
+pub(crate) fn past(at: usize, count: usize) -> usize {
+    if ROOM < at {
+        return ROOM;
+    }
+    if ROOM < count {
+        return ROOM;
+    }
+    at + count
+}
+
+// How many of something a row gives at a place, none of which are more than a row has.
+pub(crate) fn count_at(row: &[u64], at: usize) -> usize {
+    let count = number(row, at);
+    if count < 1024 {
+        return count as usize;
+    }
+    ROOM
+}
+
+// The position that a number of a row stands for: below 0 it is given by its two's complement.
+pub(crate) fn position_at(row: &[u64], at: usize) -> i64 {
+    position::signed(std::num::wrapping_add_u64(number(row, at), 9223372036854775808))
+}
+
+// Adds a number to a list of `count`: how many there are now.
+pub(crate) fn put(list: &mut [u64; 1024], count: usize, x: u64) -> usize {
+    if count < 1024 {
+        list[count] = x;
+        return count + 1;
+    }
+    count
+}
+
+// Adds a raised position.
+pub(crate) fn put_position(list: &mut [u64; 1024], count: usize, raised: u64) -> usize {
+    put(
+        list,
+        count,
+        std::num::wrapping_sub_u64(raised, 9223372036854775808),
+    )
+}
+
+// The first bytes of a slice, all where it has fewer.
+pub(crate) fn head(list: &[u8], count: usize) -> &[u8] {
+    if count <= list.len() {
+        return &list[..count];
+    }
+    list
+}
+
+// The same, lent for writing.
+pub(crate) fn head_mut(list: &mut [u8], count: usize) -> &mut [u8] {
+    if count <= list.len() {
+        return &mut list[..count];
+    }
+    list
+}
+
+fn number_head(list: &[u64], count: usize) -> &[u64] {
+    if count <= list.len() {
+        return &list[..count];
+    }
+    list
+}
+
+fn glyph_head(list: &[u32], count: usize) -> &[u32] {
+    if count <= list.len() {
+        return &list[..count];
+    }
+    list
+}
+
+// The first places of an array.
+pub(crate) fn first_bytes(list: &[u8; 4096], count: usize) -> &[u8] {
+    head(list, count)
+}
+
+pub(crate) fn first_numbers(list: &[u64; 1024], count: usize) -> &[u64] {
+    number_head(list, count)
+}
+
+pub(crate) fn first_glyphs(list: &[u32; 512], count: usize) -> &[u32] {
+    glyph_head(list, count)
+}
+
+pub(crate) fn wide(x: u8) -> u64 {
+    x as u64
+}
+
+// The byte at a place; 0 past the end.
+pub(crate) fn byte(list: &[u8], at: usize) -> u64 {
+    if at < list.len() {
+        return wide(list[at]);
+    }
+    0
+}
+
+// The smaller one.
+pub(crate) fn least(a: u64, b: usize) -> usize {
+    if a < b as u64 {
+        return a as usize;
+    }
+    b
+}
+
+// Whether a timeline's settings are the Rust's.
+pub(crate) fn as_rust(most: u64, every: u64) -> bool {
+    if most != 512 {
+        return false;
+    }
+    every == 4096
+}
