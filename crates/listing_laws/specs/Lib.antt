@@ -1,2 +1,4 @@
 pub mod Begins
+pub mod TableBytes
+pub mod Told
 pub mod Examples
