@@ -101,7 +101,7 @@ pub fn timelines(reps: usize, only: Option<&str>, marks: Vec<u8>) {
         row(job, reps, || rust(job, Simulator::new(machine, &word)), || port::<OnCells>(job));
     }
     let runs = [
-        job("runs BB5", bb5(), vec![], 47_000_000, 2000, 6144),
+        job("runs BB5", bb5(), vec![], 47_000_000, 2000, 5120),
         job("runs sweep", sweep(), marks, 1 << 30, 400, 16),
         job("runs grow", grow(), vec![], 1 << 42, 50, 16),
         job("runs walk", differential::generate::one_tape(2, 1, &[(0, 0, 1, 1, 0)]), vec![], MAX_STEPS, 20_000, 16),
