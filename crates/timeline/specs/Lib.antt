@@ -9,7 +9,6 @@ pub mod Loop
 pub mod Calls
 pub mod Third
 pub mod Cited
-pub mod Through
 pub mod Shelves
 pub mod Legs
 pub mod TableRun
