@@ -138,10 +138,6 @@ reach-run a k (over s n r) h = pick-cases (eqb s a) n 0 (λ m. k ≤ m → Reach
     (λ t l. rw (← eqb-true s a t) (take-means k s n r l))
     (λ t l. let e : 0 ≡ k = omega arith in rw (← e) (reach-none a (over s n r))) h
 
-trim-top : (s n : ℕ) (r : Stack) → 1 ≤ n → top (trim s n r) ≡ s
-trim-top s zero r h = absurd (omega arith)
-trim-top s (suc n) r h = refl
-
 -- what was pushed is on top, the blank on nothing too
 pub top-push : (s n : ℕ) (r : Stack) → top (push s n r) ≡ s
 top-push s n r = push-cases (λ x. top x ≡ s) s n r (λ e. grown r e) (λ _. refl)

@@ -26,16 +26,6 @@ use Rattle.sim.specs.EngineCases.{run-halt, run-never, run-fuel, run-ful
 
 -- ---- what is asked before the choice
 
-pub look-asks : (m : Machine) (stride : ℕ) (v : Simulator) (c0 c1 c2 : List ℕ) → LookOk m stride v c0 c1 c2 → AtOk m stride (v .t0) (v .t1) (v .t2) c0 c1 c2
-look-asks m stride v c0 c1 c2 ok = record {
-  symbols-in = ok .symbols-in;
-  stride-is = ok .stride-is;
-  stride-in = ok .stride-in;
-  safe0 = ok .safe0;
-  safe1 = ok .safe1;
-  safe2 = ok .safe2;
-}
-
 -- ---- what the choice says of the run: it ends here, or it follows the entry
 
 pub data Chosen (k : Task) (f : ℕ) (σ : Conf) (c : Choice) : Type 0 where

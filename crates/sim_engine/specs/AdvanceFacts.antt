@@ -105,10 +105,6 @@ module _ (m : Machine) (s : List ℕ) (n : ℕ) (σ : Conf) (checked : engineChe
   unfolding advanceOf
   advance-climbs = ran-climbs m s false n σ (engine-says m s σ checked) limit
 
-  pub advance-within : advanceOf m s n σ .1 .sim .steps ≤ σ .sim .steps + n
-  unfolding advanceOf
-  advance-within = ran-within m s false n σ (engine-says m s σ checked) limit
-
   pub advance-length0 : length (advanceOf m s n σ .1 .c0) ≡ length (σ .c0)
   unfolding advanceOf
   advance-length0 = ran-length0 m s false n σ (engine-says m s σ checked) limit
@@ -120,14 +116,6 @@ module _ (m : Machine) (s : List ℕ) (n : ℕ) (σ : Conf) (checked : engineChe
   pub advance-length2 : length (advanceOf m s n σ .1 .c2) ≡ length (σ .c2)
   unfolding advanceOf
   advance-length2 = ran-length2 m s false n σ (engine-says m s σ checked) limit
-
-  pub advance-lacks1 : has1 m ≡ false → (advanceOf m s n σ .1 .sim .t1 ≡ σ .sim .t1) × (advanceOf m s n σ .1 .c1 ≡ σ .c1)
-  unfolding advanceOf
-  advance-lacks1 = ran-lacks1 m s false n σ (engine-says m s σ checked) limit
-
-  pub advance-lacks2 : has2 m ≡ false → (advanceOf m s n σ .1 .sim .t2 ≡ σ .sim .t2) × (advanceOf m s n σ .1 .c2 ≡ σ .c2)
-  unfolding advanceOf
-  advance-lacks2 = ran-lacks2 m s false n σ (engine-says m s σ checked) limit
 
 -- ---- a run without fuel leaves the engine as it is
 

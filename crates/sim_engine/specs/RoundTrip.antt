@@ -334,11 +334,6 @@ module _ (m : Machine) (s : List ℕ) (u t : Conf) (old : List ℕ) (fu : Passed
   v : Conf
   v = filled m slot w (t .c0) (t .c1) (t .c2)
 
-  v-is : v ≡ conf w (fillIf true (w .t0) (part0 (length (t .c0)) slot) (t .c0)) (fillIf (has1 m) (w .t1) (part1 m (length (t .c0)) (length (t .c1)) slot) (t .c1))
-      (fillIf (has2 m) (w .t2) (part2 m (length (t .c0)) (length (t .c1)) (length (t .c2)) slot) (t .c2))
-  unfolding v filled fillIf pick
-  v-is = refl
-
   found : unpackOf m slot (u .sim .steps) t ≡ some v
   unfolding unpackOf v w
   found = pick-true _ (some v) none holds

@@ -50,10 +50,6 @@ module _ (k : ℕ) (w c : List ℕ) (room : 32 + length w ≤ length c) where
       at i b (no q) (yes r) = rw (fresh-word w c room i (omega arith) r) (s (i - 16) (omega arith))
       at i b (no q) (no r) = rw (fresh-high w c room i (omega arith) b) p
 
-pub fresh-safe : (w c : List ℕ) → 32 + length w ≤ length c → length c ≤ 1073741824 → TapeSafe (freshOf w c .tape) (freshOf w c .cells)
-unfolding freshOf
-fresh-safe w c room small = record { ok = omega (arith, length-fresh w c); sized = λ h. omega (arith, length-fresh w c) }
-
 -- ---- a tape that the machine lacks
 
 pub none-safe : (c : List ℕ) → TapeSafe noTape c
@@ -240,18 +236,3 @@ unfolding actOf
 act-fits k h w d f b r = pick-cases (ltb (h .tape .head) (h .tape .len)) (moveOf (writeOf h w) d) h (HeldFits k)
     (λ t. move-fits k (writeOf h w) d (write-fits k h w f b) (rw length-set r))
     (λ t. f)
-
--- ---- the same of what the code holds after `act`
-
-module _ (t u : Tape) (c c₁ : List ℕ) (w : ℕ) (d : Dir) (is : held u c₁ ≡ actOf (held t c) w d) where
-  pub acted-length : length c₁ ≡ length c
-  acted-length = ap (λ (h : Held). length (h .cells)) is ∙ length-act (held t c) w d
-
-  pub acted-ok : TapeOk t c → (t .head < t .len → length c ≤ 1073741824) → TapeOk u c₁
-  acted-ok ok sized = subst⁻¹ (λ (h : Held). HeldOk h) is (act-ok (held t c) w d ok sized)
-
-  pub acted-safe : TapeSafe t c → TapeSafe u c₁
-  acted-safe s = subst⁻¹ (λ (h : Held). TapeSafe (h .tape) (h .cells)) is (act-safe (held t c) w d s)
-
-  pub acted-fits : (k : ℕ) → tapeFits k t c ≡ true → w < k → roomFor t (length c) d ≡ true → tapeFits k u c₁ ≡ true
-  acted-fits k f b r = fits-holds k u c₁ (subst⁻¹ (λ (h : Held). HeldFits k h) is (act-fits k (held t c) w d (fits-says k t c f) b r))
