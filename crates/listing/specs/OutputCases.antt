@@ -20,7 +20,7 @@ use Rattle.sim.specs.Engine.{Conf, conf}
 use Rattle.sim.specs.Operations.{engineCheck, made, newAnswer}
 use Rattle.times.specs.Timeline.{refused, answered, Call, newCheck, onNew, new}
 use Rattle.times.specs.Kind.{WorldOf, opsFor, newOn, newWith}
-use Rattle.times.specs.CallCases.{new-passed}
+use Rattle.times.specs.NewCases.{new-passed}
 use Rattle.sim_engine.specs.Kind.{Lent, plainKind}
 use Rattle.sim_timeline.specs.declared.Timeline.{Timeline}
 use Rattle.sim_timeline.specs.declared.Begun.{Begun}

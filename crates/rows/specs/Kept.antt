@@ -22,8 +22,8 @@ use Rattle.times.specs.Code.{not-done, strides, Strides}
 use Rattle.times.specs.Kind.{Kind, WorldOf, opsOf, callOn}
 use Rattle.times.specs.Sound.{Sound, GoOk, rewindOf}
 use Rattle.times.specs.TurnCases.{moves}
-use Rattle.times.specs.CallCases.{seek-ok, to-low, back-loop}
-use Rattle.sim_engine.specs.RoundTrip.{fitted}
+use Rattle.times.specs.GoCases.{seek-ok, to-low, back-loop}
+use Rattle.sim_engine.specs.FitCases.{fitted}
 use Rattle.sim_engine.specs.Slots.{slotSize}
 use Rattle.sim_engine.specs.Kind.{plainKind}
 use Rattle.sim_timeline.specs.Worlds.{Fits}

@@ -21,7 +21,8 @@ use Rattle.sim.specs.Operations.{has1, has2, stepsMost, sizesFit, bareSim, bare
 use Rattle.sim.specs.OperationCases.{Passed, engine-says}
 use Rattle.sim_engine.specs.Advance.{ranFrom, advanceOf}
 use Rattle.sim_engine.specs.Kept.{Keeps, Goes, run-goes}
-use Rattle.sim_engine.specs.RoundTrip.{fitted, fits-again, check-holds}
+use Rattle.sim_engine.specs.FitCases.{fitted, fits-again}
+use Rattle.sim_engine.specs.RoundTrip.{check-holds}
 
 -- ---- the run's engine, and what it hands back
 

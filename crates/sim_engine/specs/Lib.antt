@@ -2,6 +2,8 @@ pub mod Advance
 pub mod Slots
 pub mod Kind
 pub mod SlotBytes
+pub mod FitCases
+pub mod PackFacts
 pub mod RoundTrip
 pub mod Kept
 pub mod AdvanceFacts

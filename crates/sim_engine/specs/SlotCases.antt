@@ -25,7 +25,7 @@ use Rattle.sim.specs.OperationCases.{engine-says}
 use Rattle.sim_engine.specs.declared.inner.Found.the-variants.{Nothing, Holds}
 use Rattle.sim_engine.specs.Slots.{sizeIf, sizeOf, slotSize, putSim, putHeld, putIf, packOf, partOf, part0, part1, part2, simIn, holdsOne, fillIf, filled, unpackOf}
 use Rattle.sim_engine.specs.Code.{PutOk, PutIf, SaveOk, FillOk, FillIf, FilledOk, Restored, restored, restoredOn}
-use Rattle.sim_engine.specs.RoundTrip.{Fitted, fitted}
+use Rattle.sim_engine.specs.FitCases.{Fitted, fitted}
 
 -- ---- sizes
 

@@ -12,7 +12,8 @@ use Rattle.sim.specs.Operations.{engineCheck}
 use Rattle.sim.specs.OperationCases.{engine-says}
 use Rattle.sim_engine.specs.Advance.{advanceOf}
 use Rattle.sim_engine.specs.Slots.{sizeOf, slotSize, packOf, unpackOf}
-use Rattle.sim_engine.specs.RoundTrip.{SameSizes, InBuffers, pack-length, unpack-pack}
+use Rattle.sim_engine.specs.RoundTrip.{SameSizes, InBuffers, unpack-pack}
+use Rattle.sim_engine.specs.PackFacts.{pack-length}
 use Rattle.sim_engine.specs.AdvanceFacts.{advance-fits, advance-length0, advance-length1, advance-length2}
 use Rattle.sim_laws.specs.Family.{meanOf}
 use Rattle.sim_laws.specs.MeanFacts.{same-mean}

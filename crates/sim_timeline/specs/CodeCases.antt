@@ -23,7 +23,7 @@ use Rattle.times.specs.Timeline.{Reply, refused, slotFor, goOn, goBack}
 use Rattle.times.specs.Kind.{WorldOf, opsOf}
 use Rattle.times.specs.Sound.{worldOf, RecOk, StrideOk, LoopOk, GoOk, rewindOf}
 use Rattle.times.specs.TurnCases.{stride-fuel, rec-inside}
-use Rattle.times.specs.CallCases.{rewind-part, back-none, back-some, back-loop, to-low}
+use Rattle.times.specs.GoCases.{rewind-part, back-none, back-some, back-loop, to-low}
 use Rattle.sim_engine.specs.declared.inner.Found.{Found}
 use Rattle.sim_engine.specs.declared.inner.Found.the-variants.{Nothing, Holds}
 use Rattle.sim_engine.specs.Slots.{slotSize, unpackOf}

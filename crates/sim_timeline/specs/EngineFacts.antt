@@ -24,7 +24,8 @@ use Rattle.times.specs.Sound.{Sound}
 use Rattle.sim_engine.specs.Advance.{advanceOf}
 use Rattle.sim_engine.specs.Slots.{sizeIf, place1, place2, sizeOf, slotSize, partOf, part0, part1, part2, simIn, holdsOne, fillIf, filled, takenIf, unpackOf}
 use Rattle.sim_engine.specs.SlotBytes.{refits}
-use Rattle.sim_engine.specs.RoundTrip.{Fitted, fitted, fits-again, check-holds}
+use Rattle.sim_engine.specs.FitCases.{Fitted, fitted, fits-again}
+use Rattle.sim_engine.specs.RoundTrip.{check-holds}
 use Rattle.sim_engine.specs.AdvanceFacts.{advance-fits, advance-climbs, advance-length0, advance-length1, advance-length2}
 use Rattle.sim_engine.specs.Kind.{plainKind}
 use Rattle.sim_timeline.specs.Worlds.{Fits}

@@ -7,7 +7,7 @@ use mathlib.Core.Logic.{_⊎_, inl, inr}
 use native.Mathlib.Nat.{mul-le-mul-right, div-mul-le-self, div-lt-iff-lt-mul}
 use native.Mathlib.Omega.{arith}
 use lib.Dec.{leb, eqb}
-use borrow.Author.Tests.{leb-false, le-leb, lt-leb, lt-ltb, le-ltb, ne-eqb}
+use borrow.Author.Tests.{leb-true, leb-false, le-leb, lt-leb, lt-ltb, le-ltb, ne-eqb}
 use Rattle.laws.specs.Tests.{by-test, pick-true, pick-false}
 use Rattle.machine.specs.Check.{within}
 use Rattle.machine.specs.CheckFacts.{within-passed}
@@ -59,6 +59,16 @@ due-yes first count every l = sym (pick-true _ _ _ (le-leb count ((limit - first
 pub due-no : (first count every : ℕ) → (limit - first) / every < count → limit + 1 ≡ dueOf first count every
 unfolding dueOf
 due-no first count every l = sym (pick-false _ _ _ (lt-leb count ((limit - first) / every) l))
+
+-- an interval up to 2^53: no division is needed
+pub due-product : (count every : ℕ) → count ≤ 512 → every ≤ 9007199254740992 → count * every ≤ limit
+due-product count every c l = omega (arith, mul-le-mul-right every c, l)
+
+pub due-near : (first count every d : ℕ) → first ≤ limit → 1 ≤ every → d ≡ min (first + count * every) (limit + 1) → d ≡ dueOf first count every
+unfolding dueOf
+due-near first count every d f l e = by-test (leb count ((limit - first) / every))
+    (λ q. omega (arith, e, due-small first count every f (leb-true count ((limit - first) / every) q)) ∙ sym (pick-true _ _ _ q))
+    (λ q. omega (arith, e, div-lt-iff-lt-mul {k = every} l .0 (leb-false count ((limit - first) / every) q)) ∙ sym (pick-false _ _ _ q))
 
 -- doubling: the interval of a value at which a slot is due is at most 2^62
 pub double-fits : (v : Times) (p : ℕ) → 1 ≤ v .count → p ≤ limit → p ≡ due v → 2 * v .every ≤ 9223372036854775808

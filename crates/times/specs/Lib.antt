@@ -7,4 +7,7 @@ pub mod VerdictFacts
 pub mod Code
 pub mod Sound
 pub mod TurnCases
+pub mod CheckCases
+pub mod GoCases
 pub mod CallCases
+pub mod NewCases

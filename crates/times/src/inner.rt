@@ -4,7 +4,7 @@ use machine::Checked;
 use outcome::Outcome;
 use outcome::Refusal;
 ghost use mathlib.Core.Path.{_≡_};
-ghost use Prim.Native.Nat.{_-_, _≤_};
+ghost use Prim.Native.Nat.{_+_, _-_, _≤_, min};
 ghost use Rattle.machine.specs.Check.{within};
 ghost use Rattle.times.specs.Ops.{limit};
 ghost use Rattle.times.specs.Timeline.{timesOk, slotFor, oneMore, firstCheck, laterCheck};
@@ -29,8 +29,18 @@ pub(crate) fn within(low: u64, high: u64, x: u64) -> bool
     x <= high
 }
 
-// Where the next slot is due, or 2^62 + 1 where that is over 2^62: no engine comes there.
-fn due(first: u64, count: u64, every: u64) -> u64
+// A step, or 2^62 + 1 for any over 2^62: no engine comes there.
+fn capped(step: u64) -> u64
+    ensures { λ r. ⌜ r ≡ min step (limit + 1) ⌝ }
+{
+    if step <= 4611686018427387904 {
+        return step;
+    }
+    4611686018427387905
+}
+
+// Where the next slot is due, capped, whatever the numbers.
+fn far_due(first: u64, count: u64, every: u64) -> u64
     requires { ⌜ first ≤ limit ⌝ }
     requires { ⌜ 1 ≤ every ⌝ }
     ensures { λ r. ⌜ r ≡ dueOf first count every ⌝ }
@@ -41,6 +51,21 @@ fn due(first: u64, count: u64, every: u64) -> u64
     } else {
         4611686018427387905
     }
+}
+
+// The same without a division where the product is at most 2^62: up to an interval of 2^53, for a value that passes 14.
+fn due(first: u64, count: u64, every: u64) -> u64
+    requires { ⌜ first ≤ limit ⌝ }
+    requires { ⌜ 1 ≤ every ⌝ }
+    ensures { λ r. ⌜ r ≡ dueOf first count every ⌝ }
+{
+    if 512 < count {
+        return far_due(first, count, every);
+    }
+    if 9007199254740992 < every {
+        return far_due(first, count, every);
+    }
+    capped(first + count * every)
 }
 
 // The target of a forward call from step p, or 2^62 + 1 where that is over 2^62.

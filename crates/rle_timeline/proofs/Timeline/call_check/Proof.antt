@@ -1,4 +1,4 @@
-use Rattle.times.specs.CallCases.{call-check, call-later}
+use Rattle.times.specs.GoCases.{call-check, call-later}
 use Rattle.rle_timeline.specs.CodeCases.{sizes-in, low-in}
 use Rattle.rle_engine.specs.Kind.{chainKind}
 use borrow.Author.Needs.{needs}

@@ -1,4 +1,4 @@
-use Rattle.times.specs.CallCases.{on-goes}
+use Rattle.times.specs.GoCases.{on-goes}
 use Rattle.rle_engine.specs.Kind.{chainKind}
 use borrow.Author.Needs.{needs}
 use Rattle.rle_timeline.proofs.Timeline.go_on.Statement.{statement}

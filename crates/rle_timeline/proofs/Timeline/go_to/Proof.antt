@@ -1,4 +1,4 @@
-use Rattle.times.specs.CallCases.{to-here, to-back, to-on, to-loop}
+use Rattle.times.specs.GoCases.{to-here, to-back, to-on, to-loop}
 use Rattle.rle_timeline.specs.CodeCases.{stay-asks}
 use Rattle.rle_engine.specs.Kind.{chainKind}
 use Rattle.rle_timeline.specs.EngineFacts.{chain-sound}

@@ -1,4 +1,4 @@
-use Rattle.times.specs.CallCases.{new-refused, new-passed, new-room, new-made}
+use Rattle.times.specs.NewCases.{new-refused, new-passed, new-room, new-made}
 use Rattle.rle_timeline.specs.CodeCases.{passed-sizes, new-save}
 use Rattle.rle_engine.specs.Kind.{chainKind}
 use mathlib.Core.Path.{refl}

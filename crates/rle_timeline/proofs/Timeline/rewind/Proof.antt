@@ -1,4 +1,4 @@
-use Rattle.times.specs.CallCases.{back-small, back-inside}
+use Rattle.times.specs.GoCases.{back-small, back-inside}
 use Rattle.rle_timeline.specs.CodeCases.{rewind-found}
 use Rattle.rle_timeline.specs.EngineFacts.{chain-sound}
 use Rattle.rle_engine.specs.Kind.{chainKind}

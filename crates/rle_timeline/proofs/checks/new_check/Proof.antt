@@ -1,4 +1,4 @@
-use Rattle.times.specs.CallCases.{new-check, new-first}
+use Rattle.times.specs.GoCases.{new-check, new-first}
 use Rattle.rle_timeline.specs.CodeCases.{sizes-in}
 use Rattle.rle_engine.specs.Kind.{chainKind}
 use borrow.Author.Needs.{needs}

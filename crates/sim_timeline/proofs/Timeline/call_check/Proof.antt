@@ -1,4 +1,4 @@
-use Rattle.times.specs.CallCases.{call-check, call-later}
+use Rattle.times.specs.GoCases.{call-check, call-later}
 use Rattle.sim_timeline.specs.CodeCases.{sizes-in, low-in}
 use Rattle.sim_engine.specs.Kind.{plainKind}
 use borrow.Author.Needs.{needs}

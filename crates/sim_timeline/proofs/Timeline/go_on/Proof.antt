@@ -1,4 +1,4 @@
-use Rattle.times.specs.CallCases.{on-goes}
+use Rattle.times.specs.GoCases.{on-goes}
 use Rattle.sim_engine.specs.Kind.{plainKind}
 use borrow.Author.Needs.{needs}
 use Rattle.sim_timeline.proofs.Timeline.go_on.Statement.{statement}

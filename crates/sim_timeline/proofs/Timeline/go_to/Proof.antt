@@ -1,4 +1,4 @@
-use Rattle.times.specs.CallCases.{to-here, to-back, to-on, to-loop}
+use Rattle.times.specs.GoCases.{to-here, to-back, to-on, to-loop}
 use Rattle.sim_timeline.specs.CodeCases.{stay-asks}
 use Rattle.sim_engine.specs.Kind.{plainKind}
 use Rattle.sim_timeline.specs.EngineFacts.{plain-sound}

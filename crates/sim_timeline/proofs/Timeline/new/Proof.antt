@@ -1,4 +1,4 @@
-use Rattle.times.specs.CallCases.{new-refused, new-passed, new-room, new-made}
+use Rattle.times.specs.NewCases.{new-refused, new-passed, new-room, new-made}
 use Rattle.sim_timeline.specs.CodeCases.{passed-sizes, new-save}
 use Rattle.sim_engine.specs.Kind.{plainKind}
 use mathlib.Core.Path.{refl}

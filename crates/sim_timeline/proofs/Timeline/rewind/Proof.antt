@@ -1,4 +1,4 @@
-use Rattle.times.specs.CallCases.{back-small, back-inside}
+use Rattle.times.specs.GoCases.{back-small, back-inside}
 use Rattle.sim_timeline.specs.CodeCases.{rewind-found}
 use Rattle.sim_timeline.specs.EngineFacts.{plain-sound}
 use Rattle.sim_engine.specs.Kind.{plainKind}

@@ -1,4 +1,4 @@
-use Rattle.times.specs.CallCases.{new-check, new-first}
+use Rattle.times.specs.GoCases.{new-check, new-first}
 use Rattle.sim_timeline.specs.CodeCases.{sizes-in}
 use Rattle.sim_engine.specs.Kind.{plainKind}
 use borrow.Author.Needs.{needs}

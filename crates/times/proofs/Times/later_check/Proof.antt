@@ -1,4 +1,4 @@
-use Rattle.times.specs.CallCases.{later-settings, later-store, later-limit, later-passed}
+use Rattle.times.specs.CheckCases.{later-settings, later-store, later-limit, later-passed}
 use borrow.Author.Tests.{not-true, not-false}
 use borrow.Author.Needs.{needs}
 use Rattle.times.proofs.Times.later_check.Statement.{statement}

@@ -1,4 +1,4 @@
-use Rattle.times.specs.CallCases.{first-settings, first-store, first-passed}
+use Rattle.times.specs.CheckCases.{first-settings, first-store, first-passed}
 use borrow.Author.Tests.{not-true, not-false}
 use borrow.Author.Needs.{needs}
 use Rattle.times.proofs.inner.first_check.Statement.{statement}
