@@ -2,14 +2,10 @@ use native.Mathlib.Omega.{arith}
 use Rattle.burst.specs.BurstCases.{number-in}
 use Rattle.burst.proofs.inner.hot.row.Statement.{statement}
 use Rattle.burst.proofs.inner.hot.row.Tie as tie
-use Rattle.burst.proofs.inner.hot.row.Reads as reads
-use Rattle.burst.proofs.inner.hot.row.Lts as lts
 
--- src/hot.rt:43:5
 mul-result : tie.Need-mul-result
 mul-result c = omega (arith, number-in (c .args .state) (c .args .k) (c .pre .0) (c .pre .1))
 
--- src/hot.rt:39:1
 returns : tie.Need-returns
 returns c = let h = number-in (c .args .state) (c .args .k) (c .pre .0) (c .pre .1) in omega arith
 

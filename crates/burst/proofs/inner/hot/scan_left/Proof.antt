@@ -4,8 +4,6 @@ use Rattle.burst.specs.BurstCases.{left-found, left-none}
 use borrow.Author.Needs.{needs}
 use Rattle.burst.proofs.inner.hot.scan_left.Statement.{statement}
 use Rattle.burst.proofs.inner.hot.scan_left.Tie as tie
-use Rattle.burst.proofs.inner.hot.scan_left.Reads as reads
-use Rattle.burst.proofs.inner.hot.scan_left.Lts as lts
 
 abbrev Inv-loop : tie.InvT-loop
 Inv-loop cells head i₀ i =
@@ -14,31 +12,24 @@ Inv-loop cells head i₀ i =
 abbrev μ-loop : tie.MeasureT-loop
 μ-loop cells head i₀ i = i
 
--- src/hot.rt:56:5
 loop-holds : tie.Need-loop-holds Inv-loop μ-loop
 loop-holds c = search needs
 
--- src/hot.rt:57:9
 sub-i : tie.Need-sub-i Inv-loop μ-loop
 sub-i c = search needs
 
--- src/hot.rt:58:12
 shared-slice-read-if1 : tie.Need-shared-slice-read-if1 Inv-loop μ-loop
 shared-slice-read-if1 c = search needs
 
--- src/hot.rt:59:13
 returns : tie.Need-returns Inv-loop μ-loop
 returns c = search left-found
 
--- src/hot.rt:56:5
 loop-less : tie.Need-loop-less Inv-loop μ-loop
 loop-less c = search needs
 
--- src/hot.rt:56:5
 loop-again : tie.Need-loop-again Inv-loop μ-loop
 loop-again c = search needs
 
--- src/hot.rt:51:1
 returns-2 : tie.Need-returns-2 Inv-loop μ-loop
 returns-2 c = left-none _ _ _ (omega arith)
 

@@ -4,8 +4,6 @@ use Rattle.burst.specs.BurstCases.{right-found, right-none}
 use borrow.Author.Needs.{needs}
 use Rattle.burst.proofs.inner.hot.scan_right.Statement.{statement}
 use Rattle.burst.proofs.inner.hot.scan_right.Tie as tie
-use Rattle.burst.proofs.inner.hot.scan_right.Reads as reads
-use Rattle.burst.proofs.inner.hot.scan_right.Lts as lts
 
 abbrev Inv-loop : tie.InvT-loop
 Inv-loop cells head len i₀ i =
@@ -14,35 +12,27 @@ Inv-loop cells head len i₀ i =
 abbrev μ-loop : tie.MeasureT-loop
 μ-loop cells head len i₀ i = len - i
 
--- src/hot.rt:70:17
 add-i : tie.Need-add-i Inv-loop μ-loop
 add-i c = search needs
 
--- src/hot.rt:71:5
 loop-holds : tie.Need-loop-holds Inv-loop μ-loop
 loop-holds c = search needs
 
--- src/hot.rt:72:12
 shared-slice-read-if1 : tie.Need-shared-slice-read-if1 Inv-loop μ-loop
 shared-slice-read-if1 c = search needs
 
--- src/hot.rt:73:13
 returns : tie.Need-returns Inv-loop μ-loop
 returns c = search right-found
 
--- src/hot.rt:75:9
 add-i-2 : tie.Need-add-i-2 Inv-loop μ-loop
 add-i-2 c = search needs
 
--- src/hot.rt:71:5
 loop-less : tie.Need-loop-less Inv-loop μ-loop
 loop-less c = search needs
 
--- src/hot.rt:71:5
 loop-again : tie.Need-loop-again Inv-loop μ-loop
 loop-again c = search needs
 
--- src/hot.rt:66:1
 returns-2 : tie.Need-returns-2 Inv-loop μ-loop
 returns-2 c = right-none _ _ _ _ (omega arith)
 

@@ -8,15 +8,6 @@ use Rattle.burst.specs.WordsFacts.{row-start, word-says, word-small}
 use borrow.Author.Needs.{needs}
 use Rattle.burst.proofs.inner.packed.burst_words.Statement.{statement}
 use Rattle.burst.proofs.inner.packed.burst_words.Tie as tie
-use Rattle.burst.proofs.inner.packed.burst_words.Reads as reads
-use Rattle.burst.proofs.inner.packed.burst_words.Lts as lts
-use Rattle.burst.proofs.inner.hot.calm.Reads as calm-reads
-use Rattle.burst.proofs.inner.hot.row.Reads as row-reads
-use Rattle.burst.proofs.inner.hot.unseen.Reads as unseen-reads
-use Rattle.burst.proofs.inner.hot.went.Reads as went-reads
-use Rattle.burst.proofs.inner.hot.wide.Reads as wide-reads
-use Rattle.burst.proofs.inner.packed.stretch.Reads as stretch-reads
-use Rattle.burst.proofs.inner.packed.unpack.Reads as unpack-reads
 
 abbrev Inv-loop : tie.InvT-loop
 Inv-loop words cells₀ proves stop k len at₀ hints₀ cells at hints = Reached (Packs words k) proves stop k len at₀ cells₀ at cells
@@ -24,111 +15,84 @@ Inv-loop words cells₀ proves stop k len at₀ hints₀ cells at hints = Reache
 abbrev μ-loop : tie.MeasureT-loop
 μ-loop words cells₀ proves stop k len at₀ hints₀ cells at hints = at .left
 
--- src/packed.rt:90:9
 unseen-requires : tie.Need-unseen-requires Inv-loop μ-loop
 unseen-requires c κs = search needs
 
--- src/packed.rt:91:5
 loop-holds : tie.Need-loop-holds Inv-loop μ-loop
 loop-holds c = search reached-start
 
--- src/packed.rt:92:9
 stretch-requires : tie.Need-stretch-requires Inv-loop μ-loop
 stretch-requires c κs = search needs
 
--- src/packed.rt:94:13
 same-length : tie.Need-same-length Inv-loop μ-loop
 same-length c = search needs
 
--- src/packed.rt:94:13
 returns : tie.Need-returns Inv-loop μ-loop
 returns c = reached-on _ _ _ _ _ _ _ _ _ (c .before .before .before .before .before .before .loop .inv) _ _ (c .before .before .before .before .stretch .ensures)
 
--- src/packed.rt:97:13
 same-length-2 : tie.Need-same-length-2 Inv-loop μ-loop
 same-length-2 c = search needs
 
--- src/packed.rt:97:13
 returns-2 : tie.Need-returns-2 Inv-loop μ-loop
 returns-2 c = reached-on _ _ _ _ _ _ _ _ _ (c .before .before .before .before .before .before .before .before .loop .inv) _ _ (c .before .before .before .before .before .before .stretch .ensures)
 
--- src/packed.rt:100:20
 slice-read-read : tie.Need-slice-read-read Inv-loop μ-loop
 slice-read-read c = search needs
 
--- src/packed.rt:101:17
 row-requires : tie.Need-row-requires Inv-loop μ-loop
 row-requires c κs = search needs
 
--- src/packed.rt:101:41
 wide-requires : tie.Need-wide-requires Inv-loop μ-loop
 wide-requires c κs = search needs
 
--- src/packed.rt:101:17
 add-i : tie.Need-add-i Inv-loop μ-loop
 add-i c = search needs
 
--- src/packed.rt:103:13
 same-length-3 : tie.Need-same-length-3 Inv-loop μ-loop
 same-length-3 c = search needs
 
--- src/packed.rt:103:13
 returns-3 : tie.Need-returns-3 Inv-loop μ-loop
 returns-3 c = reached-on _ _ _ _ _ _ _ _ _ (c .before .before .before .before .before .before .before .before .before .before .before .before .loop .inv) _ _ (c .before .before .before .before .before .before .before .before .before .before .stretch .ensures)
 
--- src/packed.rt:105:27
 mul-unpack : tie.Need-mul-unpack Inv-loop μ-loop
 mul-unpack c = search needs
 
--- src/packed.rt:105:27
 shared-slice-read-unpack : tie.Need-shared-slice-read-unpack Inv-loop μ-loop
 shared-slice-read-unpack c = search needs
 
--- src/packed.rt:105:13
 unpack-requires : tie.Need-unpack-requires Inv-loop μ-loop
 unpack-requires c κs = search needs
 
--- src/packed.rt:107:13
 same-length-4 : tie.Need-same-length-4 Inv-loop μ-loop
 same-length-4 c = search needs
 
--- src/packed.rt:107:13
 returns-4 : tie.Need-returns-4 Inv-loop μ-loop
 returns-4 c = reached-on _ _ _ _ _ _ _ _ _ (c .before .before .before .before .before .before .before .before .before .before .before .before .before .before .before .before .loop .inv) _ _ (c .before .before .before .before .before .before .before .before .before .before .before .before .before .before .stretch .ensures)
 
--- src/packed.rt:109:9
 calm-requires : tie.Need-calm-requires Inv-loop μ-loop
 calm-requires c κs = search needs
 
--- src/packed.rt:111:13
 same-length-5 : tie.Need-same-length-5 Inv-loop μ-loop
 same-length-5 c = c .before .before .before .before .before .before .before .before .before .before .before .before .before .before .before .before .before .before .stretch .ensures .lens ∙ c .before .before .before .before .before .before .before .before .before .before .before .before .before .before .before .before .before .before .before .before .loop .inv .lens
 
--- src/packed.rt:111:13
 returns-5 : tie.Need-returns-5 Inv-loop μ-loop
 returns-5 c = reached-on _ _ _ _ _ _ _ _ _ (c .before .before .before .before .before .before .before .before .before .before .before .before .before .before .before .before .before .before .before .before .loop .inv) _ _ (c .before .before .before .before .before .before .before .before .before .before .before .before .before .before .before .before .before .before .stretch .ensures)
 
--- src/packed.rt:113:13
 went-requires : tie.Need-went-requires Inv-loop μ-loop
 went-requires c κs = went-asks _ _ _ _ (c .before .before .before .before .before .before .before .before .before .before .before .before .before .before .before .before .before .before .stretch .ensures .ok) (c .before .before .before .before .before .before .before .before .before .before .before .before .before .before .if1 .left)
 
--- src/packed.rt:115:13
 same-length-6 : tie.Need-same-length-6 Inv-loop μ-loop
 same-length-6 c = c .before .before .before .before .before .before .before .before .before .before .before .before .before .before .before .before .before .before .before .before .before .stretch .ensures .lens ∙ c .before .before .before .before .before .before .before .before .before .before .before .before .before .before .before .before .before .before .before .before .before .before .before .loop .inv .lens
 
--- src/packed.rt:115:13
 returns-6 : tie.Need-returns-6 Inv-loop μ-loop
 returns-6 c = reached-on _ _ _ _ _ _ _ _ _ (c .before .before .before .before .before .before .before .before .before .before .before .before .before .before .before .before .before .before .before .before .before .before .before .loop .inv) _ _ (c .before .before .before .before .before .before .before .before .before .before .before .before .before .before .before .before .before .before .before .before .before .stretch .ensures)
 
--- src/packed.rt:117:9
 slice-write-cells : tie.Need-slice-write-cells Inv-loop μ-loop
 slice-write-cells c = let o = c .before .before .before .before .before .before .before .before .before .before .before .before .before .before .before .before .before .before .before .before .before .stretch .ensures .ok in omega arith
 
--- src/packed.rt:91:5
 loop-less : tie.Need-loop-less Inv-loop μ-loop
 loop-less c = let l = went-less _ _ (c .before .before .before .before .before .before .before .before .before .before .before .before .before .before .before .before .before .before .before .before .before .before .stretch .result) _ _ _ (c .before .before .before .went .ensures) (not-false _ (c .before .if6 .left)) (c .before .before .before .before .before .before .before .before .before .before .before .before .before .before .before .before .before .before .if1 .left) in let m = c .before .before .before .before .before .before .before .before .before .before .before .before .before .before .before .before .before .before .before .before .before .before .stretch .ensures .less in omega arith
 
--- src/packed.rt:91:5
 loop-again : tie.Need-loop-again Inv-loop μ-loop
 loop-again c =
     reached-again _ _ _ _ _ _ _ _ _ (reached-on _ _ _ _ _ _ _ _ _ (c .before .before .before .before .before .before .before .before .before .before .before .before .before .before .before .before .before .before .before .before .before .before .before .before .loop .inv) _ _ (c .before .before .before .before .before .before .before .before .before .before .before .before .before .before .before .before .before .before .before .before .before .before .stretch .ensures)) _ _ _ _ _ (c .before .before .before .before .before .before .before .before .before .before .before .before .before .before .before .before .before .before .if1 .left) (c .before .before .before .before .before .before .before .before .before .before .before .before .before .before .before .before .if2 .left)

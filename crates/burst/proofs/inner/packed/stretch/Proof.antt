@@ -7,14 +7,6 @@ use Rattle.burst.specs.WordsFacts.{row-start, row-again, word-says, word
 use borrow.Author.Needs.{needs}
 use Rattle.burst.proofs.inner.packed.stretch.Statement.{statement}
 use Rattle.burst.proofs.inner.packed.stretch.Tie as tie
-use Rattle.burst.proofs.inner.packed.stretch.Reads as reads
-use Rattle.burst.proofs.inner.packed.stretch.Lts as lts
-use Rattle.burst.proofs.inner.hot.row.Reads as row-reads
-use Rattle.burst.proofs.inner.hot.sure.Reads as sure-reads
-use Rattle.burst.proofs.inner.hot.went.Reads as went-reads
-use Rattle.burst.proofs.inner.hot.wide.Reads as wide-reads
-use Rattle.burst.proofs.inner.packed.row_of.Reads as row-of-reads
-use Rattle.burst.proofs.inner.packed.unpack.Reads as unpack-reads
 
 abbrev Inv-loop : tie.InvT-loop
 Inv-loop words cells₀ proves stop k len at₀ row₀ cells at row = Reached (Packs words k) proves stop k len at₀ cells₀ at cells × RowOk words k row (at .state)
@@ -22,107 +14,81 @@ Inv-loop words cells₀ proves stop k len at₀ row₀ cells at row = Reached (P
 abbrev μ-loop : tie.MeasureT-loop
 μ-loop words cells₀ proves stop k len at₀ row₀ cells at row = at .left
 
--- src/packed.rt:44:9
 row-requires : tie.Need-row-requires Inv-loop μ-loop
 row-requires c κs = search needs
 
--- src/packed.rt:45:5
 loop-holds : tie.Need-loop-holds Inv-loop μ-loop
 loop-holds c = (reached-start _ _ _ _ _ _ _ (c .before .before .before .pre), row-start _ _ _ _ (c .row .ensures .0) (c .row .ensures .1))
 
--- src/packed.rt:47:13
 same-length : tie.Need-same-length Inv-loop μ-loop
 same-length c = search needs
 
--- src/packed.rt:47:13
 returns : tie.Need-returns Inv-loop μ-loop
 returns c = c .before .before .loop .inv .0
 
--- src/packed.rt:50:13
 same-length-2 : tie.Need-same-length-2 Inv-loop μ-loop
 same-length-2 c = search needs
 
--- src/packed.rt:50:13
 returns-2 : tie.Need-returns-2 Inv-loop μ-loop
 returns-2 c = c .before .before .before .before .loop .inv .0
 
--- src/packed.rt:53:20
 slice-read-read : tie.Need-slice-read-read Inv-loop μ-loop
 slice-read-read c = search needs
 
--- src/packed.rt:54:23
 wide-requires : tie.Need-wide-requires Inv-loop μ-loop
 wide-requires c κs = search needs
 
--- src/packed.rt:54:17
 add-i : tie.Need-add-i Inv-loop μ-loop
 add-i c = search needs
 
--- src/packed.rt:56:13
 same-length-3 : tie.Need-same-length-3 Inv-loop μ-loop
 same-length-3 c = search needs
 
--- src/packed.rt:56:13
 returns-3 : tie.Need-returns-3 Inv-loop μ-loop
 returns-3 c = c .before .before .before .before .before .before .before .loop .inv .0
 
--- src/packed.rt:58:20
 mul-word : tie.Need-mul-word Inv-loop μ-loop
 mul-word c = search needs
 
--- src/packed.rt:58:20
 shared-slice-read-word : tie.Need-shared-slice-read-word Inv-loop μ-loop
 shared-slice-read-word c = search needs
 
--- src/packed.rt:59:13
 unpack-requires : tie.Need-unpack-requires Inv-loop μ-loop
 unpack-requires c κs = search needs
 
--- src/packed.rt:61:13
 same-length-4 : tie.Need-same-length-4 Inv-loop μ-loop
 same-length-4 c = search needs
 
--- src/packed.rt:61:13
 returns-4 : tie.Need-returns-4 Inv-loop μ-loop
 returns-4 c = c .before .before .before .before .before .before .before .before .before .before .before .loop .inv .0
 
--- src/packed.rt:63:13
 sure-requires : tie.Need-sure-requires Inv-loop μ-loop
 sure-requires c κs = search needs
 
--- src/packed.rt:64:13
 same-length-5 : tie.Need-same-length-5 Inv-loop μ-loop
 same-length-5 c = search needs
 
--- src/packed.rt:64:13
 returns-5 : tie.Need-returns-5 Inv-loop μ-loop
 returns-5 c = c .before .before .before .before .before .before .before .before .before .before .before .before .before .loop .inv .0
 
--- src/packed.rt:66:13
 went-requires : tie.Need-went-requires Inv-loop μ-loop
 went-requires c κs = search needs
 
--- src/packed.rt:68:13
 same-length-6 : tie.Need-same-length-6 Inv-loop μ-loop
 same-length-6 c = c .before .before .before .before .before .before .before .before .before .before .before .before .before .before .before .before .loop .inv .0 .lens
 
--- src/packed.rt:68:13
 returns-6 : tie.Need-returns-6 Inv-loop μ-loop
 returns-6 c = c .before .before .before .before .before .before .before .before .before .before .before .before .before .before .before .before .loop .inv .0
 
--- src/packed.rt:70:9
 slice-write-cells : tie.Need-slice-write-cells Inv-loop μ-loop
 slice-write-cells c = let o = c .before .before .before .before .before .before .before .before .before .before .before .before .before .before .before .before .loop .inv .0 .ok in omega arith
 
--- src/packed.rt:72:9
 row-of-requires : tie.Need-row-of-requires Inv-loop μ-loop
 row-of-requires c κs = search needs
 
--- src/packed.rt:45:5
 loop-less : tie.Need-loop-less Inv-loop μ-loop
 loop-less c = went-less _ _ (c .before .before .before .before .before .before .before .before .before .before .before .before .before .before .before .before .before .before .loop .at) _ _ _ (c .before .before .before .before .went .ensures) (not-false _ (c .before .before .if6 .left)) (c .before .before .before .before .before .before .before .before .before .before .before .before .before .before .before .before .if1 .left)
 
--- src/packed.rt:45:5
 loop-again : tie.Need-loop-again Inv-loop μ-loop
 loop-again c = (
   reached-again _ _ _ _ _ _ _ _ _ (c .before .before .before .before .before .before .before .before .before .before .before .before .before .before .before .before .before .before .loop .inv .0) _ _ _ _ _ (c .before .before .before .before .before .before .before .before .before .before .before .before .before .before .before .before .if1 .left) (c .before .before .before .before .before .before .before .before .before .before .before .before .before .before .if2 .left)

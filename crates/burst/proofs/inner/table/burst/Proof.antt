@@ -7,14 +7,6 @@ use Rattle.burst.specs.BurstFacts.{reached-start, reached-again, reached
 use borrow.Author.Needs.{needs}
 use Rattle.burst.proofs.inner.table.burst.Statement.{statement}
 use Rattle.burst.proofs.inner.table.burst.Tie as tie
-use Rattle.burst.proofs.inner.table.burst.Reads as reads
-use Rattle.burst.proofs.inner.table.burst.Lts as lts
-use Rattle.burst.proofs.inner.hot.calm.Reads as calm-reads
-use Rattle.burst.proofs.inner.hot.unseen.Reads as unseen-reads
-use Rattle.burst.proofs.inner.hot.went.Reads as went-reads
-use Rattle.burst.proofs.inner.table.number.Reads as number-reads
-use Rattle.burst.proofs.inner.table.stretch.Reads as stretch-reads
-use Rattle.burst.proofs.inner.table.told.Reads as told-reads
 
 abbrev Inv-loop : tie.InvT-loop
 Inv-loop table cells₀ proves stop k len at₀ hints₀ cells at hints = Reached (Is table) proves stop k len at₀ cells₀ at cells
@@ -22,87 +14,66 @@ Inv-loop table cells₀ proves stop k len at₀ hints₀ cells at hints = Reache
 abbrev μ-loop : tie.MeasureT-loop
 μ-loop table cells₀ proves stop k len at₀ hints₀ cells at hints = at .left
 
--- src/table.rt:107:9
 unseen-requires : tie.Need-unseen-requires Inv-loop μ-loop
 unseen-requires c κs = search needs
 
--- src/table.rt:108:5
 loop-holds : tie.Need-loop-holds Inv-loop μ-loop
 loop-holds c = search reached-start
 
--- src/table.rt:109:9
 stretch-requires : tie.Need-stretch-requires Inv-loop μ-loop
 stretch-requires c κs = search needs
 
--- src/table.rt:111:13
 same-length : tie.Need-same-length Inv-loop μ-loop
 same-length c = search needs
 
--- src/table.rt:111:13
 returns : tie.Need-returns Inv-loop μ-loop
 returns c = reached-on _ _ _ _ _ _ _ _ _ (c .before .before .before .before .before .before .loop .inv) _ _ (c .before .before .before .before .stretch .ensures)
 
--- src/table.rt:114:13
 same-length-2 : tie.Need-same-length-2 Inv-loop μ-loop
 same-length-2 c = search needs
 
--- src/table.rt:114:13
 returns-2 : tie.Need-returns-2 Inv-loop μ-loop
 returns-2 c = reached-on _ _ _ _ _ _ _ _ _ (c .before .before .before .before .before .before .before .before .loop .inv) _ _ (c .before .before .before .before .before .before .stretch .ensures)
 
--- src/table.rt:117:20
 slice-read-read : tie.Need-slice-read-read Inv-loop μ-loop
 slice-read-read c = search needs
 
--- src/table.rt:118:32
 number-requires : tie.Need-number-requires Inv-loop μ-loop
 number-requires c κs = search needs
 
--- src/table.rt:118:13
 told-requires : tie.Need-told-requires Inv-loop μ-loop
 told-requires c κs = search needs
 
--- src/table.rt:120:13
 same-length-3 : tie.Need-same-length-3 Inv-loop μ-loop
 same-length-3 c = search needs
 
--- src/table.rt:120:13
 returns-3 : tie.Need-returns-3 Inv-loop μ-loop
 returns-3 c = reached-on _ _ _ _ _ _ _ _ _ (c .before .before .before .before .before .before .before .before .before .before .before .before .before .loop .inv) _ _ (c .before .before .before .before .before .before .before .before .before .before .before .stretch .ensures)
 
--- src/table.rt:122:9
 calm-requires : tie.Need-calm-requires Inv-loop μ-loop
 calm-requires c κs = search needs
 
--- src/table.rt:124:13
 same-length-4 : tie.Need-same-length-4 Inv-loop μ-loop
 same-length-4 c = c .before .before .before .before .before .before .before .before .before .before .before .before .before .before .before .stretch .ensures .lens ∙ c .before .before .before .before .before .before .before .before .before .before .before .before .before .before .before .before .before .loop .inv .lens
 
--- src/table.rt:124:13
 returns-4 : tie.Need-returns-4 Inv-loop μ-loop
 returns-4 c = reached-on _ _ _ _ _ _ _ _ _ (c .before .before .before .before .before .before .before .before .before .before .before .before .before .before .before .before .before .loop .inv) _ _ (c .before .before .before .before .before .before .before .before .before .before .before .before .before .before .before .stretch .ensures)
 
--- src/table.rt:126:13
 went-requires : tie.Need-went-requires Inv-loop μ-loop
 went-requires c κs = went-asks _ _ _ _ (c .before .before .before .before .before .before .before .before .before .before .before .before .before .before .before .stretch .ensures .ok) (c .before .before .before .before .before .before .before .before .before .before .before .if1 .left)
 
--- src/table.rt:128:13
 same-length-5 : tie.Need-same-length-5 Inv-loop μ-loop
 same-length-5 c = c .before .before .before .before .before .before .before .before .before .before .before .before .before .before .before .before .before .before .stretch .ensures .lens ∙ c .before .before .before .before .before .before .before .before .before .before .before .before .before .before .before .before .before .before .before .before .loop .inv .lens
 
--- src/table.rt:128:13
 returns-5 : tie.Need-returns-5 Inv-loop μ-loop
 returns-5 c = reached-on _ _ _ _ _ _ _ _ _ (c .before .before .before .before .before .before .before .before .before .before .before .before .before .before .before .before .before .before .before .before .loop .inv) _ _ (c .before .before .before .before .before .before .before .before .before .before .before .before .before .before .before .before .before .before .stretch .ensures)
 
--- src/table.rt:130:9
 slice-write-cells : tie.Need-slice-write-cells Inv-loop μ-loop
 slice-write-cells c = let o = c .before .before .before .before .before .before .before .before .before .before .before .before .before .before .before .before .before .before .stretch .ensures .ok in omega arith
 
--- src/table.rt:108:5
 loop-less : tie.Need-loop-less Inv-loop μ-loop
 loop-less c = let l = went-less _ _ (c .before .before .before .before .before .before .before .before .before .before .before .before .before .before .before .before .before .before .before .stretch .result) _ _ _ (c .before .before .before .went .ensures) (not-false _ (c .before .if5 .left)) (c .before .before .before .before .before .before .before .before .before .before .before .before .before .before .before .if1 .left) in let m = c .before .before .before .before .before .before .before .before .before .before .before .before .before .before .before .before .before .before .before .stretch .ensures .less in omega arith
 
--- src/table.rt:108:5
 loop-again : tie.Need-loop-again Inv-loop μ-loop
 loop-again c =
     reached-again _ _ _ _ _ _ _ _ _ (reached-on _ _ _ _ _ _ _ _ _ (c .before .before .before .before .before .before .before .before .before .before .before .before .before .before .before .before .before .before .before .before .before .loop .inv) _ _ (c .before .before .before .before .before .before .before .before .before .before .before .before .before .before .before .before .before .before .before .stretch .ensures)) _ _ _ _ _ (c .before .before .before .before .before .before .before .before .before .before .before .before .before .before .before .if1 .left) (c .before .before .before .before .before .before .before .before .before .before .before .before .before .if2 .left)

@@ -6,12 +6,6 @@ use Rattle.burst.specs.BurstFacts.{reached-start, reached-again, went-le
 use borrow.Author.Needs.{needs}
 use Rattle.burst.proofs.inner.table.stretch.Statement.{statement}
 use Rattle.burst.proofs.inner.table.stretch.Tie as tie
-use Rattle.burst.proofs.inner.table.stretch.Reads as reads
-use Rattle.burst.proofs.inner.table.stretch.Lts as lts
-use Rattle.burst.proofs.inner.hot.sure.Reads as sure-reads
-use Rattle.burst.proofs.inner.hot.went.Reads as went-reads
-use Rattle.burst.proofs.inner.table.number.Reads as number-reads
-use Rattle.burst.proofs.inner.table.told.Reads as told-reads
 
 abbrev Inv-loop : tie.InvT-loop
 Inv-loop table cells₀ proves stop k len at₀ cells at = Reached (Is table) proves stop k len at₀ cells₀ at cells
@@ -19,79 +13,60 @@ Inv-loop table cells₀ proves stop k len at₀ cells at = Reached (Is table) pr
 abbrev μ-loop : tie.MeasureT-loop
 μ-loop table cells₀ proves stop k len at₀ cells at = at .left
 
--- src/table.rt:67:5
 loop-holds : tie.Need-loop-holds Inv-loop μ-loop
 loop-holds c = search reached-start
 
--- src/table.rt:69:13
 same-length : tie.Need-same-length Inv-loop μ-loop
 same-length c = search needs
 
--- src/table.rt:69:13
 returns : tie.Need-returns Inv-loop μ-loop
 returns c = c .before .before .loop .inv
 
--- src/table.rt:72:13
 same-length-2 : tie.Need-same-length-2 Inv-loop μ-loop
 same-length-2 c = search needs
 
--- src/table.rt:72:13
 returns-2 : tie.Need-returns-2 Inv-loop μ-loop
 returns-2 c = c .before .before .before .before .loop .inv
 
--- src/table.rt:75:20
 slice-read-read : tie.Need-slice-read-read Inv-loop μ-loop
 slice-read-read c = search needs
 
--- src/table.rt:76:32
 number-requires : tie.Need-number-requires Inv-loop μ-loop
 number-requires c κs = search needs
 
--- src/table.rt:76:13
 told-requires : tie.Need-told-requires Inv-loop μ-loop
 told-requires c κs = search needs
 
--- src/table.rt:78:13
 same-length-3 : tie.Need-same-length-3 Inv-loop μ-loop
 same-length-3 c = search needs
 
--- src/table.rt:78:13
 returns-3 : tie.Need-returns-3 Inv-loop μ-loop
 returns-3 c = c .before .before .before .before .before .before .before .before .before .loop .inv
 
--- src/table.rt:80:13
 sure-requires : tie.Need-sure-requires Inv-loop μ-loop
 sure-requires c κs = search needs
 
--- src/table.rt:81:13
 same-length-4 : tie.Need-same-length-4 Inv-loop μ-loop
 same-length-4 c = search needs
 
--- src/table.rt:81:13
 returns-4 : tie.Need-returns-4 Inv-loop μ-loop
 returns-4 c = c .before .before .before .before .before .before .before .before .before .before .before .loop .inv
 
--- src/table.rt:83:13
 went-requires : tie.Need-went-requires Inv-loop μ-loop
 went-requires c κs = search needs
 
--- src/table.rt:85:13
 same-length-5 : tie.Need-same-length-5 Inv-loop μ-loop
 same-length-5 c = c .before .before .before .before .before .before .before .before .before .before .before .before .before .before .loop .inv .lens
 
--- src/table.rt:85:13
 returns-5 : tie.Need-returns-5 Inv-loop μ-loop
 returns-5 c = c .before .before .before .before .before .before .before .before .before .before .before .before .before .before .loop .inv
 
--- src/table.rt:87:9
 slice-write-cells : tie.Need-slice-write-cells Inv-loop μ-loop
 slice-write-cells c = let o = c .before .before .before .before .before .before .before .before .before .before .before .before .before .before .loop .inv .ok in omega arith
 
--- src/table.rt:67:5
 loop-less : tie.Need-loop-less Inv-loop μ-loop
 loop-less c = went-less _ _ (c .before .before .before .before .before .before .before .before .before .before .before .before .before .before .before .loop .at) _ _ _ (c .before .before .before .went .ensures) (not-false _ (c .before .if5 .left)) (c .before .before .before .before .before .before .before .before .before .before .before .before .before .if1 .left)
 
--- src/table.rt:67:5
 loop-again : tie.Need-loop-again Inv-loop μ-loop
 loop-again c =
     reached-again _ _ _ _ _ _ _ _ _ (c .before .before .before .before .before .before .before .before .before .before .before .before .before .before .before .loop .inv) _ _ _ _ _ (c .before .before .before .before .before .before .before .before .before .before .before .before .before .if1 .left) (c .before .before .before .before .before .before .before .before .before .before .before .if2 .left)

@@ -2,87 +2,64 @@ use Rattle.burst.specs.BurstCases.{tells-none, tells-entry}
 use borrow.Author.Needs.{needs}
 use Rattle.burst.proofs.inner.table.told.Statement.{statement}
 use Rattle.burst.proofs.inner.table.told.Tie as tie
-use Rattle.burst.proofs.inner.table.told.Reads as reads
-use Rattle.burst.proofs.inner.table.told.Lts as lts
-use Rattle.burst.proofs.inner.hot.wide.Reads as wide-reads
 
--- src/table.rt:40:14
 mul-at : tie.Need-mul-at
 mul-at c = search needs
 
--- src/table.rt:41:22
 add-if1 : tie.Need-add-if1
 add-if1 c = search needs
 
--- src/table.rt:42:9
 returns : tie.Need-returns
 returns c = search tells-none
 
--- src/table.rt:44:8
 shared-slice-read-if2 : tie.Need-shared-slice-read-if2
 shared-slice-read-if2 c = search needs
 
--- src/table.rt:45:9
 returns-2 : tie.Need-returns-2
 returns-2 c = search tells-none
 
--- src/table.rt:47:23
 add-moves : tie.Need-add-moves
 add-moves c = search needs
 
--- src/table.rt:47:17
 shared-slice-read-moves : tie.Need-shared-slice-read-moves
 shared-slice-read-moves c = search needs
 
--- src/table.rt:49:9
 returns-3 : tie.Need-returns-3
 returns-3 c = search tells-none
 
--- src/table.rt:52:9
 returns-4 : tie.Need-returns-4
 returns-4 c = search tells-none
 
--- src/table.rt:56:22
 add-t7 : tie.Need-add-t7
 add-t7 c = search needs
 
--- src/table.rt:56:16
 shared-slice-read-t10 : tie.Need-shared-slice-read-t10
 shared-slice-read-t10 c = search needs
 
--- src/table.rt:58:26
 add-wide : tie.Need-add-wide
 add-wide c = search needs
 
--- src/table.rt:58:20
 shared-slice-read-wide : tie.Need-shared-slice-read-wide
 shared-slice-read-wide c = search needs
 
--- src/table.rt:58:15
 wide-requires : tie.Need-wide-requires
 wide-requires c κs = search needs
 
--- src/table.rt:58:54
 add-wide-2 : tie.Need-add-wide-2
 add-wide-2 c = search needs
 
--- src/table.rt:58:48
 shared-slice-read-wide-2 : tie.Need-shared-slice-read-wide-2
 shared-slice-read-wide-2 c = search needs
 
--- src/table.rt:58:43
 wide-requires-2 : tie.Need-wide-requires-2
 wide-requires-2 c κs = search needs
 
--- src/table.rt:58:37
 mul-t21 : tie.Need-mul-t21
 mul-t21 c = search needs
 
--- src/table.rt:58:15
 add-t22 : tie.Need-add-t22
 add-t22 c = search needs
 
--- src/table.rt:30:1
 returns-5 : tie.Need-returns-5
 returns-5 c = search tells-entry
 
