@@ -4,12 +4,11 @@ use mathlib.Core.Bool.{Bool, true, false}
 use mathlib.Core.List.{List}
 use Prim.Native.Nat.{ℕ, zero, suc, _+_, _*_, _-_, _/_, _%_, _≤_, _<_, min, max}
 use native.Mathlib.Omega.{arith}
-use borrow.Author.Tests.{lt-ltb, le-ltb, eq-eqb, ne-eqb, eqb-false, ltb-true, ltb-false}
+use borrow.Author.Tests.{lt-ltb, le-ltb, eq-eqb, ne-eqb, ltb-true, ltb-false}
 use lib.Dec.{eqb, ltb}
 use lib.ListN.{length, set, length-set}
 use Rattle.laws.specs.Choice.{pick, both}
 use Rattle.laws.specs.Tests.{by-test, both-split, clash}
-use Rattle.symbol.specs.declared.Dir.{Dir}
 use Rattle.symbol.specs.declared.Dir.the-variants.{L, R, N}
 use Rattle.symbol.specs.Kinds.{dirNumber}
 use Rattle.machine.specs.declared.Entry.{Entry}
@@ -17,14 +16,14 @@ use Rattle.machine.specs.declared.Entry.the-variants.{Defined}
 use Rattle.machine.specs.Layout.{entryNumber, flagAt, byteAt, dirOf, actionAt, entryAt}
 use Rattle.tape.specs.declared.Tape.{Tape}
 use Rattle.tape.specs.Fits.{TapeSafe}
-use Rattle.tape.specs.Moves.{Held, held, readOf, leaves, shiftOf, actOf}
+use Rattle.tape.specs.Moves.{Held, held, readOf, leaves, shiftOf}
 use Rattle.tape.specs.MoveCases.{act-none, act-inside, shift-left, shift-right, shift-none}
 use Rattle.tape.specs.MoveFacts.{act-safe}
 use Rattle.several.specs.declared.inner.Wide.{Wide}
 use Rattle.several.specs.declared.inner.Orders.{Orders}
 use Rattle.several.specs.declared.inner.Slid.{Slid}
 use Rattle.several.specs.declared.inner.Next.{Next}
-use Rattle.several.specs.Several.{followed, Moving, FreeIf, OrdersIf, wrote, Slides, SlidIf, Steps, NextIf, HeadsIn, SafeAll, Beat, here, more, Carried}
+use Rattle.several.specs.Several.{followed, FreeIf, OrdersIf, wrote, Slides, SlidIf, Steps, NextIf, HeadsIn, SafeAll, here, more, Carried}
 
 -- ---- what an entry says
 
