@@ -28,33 +28,34 @@ has2 m = ltb 2 (m .tapes)
 abbrev pub ifHas : Bool → Bool → Bool
 ifHas has test = pick has test true
 
+-- ---- 7
+
+abbrev pub wordRight : List ℕ → ℕ → List ℕ → ℕ → Bool
+wordRight s k words i = eqb (getD words i 0) (wordAt s k i)
+
+-- the fast run: after the table check "7 packed words not the table's (more than one tape also counts)", exactly as many as the table has
+unfoldable pub wordsRight : Machine → (s words : List ℕ) → Bool
+wordsRight m s words =
+    both (eqb (m .tapes) 1) (both (eqb (length words) (entryCount m)) (allIn (wordRight s (m .symbols) words) (entryCount m) 0))
+
 -- ---- 11
 
 abbrev pub cellsMost : ℕ
 cellsMost = 1073741824
-
-abbrev pub stepsMost : ℕ
-stepsMost = 4611686018427387904
 
 -- "11 for the upper sizes": a cells buffer over 2^30
 unfoldable pub sizesFit : Machine → (n0 n1 n2 : ℕ) → Bool
 sizesFit m n0 n1 n2 =
     both (leb n0 cellsMost) (both (ifHas (has1 m) (leb n1 cellsMost)) (ifHas (has2 m) (leb n2 cellsMost)))
 
--- ---- 13 "steps + fuel over 2^62", without computing a sum that could wrap
+-- ---- 12 "steps to 2^62", 13 "steps + fuel over 2^62"
 
+abbrev pub stepsMost : ℕ
+stepsMost = 4611686018427387904
+
+-- without computing a sum that could wrap
 unfoldable pub fuelFits : (steps fuel : ℕ) → Bool
 fuelFits steps fuel = both (leb fuel stepsMost) (leb steps (stepsMost - fuel))
-
-abbrev pub wordRight : List ℕ → ℕ → List ℕ → ℕ → Bool
-wordRight s k words i = eqb (getD words i 0) (wordAt s k i)
-
--- ---- 7
-
--- the fast run: after the table check "7 packed words not the table's (more than one tape also counts)", exactly as many as the table has
-unfoldable pub wordsRight : Machine → (s words : List ℕ) → Bool
-wordsRight m s words =
-    both (eqb (m .tapes) 1) (both (eqb (length words) (entryCount m)) (allIn (wordRight s (m .symbols) words) (entryCount m) 0))
 
 -- ---- a fresh engine: the table check, the word's 9 and 10, then 11
 

@@ -101,6 +101,7 @@ pub record FreshPassed (m : Machine) (s w : List ℕ) (n0 n1 n2 : ℕ) : Type 0 
   pub room0 : 32 + length w ≤ n0
   pub room1 : ifHas (has1 m) (leb 32 n1) ≡ true
   pub room2 : ifHas (has2 m) (leb 32 n2) ≡ true
+  -- `new` casts the start state to 16 bits
   pub start-fits : m .start < 65536
 
 has-room : (has : Bool) (n : ℕ) → ifHas has (within 32 cellsMost n) ≡ true → ifHas has (leb 32 n) ≡ true
@@ -129,6 +130,11 @@ fresh-says m s w n0 n1 n2 e =
 pub fresh-ok : (m : Machine) (s w : List ℕ) (n0 n1 n2 : ℕ) (r : Checked) → r ≡ freshCheck m s w n0 n1 n2 → r ≡ Accepted → FreshPassed m s w n0 n1 n2
 fresh-ok m s w n0 n1 n2 r e a = fresh-says m s w n0 n1 n2 (sym e ∙ a)
 
+-- ---- a blank tape
+
+pub blank-room : (has : Bool) (n : ℕ) → ifHas has (leb 32 n) ≡ true → has ≡ true → 32 ≤ n
+blank-room has n h e = leb-true 32 n (sym (pick-true has (leb 32 n) true e) ∙ h)
+
 module _ (has : Bool) (c : List ℕ) where
   pub blank-has : (t : Tape) (d : List ℕ) → has ≡ true → held t d ≡ freshOf [] c → held t d ≡ blankTape has c
   unfolding pick
@@ -137,6 +143,3 @@ module _ (has : Bool) (c : List ℕ) where
   pub blank-lacks : has ≡ false → held noTape c ≡ blankTape has c
   unfolding pick
   blank-lacks e = simp e
-
-  pub blank-room : ifHas has (leb 32 (length c)) ≡ true → has ≡ true → 32 ≤ length c
-  blank-room h e = leb-true _ _ (sym (pick-true has (leb 32 (length c)) true e) ∙ h)

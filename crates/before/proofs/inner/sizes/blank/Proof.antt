@@ -1,3 +1,4 @@
+use lib.ListN.{length}
 use Rattle.before.specs.SizesCases.{blank-room, blank-has, blank-lacks}
 use borrow.Author.Needs.{needs}
 use Rattle.before.proofs.inner.sizes.blank.Statement.{statement}
@@ -7,7 +8,7 @@ slice-aggregate-fresh : tie.Need-slice-aggregate-fresh
 slice-aggregate-fresh c = search needs
 
 fresh-requires : tie.Need-fresh-requires
-fresh-requires c κs = blank-room _ (c .before .before .before .before .args .cells .now) (c .before .before .before .before .pre) (c .before .before .if1 .taken)
+fresh-requires c κs = blank-room _ (length (c .before .before .before .before .args .cells .now)) (c .before .before .before .before .pre) (c .before .before .if1 .taken)
 
 same-length : tie.Need-same-length
 same-length c = search needs
