@@ -19,10 +19,10 @@ use Rattle.sim.specs.declared.StepAnswer.the-variants as StepAns
 use Rattle.course.specs.AnswerCases.{stays-refused, gives-accepted}
 use Rattle.sim.specs.Engine.{Conf, conf, task, end, runOf, statusOf}
 use Rattle.sim.specs.EngineCases.{once-run}
-use Rattle.sim.specs.Operations.{bareSim, handBack, runCheck, fastCheck, bareOf, Given, given, runAnswer, fastAnswer, StepGiven, stepGiven, stepBack, stepAnswer}
-use Rattle.sim.specs.Runs.{WordsIf, Cleared, answerOf, stepAnswerOf}
+use Rattle.sim.specs.Operations.{bareSim, handBack, runCheck, fastCheck, bareOf, Given, given, answerOf, runAnswer, fastAnswer, StepGiven, stepGiven, stepBack, stepAnswer, stepAnswerOf}
+use Rattle.sim.specs.Runs.{Cleared}
 use Rattle.sim.specs.RunsCases.{words-none}
-use Rattle.sim.specs.FastCases.{fast-runs, fast-words}
+use Rattle.sim.specs.OperationCases.{fast-runs, fast-words}
 
 -- ---- the returns
 

@@ -1,6 +1,6 @@
 -- The plain engine over its lent cells, as the code goes: what a configuration is, what is looked at before a step, the step, the run.
 -- Definitions only.
-use mathlib.Core.Bool.{Bool, true, false}
+use mathlib.Core.Bool.{Bool, false}
 use mathlib.Core.List.{List}
 use Prim.Native.Nat.{ℕ, _+_}
 use lib.Dec.{eqb}
@@ -14,11 +14,12 @@ use Rattle.outcome.specs.declared.Status.{Status}
 use Rattle.outcome.specs.declared.Status.the-variants as Step
 use Rattle.machine.specs.declared.Machine.{Machine}
 use Rattle.machine.specs.declared.Action.{Action}
-use Rattle.tape.specs.Moves.{Held, held, readOf, roomFor, actOf}
+use Rattle.tape.specs.Moves.{Held, held, roomFor, actOf}
 use Rattle.sim.specs.declared.Simulator.{Simulator}
 use Rattle.sim.specs.declared.StopRule.{StopRule}
 use Rattle.sim.specs.declared.StopRule.the-variants as Rule
 use Rattle.before.specs.declared.inner.look.Look.{Look}
+use Rattle.before.specs.Look.{lookAt}
 pub use Rattle.before.specs.Look.{onLook}
 unfoldable pub use Rattle.before.specs.Look.{stays, staysAll, loopOf, judgeOf, lookOn, entryOf}
 pub use Rattle.course.specs.Run.{Steps}
@@ -59,9 +60,7 @@ tape2 σ = held (σ .sim .t2) (σ .c2)
 -- ---- what is looked at before a step: no entry; else, where asked, a proved loop; else the entry
 
 unfoldable pub lookWith : Machine → List ℕ → (proves : Bool) → Conf → Look
-lookWith m s p σ =
-    lookOn (entryOf m s (σ .sim .state) (readOf (tape0 σ)) (readOf (tape1 σ)) (readOf (tape2 σ)))
-    p (m .tapes) (σ .sim .state) (readOf (tape0 σ)) (readOf (tape1 σ)) (readOf (tape2 σ)) (tape0 σ)
+lookWith m s p σ = lookAt m s p (σ .sim .state) (tape0 σ) (tape1 σ) (tape2 σ)
 
 abbrev pub lookOf : Task → Conf → Look
 lookOf k σ = lookWith (k .machine) (k .table) (k .proves) σ
@@ -77,8 +76,11 @@ roomyOf σ a = roomsFor (σ .sim) (length (σ .c0)) (length (σ .c1)) (length (�
 
 -- ---- a step
 
-abbrev pub stepWith : Conf → Action → Held → Held → Held → Conf
-stepWith σ a h0 h1 h2 =
+unfoldable pub stepOf : Conf → Action → Conf
+stepOf σ a =
+    let h0 : Held = actOf (tape0 σ) (a .write0 .0) (a .dir0) in
+    let h1 : Held = actOf (tape1 σ) (a .write1 .0) (a .dir1) in
+    let h2 : Held = actOf (tape2 σ) (a .write2 .0) (a .dir2) in
     conf
     (record {
       state = a .next;
@@ -88,11 +90,6 @@ stepWith σ a h0 h1 h2 =
       t2 = h2 .tape;
     })
     (h0 .cells) (h1 .cells) (h2 .cells)
-
-unfoldable pub stepOf : Conf → Action → Conf
-stepOf σ a =
-    stepWith σ a (actOf (tape0 σ) (a .write0 .0) (a .dir0)) (actOf (tape1 σ) (a .write1 .0) (a .dir1))
-    (actOf (tape2 σ) (a .write2 .0) (a .dir2))
 
 -- ---- a run: "halted, never, fuel, space, in that order, before each step"; the stop rule after it (course/specs/Run.antt has the order)
 

@@ -1,32 +1,24 @@
 -- The look, the step and the run, one fact for each way through the code. Assumes nothing.
-use mathlib.Core.Path.{_≡_, refl, sym, ap, _∙_}
+use mathlib.Core.Path.{_≡_, refl, ap, _∙_}
 use mathlib.Core.Bool.{Bool, true, false}
 use mathlib.Core.List.{List}
 use Prim.Native.Nat.{ℕ, _+_, _-_}
-use native.Mathlib.Omega.{arith}
-use borrow.Author.Tests.{eq-eqb, ne-eqb}
+use borrow.Author.Tests.{eq-eqb}
 use lib.Dec.{eqb}
-use Rattle.laws.specs.Choice.{pick, both}
+use Rattle.laws.specs.Choice.{pick}
 use Rattle.laws.specs.Tests.{both-split}
-use Rattle.symbol.specs.declared.State.{State}
 use Rattle.outcome.specs.declared.NonHaltProof.{NonHaltProof}
-use Rattle.outcome.specs.declared.NonHaltProof.the-variants.{StayLoop, ChainToInfinity}
-use Rattle.outcome.specs.declared.Status.the-variants as Step
 use Rattle.machine.specs.declared.Machine.{Machine}
 use Rattle.machine.specs.declared.Action.{Action}
-use Rattle.machine.specs.declared.Entry.{Entry}
-use Rattle.machine.specs.declared.Entry.the-variants.{Undefined, Defined}
-use Rattle.machine.specs.Layout.{strideOf, entryNumber, entryAt}
 use Rattle.tape.specs.declared.Tape.{Tape}
-use Rattle.tape.specs.Moves.{Held, held, readOf, roomFor, actOf}
-use Rattle.tape.specs.Questions.{blankBeyond}
+use Rattle.tape.specs.Moves.{held, roomFor, actOf}
 use Rattle.sim.specs.declared.Simulator.{Simulator}
 use Rattle.sim.specs.declared.StopRule.the-variants as Rule
 pub use Rattle.before.specs.LookCases.{entry-is}
 use Rattle.before.specs.declared.inner.look.Look.{Look}
 use Rattle.course.specs.RunCases as Course
 use Rattle.before.specs.declared.inner.look.Look.the-variants.{Halt, Never, Go}
-use Rattle.sim.specs.Engine.{Task, Conf, conf, staysAll, loopOf, judgeOf, lookOn, entryOf, lookWith, lookOf, roomsFor, roomyOf, stepOf, matches, End, end, haltedEnd, neverEnd, fuelEnd, fullEnd, stoppedEnd, task, stepsOf, runWith, runOf, Once, once, onceOf, statusOf}
+use Rattle.sim.specs.Engine.{Task, Conf, conf, lookWith, lookOf, roomsFor, roomyOf, stepOf, matches, End, end, haltedEnd, neverEnd, fuelEnd, fullEnd, stoppedEnd, task, stepsOf, runWith, runOf, Once, once, onceOf, statusOf}
 
 -- ---- the step
 

@@ -44,10 +44,6 @@ beyond-none h d e = rw e
 
 -- ---- an entry that is no proved loop
 
-pick-no : {A : Type 0} (x y : A) → pick false x y ≡ y
-unfolding pick
-pick-no x y = refl
-
 pick-same : {A : Type 0} (b : Bool) (x : A) → pick b x x ≡ x
 unfolding pick
 pick-same true x = refl
@@ -58,26 +54,22 @@ unfolding both
 both-end true = refl
 both-end false = refl
 
-both-no : (b : Bool) → both false b ≡ false
-unfolding both
-both-no b = refl
-
 module _ (p : Bool) (tapes : ℕ) (q : State) (a : Action) (r0 r1 r2 : ℕ) (h : Held) where
   pub go-leaves : (a .next .0 ≡ q .0 → ⊥) → Go a ≡ judgeOf p tapes q a r0 r1 r2 h
-  unfolding judgeOf
-  go-leaves n = simp (ne-eqb _ _ n, both-end, pick-no)
+  unfolding judgeOf pick
+  go-leaves n = simp (ne-eqb _ _ n, both-end)
 
   pub go-reads : staysAll a r0 r1 r2 ≡ false → (r0 ≡ 0 → ⊥) → Go a ≡ judgeOf p tapes q a r0 r1 r2 h
-  unfolding judgeOf loopOf
-  go-reads st n = simp (st, ne-eqb _ _ n, both-no, both-end, pick-no, pick-same)
+  unfolding judgeOf loopOf pick both
+  go-reads st n = simp (st, ne-eqb _ _ n, both-end, pick-same)
 
   pub go-sees : staysAll a r0 r1 r2 ≡ false → blankBeyond h (a .dir0) ≡ false → Go a ≡ judgeOf p tapes q a r0 r1 r2 h
-  unfolding judgeOf loopOf
-  go-sees st b = simp (st, b, both-end, pick-no, pick-same)
+  unfolding judgeOf loopOf pick both
+  go-sees st b = simp (st, b, both-end, pick-same)
 
   pub go-moves : staysAll a r0 r1 r2 ≡ false → (tapes ≡ 1 → ⊥) → Go a ≡ judgeOf p tapes q a r0 r1 r2 h
-  unfolding judgeOf loopOf
-  go-moves st n = simp (st, ne-eqb _ _ n, both-no, pick-no, pick-same)
+  unfolding judgeOf loopOf pick both
+  go-moves st n = simp (st, ne-eqb _ _ n, pick-same)
 
 module _ (a : Action) (r0 r1 r2 : ℕ) where
   pub moves-left : a .dir0 ≡ L → staysAll a r0 r1 r2 ≡ false
@@ -119,8 +111,8 @@ pub reads-none : (t : Tape) (c : List ℕ) → t .len ≤ t .head → 0 ≡ read
 unfolding readOf pick
 reads-none t c h = simp (le-ltb _ _ h)
 
-pub entry-of-one : (m : Machine) (s : List ℕ) (q read k : ℕ) → m .tapes ≡ 1 → m .symbols ≡ k → entryAt s (q * k + read) ≡ entryOf m s (stateOf q) read 0 0
+pub entry-of-one : (m : Machine) (s : List ℕ) (q read : ℕ) → m .tapes ≡ 1 → entryAt s (q * m .symbols + read) ≡ entryOf m s (stateOf q) read 0 0
 unfolding entryOf
-entry-of-one m s q read k t e =
-    let n : q * k + read ≡ entryNumber k k q read 0 0 = omega arith in
-    rw (e, ← stride-one (m .tapes) k t) (ap (entryAt s) n)
+entry-of-one m s q read t =
+    let n : q * m .symbols + read ≡ entryNumber (m .symbols) (m .symbols) q read 0 0 = omega arith in
+    rw (← stride-one (m .tapes) (m .symbols) t) (ap (entryAt s) n)

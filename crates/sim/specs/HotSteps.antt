@@ -2,7 +2,7 @@
 use mathlib.Core.Path.{_≡_, refl, sym, _∙_}
 use mathlib.Core.Bool.{Bool, true, false}
 use mathlib.Core.List.{List}
-use Prim.Native.Nat.{ℕ, _+_, _*_, _-_, _≤_, _<_, min, max}
+use Prim.Native.Nat.{ℕ, _+_, _*_, _-_, _≤_, min, max}
 use native.Mathlib.Omega.{arith}
 use borrow.Author.Tests.{ne-eqb}
 use lib.ListN.{getD, set}
@@ -16,156 +16,132 @@ use Rattle.machine.specs.PackedFacts.{number-small}
 use Rattle.tape.specs.declared.Tape.{Tape}
 use Rattle.tape.specs.Moves.{held, leaves, roomFor, shiftOf}
 use Rattle.tape.specs.MoveCases.{act-none, act-inside, shift-left, shift-right, shift-none}
+use Rattle.burst.specs.declared.inner.hot.Hot.{Hot}
+use Rattle.burst.specs.Burst.{Says, Calm, unasked, goes-on, rewrites, reads-one, sees-left, sees-right, Moved, went-left, went-right, stood, movedTo, Step, Walk, here, more}
+use Rattle.before.specs.declared.inner.look.Look.the-variants.{Go}
+use Rattle.before.specs.LookCases.{judge-off, look-judged}
 use Rattle.sim.specs.declared.Simulator.{Simulator}
 use Rattle.sim.specs.declared.StopRule.{StopRule}
-use Rattle.burst.specs.declared.inner.hot.Hot.{Hot}
-use Rattle.burst.specs.Burst.{Says, Calm, unasked, goes-on, rewrites, reads-one, sees-left, sees-right, Moved, went-left, went-right, stood, movedTo, HotOk, Step, Walk, here, more}
-use Rattle.before.specs.declared.inner.look.Look.the-variants.{Go}
-use Rattle.sim.specs.Engine.{task, Conf, conf, tape0, tape1, tape2, staysAll, judgeOf, lookWith, roomsFor, roomyOf, stepOf, matches, runOf}
-use Rattle.before.specs.LookCases.{judge-off, look-judged}
+use Rattle.sim.specs.Engine.{Task, task, Conf, conf, tape0, tape1, tape2, staysAll, judgeOf, lookWith, lookOf, roomsFor, roomyOf, stepOf, runOf}
 use Rattle.sim.specs.EngineCases.{stepped, run-next}
-use Rattle.sim.specs.Hot.{One, into, Follows}
+use Rattle.sim.specs.Runs.{Misses, into, May}
 use Rattle.sim.specs.HotFacts.{not-blank-left, not-blank-right, beyond-none, go-leaves, go-reads, go-sees, moves-left, moves-right, writes-other, number-left, number-right, number-none, reads-there, reads-none, entry-of-one}
 
--- ---- one step, for an engine that stands where the burst does
+-- a table s that is Known to the burst, and an engine v on which it may run
+module _ (Known : List ℕ → Type 0) (m : Machine) (s : List ℕ) (known : Known s) (p : Bool) (rule : StopRule) (stop : ℕ) (v : Simulator) (c1 c2 : List ℕ)
+    (may : May (m .tapes) v) (miss : Misses rule stop) where
+  abbrev job : Task
+  job = task m s p rule
 
-module _ (k len : ℕ) (x : Hot) (c : List ℕ) (ok : HotOk c k len x) (w d next : ℕ) where
-  abbrev read : ℕ
-  read = getD c (x .head) 0
+  -- ---- one step
 
-  abbrev cells : List ℕ
-  cells = set c (x .head) w
+  module _ (x : Hot) (c : List ℕ) (w next to : ℕ) (st : Step Known p stop (m .symbols) (v .t0 .len) x c w next to) (steps : ℕ) where
+    abbrev read : ℕ
+    read = getD c (x .head) 0
 
-  module _ (s : List ℕ) (says : Says (entryAt s (x .state * k + read)) w d next)
-      (m : Machine) (rule : StopRule) (p : Bool) (v : Simulator) (c1 c2 : List ℕ) (steps : ℕ) (one : One m v k) where
+    abbrev says : Says (entryAt s (x .state * m .symbols + read)) w (st .dir) next
+    says = st .says s known
+
     abbrev a : Action
     a = says .act
 
     abbrev eng : Simulator
-    eng = into v len steps x
+    eng = into v steps x
 
-    abbrev before : Conf
-    before = conf eng c c1 c2
+    abbrev σ : Conf
+    σ = conf eng c c1 c2
 
-    abbrev after : (to : ℕ) → Conf
-    after to = conf (into v len (steps + 1) (movedTo x to next)) cells c1 c2
+    abbrev moved : Simulator
+    moved = into v (steps + 1) (movedTo x to next)
 
     -- what the step does to the tape
-    record Goes (to : ℕ) : Type 0 where
+    record Goes : Type 0 where
       inside : leaves (eng .t0) (a .dir0) ≡ false
-      tape-is : _≡_ {A = Tape} (into v len (steps + 1) (movedTo x to next) .t0) (shiftOf (eng .t0) (a .dir0))
+      tape-is : _≡_ {A = Tape} (moved .t0) (shiftOf (eng .t0) (a .dir0))
 
-    goes-of : (to : ℕ) → Moved d (x .head) to → to < len → Goes to
+    tape-by : (head low high : ℕ) → to ≡ head → min (x .low) to ≡ low → max (x .high) to ≡ high
+        → _≡_ {A = Tape} (moved .t0) (record { len = v .t0 .len; origin = v .t0 .origin; head = head; lowest = low; highest = high })
+    tape-by head low high p q r = λ i. record { len = v .t0 .len; origin = v .t0 .origin; head = p i; lowest = q i; highest = r i }
+
+    goes-of : Moved (st .dir) (x .head) to → Goes
     unfolding leaves
-    goes-of to (went-left e g) h =
+    goes-of (went-left e g) =
         let i : a .dir0 ≡ L = number-left (a .dir0) (says .moves ∙ e) in
-        let t : to ≡ x .head - 1 = omega arith in
-        let high : max (x .high) to ≡ x .high = omega (arith, ok .high-in) in
         record {
           inside = rw i (ne-eqb (x .head) 0 (λ z. omega arith));
-          tape-is = rw (high, t) (shift-left (eng .t0) (a .dir0) _ i refl);
+          tape-is = tape-by (x .head - 1) _ (x .high) (omega arith) (omega arith) (omega (arith, st .ok .high-in)) ∙ shift-left (eng .t0) (a .dir0) (min (x .low) (x .head - 1)) i refl;
         }
-    goes-of to (went-right e g) h =
+    goes-of (went-right e g) =
         let i : a .dir0 ≡ R = number-right (a .dir0) (says .moves ∙ e) in
-        let low : min (x .low) to ≡ x .low = omega (arith, ok .low-in) in
         record {
-          inside = rw i (ne-eqb (x .head + 1) len (λ z. omega arith));
-          tape-is = rw (low, g) (shift-right (eng .t0) (a .dir0) _ i refl);
+          inside = rw i (ne-eqb (x .head + 1) (v .t0 .len) (λ z. omega (arith, st .inside)));
+          tape-is = tape-by (x .head + 1) (x .low) _ g (omega (arith, st .ok .low-in)) (omega arith) ∙ shift-right (eng .t0) (a .dir0) (max (x .high) (x .head + 1)) i refl;
         }
-    goes-of to (stood e f g) h =
+    goes-of (stood e f g) =
         let i : a .dir0 ≡ N = number-none (a .dir0) (λ z. e (sym (says .moves) ∙ z)) (λ z. f (sym (says .moves) ∙ z)) in
-        let low : min (x .low) to ≡ x .low = omega (arith, ok .low-in) in
-        let high : max (x .high) to ≡ x .high = omega (arith, ok .high-in) in
         record {
           inside = rw i refl;
-          tape-is = rw (low, high, g) (shift-none (eng .t0) (a .dir0) i);
+          tape-is = tape-by (x .head) (x .low) (x .high) g (omega (arith, st .ok .low-in)) (omega (arith, st .ok .high-in)) ∙ shift-none (eng .t0) (a .dir0) i;
         }
 
+    goes : Goes
+    goes = goes-of (st .moved)
+
     -- it is no proved loop
-    judged : (to : ℕ) → Moved d (x .head) to → Calm p c len (x .head) read w d next (x .state)
-        → Go a ≡ judgeOf p (m .tapes) (eng .state) a read 0 0 (held (eng .t0) c)
-    judged to mv (unasked e) = judge-off _ _ _ a _ _ _ _ e
-    judged to mv (goes-on h) = go-leaves _ _ _ a _ _ _ _ (rw (says .goes) h)
-    judged to mv (rewrites e h) =
+    judged : Calm p c (v .t0 .len) (x .head) read w (st .dir) next (x .state) → Go a ≡ judgeOf p (m .tapes) (eng .state) a read 0 0 (held (eng .t0) c)
+    judged (unasked e) = judge-off _ _ _ a _ _ _ _ e
+    judged (goes-on h) = go-leaves _ _ _ a _ _ _ _ (rw (says .goes) h)
+    judged (rewrites e h) =
         let i : a .dir0 ≡ N = number-none (a .dir0) (λ z. omega (arith, says .moves)) (λ z. omega (arith, says .moves)) in
-        let st : staysAll a read 0 0 ≡ false = writes-other a _ _ _ i (says .still1) (says .still2) (rw (says .writes) h) in
-        go-sees _ _ _ a _ _ _ _ st (beyond-none _ _ i)
-    judged to mv (reads-one e h) = go-reads _ _ _ a _ _ _ _ (moving mv) h
+        let still : staysAll a read 0 0 ≡ false = writes-other a _ _ _ i (says .still1) (says .still2) (rw (says .writes) h) in
+        go-sees _ _ _ a _ _ _ _ still (beyond-none _ _ i)
+    judged (reads-one e h) = go-reads _ _ _ a _ _ _ _ (moving (st .moved)) h
       where
-        moving : Moved d (x .head) to → staysAll a read 0 0 ≡ false
+        moving : Moved (st .dir) (x .head) to → staysAll a read 0 0 ≡ false
         moving (went-left f g) = moves-left a _ _ _ (number-left (a .dir0) (says .moves ∙ f))
         moving (went-right f g) = moves-right a _ _ _ (number-right (a .dir0) (says .moves ∙ f))
         moving (stood f g i) = absurd (e (omega (arith, says .moves, number-small (a .dir0))))
-    judged to mv (sees-left j e l h) =
+    judged (sees-left j e l h) =
         let i : a .dir0 ≡ L = number-left (a .dir0) (says .moves ∙ e) in
         go-sees _ _ _ a _ _ _ _ (moves-left a _ _ _ i) (rw i (not-blank-left (eng .t0) c j h l))
-    judged to mv (sees-right j e f l g h) =
+    judged (sees-right j e f l g h) =
         let i : a .dir0 ≡ R = number-right (a .dir0) (omega (arith, says .moves, number-small (a .dir0))) in
         go-sees _ _ _ a _ _ _ _ (moves-right a _ _ _ i) (rw i (not-blank-right (eng .t0) c j h l g))
 
-    looked : (to : ℕ) → Moved d (x .head) to → Calm p c len (x .head) read w d next (x .state) → lookWith m s p before ≡ Go a
+    looked : lookOf job σ ≡ Go a
     unfolding lookWith
-    looked to mv calm =
+    looked =
         sym
-        (look-judged m s p (eng .state) (tape0 before) (tape1 before) (tape2 before) read 0 0 _ (entry-of-one m s (x .state) read k (one .tapes-is) (one .symbols-is))
-        (reads-there (eng .t0) c (ok .head-in)) (reads-none (v .t1) c1 (one .none1)) (reads-none (v .t2) c2 (one .none2)) a (Go a) (judged to mv calm) (says .is))
+        (look-judged m s p (eng .state) (tape0 σ) (tape1 σ) (tape2 σ) read 0 0 _ (entry-of-one m s (x .state) read (may .one-tape))
+        (reads-there (eng .t0) c (st .ok .head-in)) (reads-none (v .t1) c1 (may .none1)) (reads-none (v .t2) c2 (may .none2)) a (Go a) (judged (st .calm)) (says .is))
 
-    roomy : (to : ℕ) → Goes to → roomyOf before a ≡ true
+    roomy : roomyOf σ a ≡ true
     unfolding roomsFor roomFor leaves pick both
-    roomy to g = simp (g .inside, says .still1, says .still2)
+    roomy = simp (goes .inside, says .still1, says .still2)
 
-    step-is : (to : ℕ) → Goes to → after to ≡ stepOf before a
-    step-is to g =
-        (λ i. conf (record {
-          state = stateOf (sym (says .goes) i);
-          steps = steps + 1;
-          t0 = into v len (steps + 1) (movedTo x to next) .t0;
-          t1 = v .t1;
-          t2 = v .t2;
-        }) (set c (x .head) (sym (says .writes) i)) c1 c2)
+    step-is : conf moved (set c (x .head) w) c1 c2 ≡ stepOf σ a
+    step-is =
+        (λ i. conf (record { state = stateOf (sym (says .goes) i); steps = steps + 1; t0 = moved .t0; t1 = v .t1; t2 = v .t2 }) (set c (x .head) (sym (says .writes) i)) c1 c2)
         ∙ stepped eng c c1 c2 (set c (x .head) (a .write0 .0)) c1 c2 a _ (v .t1) (v .t2)
-        (act-inside (eng .t0) c (a .write0 .0) (a .dir0) _ _ _ (ok .head-in) refl refl (g .inside) (g .tape-is))
-        (act-none (v .t1) c1 (a .write1 .0) (a .dir1) (one .none1)) (act-none (v .t2) c2 (a .write2 .0) (a .dir2) (one .none2))
+        (act-inside (eng .t0) c (a .write0 .0) (a .dir0) _ _ _ (st .ok .head-in) refl refl (goes .inside) (goes .tape-is))
+        (act-none (v .t1) c1 (a .write1 .0) (a .dir1) (may .none1)) (act-none (v .t2) c2 (a .write2 .0) (a .dir2) (may .none2))
 
     -- the run after the step has the answer of the run before it
-    ran-on : (to : ℕ) → Moved d (x .head) to → to < len → Calm p c len (x .head) read w d next (x .state) → (x .left ≡ 0 → ⊥) → matches rule (eng .state) ≡ false
-        → runOf (task m s p rule) (x .left - 1) (after to) ≡ runOf (task m s p rule) (x .left) before
-    ran-on to mv h calm pos misses =
-        let g : Goes to = goes-of to mv h in
-        rw (step-is to g) (run-next (task m s p rule) before _ a (looked to mv calm) (x .left) pos (roomy to g) misses refl)
+    ran-on : runOf job (x .left - 1) (conf moved (set c (x .head) w) c1 c2) ≡ runOf job (x .left) σ
+    ran-on = rw step-is (run-next job σ _ a looked (x .left) (st .fuel) roomy (miss .misses (x .state) (st .goes)) refl)
 
-  follows-step : (Known : List ℕ → Type 0) (p : Bool) (stop to : ℕ) → ((s : List ℕ) → Known s → Says (entryAt s (x .state * k + read)) w d next)
-      → Moved d (x .head) to → to < len → Calm p c len (x .head) read w d next (x .state) → (x .left ≡ 0 → ⊥) → (x .state ≡ stop → ⊥)
-      → Follows Known p stop k len x c (movedTo x to next) cells
-  follows-step Known p stop to says mv h calm pos on =
-      record {
-        same = λ s known m rule v c1 c2 steps steps′ one miss e.
-            let z : steps′ ≡ steps + 1 = omega arith in
-            rw z (ran-on s (says s known) m rule p v c1 c2 steps one to mv h calm pos (miss .misses (x .state) on));
-      }
+  -- ---- a walk
 
--- ---- from burst to burst
-
-module _ (Known : List ℕ → Type 0) (p : Bool) (stop k len : ℕ) where
-  follows-refl : (x : Hot) (c : List ℕ) → Follows Known p stop k len x c x c
-  follows-refl x c = record { same = λ s known m rule v c1 c2 steps steps′ one miss e. let z : steps′ ≡ steps = omega arith in rw z refl }
-
-  follows-trans : (x y z : Hot) (c d e : List ℕ) → y .left ≤ x .left → z .left ≤ y .left
-      → Follows Known p stop k len x c y d → Follows Known p stop k len y d z e → Follows Known p stop k len x c z e
-  follows-trans x y z c d e h g f r =
-      record {
-        same = λ s known m rule v c1 c2 steps steps′ one miss q.
-            let u : ℕ = steps + (x .left - y .left) in
-            r .same s known m rule v c1 c2 u steps′ one miss (omega arith) ∙ f .same s known m rule v c1 c2 steps u one miss (omega arith);
-      }
-
-  less : (x y : Hot) (c d : List ℕ) → Walk Known p stop k len x c y d → y .left ≤ x .left
+  less : (x y : Hot) (c d : List ℕ) → Walk Known p stop (m .symbols) (v .t0 .len) x c y d → y .left ≤ x .left
   less x y c d here = omega arith
   less x y c d (more z e w next to walk st) = let h : z .left ≤ x .left = less x z c e walk in omega arith
 
-  -- a walk is followed by the run
-  pub walked : (x y : Hot) (c d : List ℕ) → Walk Known p stop k len x c y d → Follows Known p stop k len x c y d
-  walked x y c d here = follows-refl x c
-  walked x y c d (more z e w next to walk st) =
-      follows-trans x z (movedTo z to next) c e (set e (z .head) w) (less x z c e walk) (omega arith) (walked x z c e walk)
-      (follows-step k len z e (st .ok) w (st .dir) next Known p stop to (st .says) (st .moved) (st .inside) (st .calm) (st .fuel) (st .goes))
+  -- the run from where it ends has the answer of the run from where it begins: what fuel is used is steps made
+  pub walked : (x y : Hot) (c d : List ℕ) → Walk Known p stop (m .symbols) (v .t0 .len) x c y d → (steps : ℕ)
+      → runOf job (y .left) (conf (into v (steps + (x .left - y .left)) y) d c1 c2) ≡ runOf job (x .left) (conf (into v steps x) c c1 c2)
+  walked x y c d here steps = let z : steps + (x .left - x .left) ≡ steps = omega arith in rw z refl
+  walked x y c d (more z e w next to walk st) steps =
+      let h : z .left ≤ x .left = less x z c e walk in
+      let f : z .left ≡ 0 → ⊥ = st .fuel in
+      let n : steps + (x .left - (z .left - 1)) ≡ steps + (x .left - z .left) + 1 = omega arith in
+      rw n (ran-on z e w next to st (steps + (x .left - z .left)) ∙ walked x z c e walk steps)

@@ -1,39 +1,36 @@
 -- The operations' checks, one fact for each return, and what they give the run where they pass. Assumes nothing.
 use mathlib.Core.Path.{_≡_, refl, sym, _∙_}
 use mathlib.Core.Bool.{Bool, true, false}
-use mathlib.Core.List.{List, []}
-use Prim.Native.Nat.{ℕ, _+_, _-_, _≤_, _<_}
+use mathlib.Core.List.{List}
+use Prim.Native.Nat.{ℕ, _+_, _-_, _≤_}
 use native.Mathlib.Omega.{arith}
 use borrow.Author.Tests.{leb-true}
 use lib.Dec.{leb}
 use lib.ListN.{length}
 use Rattle.laws.specs.Choice.{pick}
-use Rattle.laws.specs.Tests.{both-split, pick-true}
+use Rattle.laws.specs.Tests.{both-split}
 use Rattle.symbol.specs.Kinds.{stateOf}
-use Rattle.outcome.specs.declared.Outcome.{Outcome}
-use Rattle.outcome.specs.declared.Status.{Status}
 use Rattle.outcome.specs.declared.Refusal.{Refusal}
 use Rattle.outcome.specs.declared.Refusal.the-variants as Why
 use Rattle.machine.specs.declared.Machine.{Machine}
 use Rattle.machine.specs.declared.Checked.{Checked}
 use Rattle.machine.specs.declared.Checked.the-variants.{Accepted, Refused}
 use Rattle.machine.specs.Layout.{strideOf}
-use Rattle.machine.specs.Check.{within, checkedOn, tableCheck}
-use Rattle.machine.specs.Word.{wordCheck}
+use Rattle.machine.specs.Check.{tableCheck}
+use Rattle.machine.specs.Packing.{wordAt}
 use Rattle.machine.specs.CheckFacts.{demand-says, Ranges, ranges}
 use Rattle.tape.specs.declared.Tape.{Tape}
 use Rattle.tape.specs.Moves.{held, noTape, freshOf}
 use Rattle.tape.specs.Fits.{TapeSafe, tapeFits}
 use Rattle.tape.specs.MoveFacts.{fits-safe, none-safe}
+use Rattle.before.specs.SizesCases.{words-say}
 pub use Rattle.before.specs.SizesCases.{on-says, FreshPassed, fresh-says}
+use Rattle.burst.specs.Words.{WordsOk}
 use Rattle.sim.specs.declared.Simulator.{Simulator}
-use Rattle.sim.specs.declared.StopRule.{StopRule}
-use Rattle.sim.specs.declared.Answer.the-variants as Ans
-use Rattle.sim.specs.declared.StepAnswer.the-variants as StepAns
 use Rattle.sim.specs.declared.Fresh.the-variants as New
-use Rattle.sim.specs.Engine.{Conf, conf, task, end, runOf, once, onceOf}
+use Rattle.sim.specs.Engine.{Conf, conf}
 use Rattle.sim.specs.Turns.{LookOk, RunOk}
-use Rattle.sim.specs.Operations.{has1, has2, ifHas, bareSim, handBack, cellsMost, stepsMost, sizesFit, simFits, valueCheck, engineCheck, fuelFits, fuelCheck, runCheck, wordsRight, fastCheck, bareOf, given, ranBack, runOn, stepGiven, stepAnswer, freshSizes, freshCheck, blankTape, made, madeWith, newAnswer}
+use Rattle.sim.specs.Operations.{has1, has2, ifHas, bareSim, cellsMost, stepsMost, sizesFit, simFits, valueCheck, engineCheck, fuelFits, fuelCheck, runCheck, wordsRight, fastCheck, freshCheck, blankTape, made, madeWith, newAnswer}
 
 -- ---- the checks' returns
 
@@ -98,6 +95,28 @@ value-says m s σ t e =
 pub engine-says : (m : Machine) (s : List ℕ) (σ : Conf) → engineCheck m s σ ≡ Accepted → Passed m s σ
 unfolding engineCheck
 engine-says m s σ e = let t = on-says _ _ e in value-says m s σ (t .0) (t .1)
+
+-- that of the fast run: the run's passes, and the words are the table's
+module _ (m : Machine) (s words : List ℕ) (fuel : ℕ) (σ : Conf) (r : Checked) (checked : r ≡ fastCheck m s words fuel σ) (passed : r ≡ Accepted) where
+  parts : (tableCheck m s ≡ Accepted) × (wordsRight m s words ≡ true) × (fuelCheck m fuel σ ≡ Accepted)
+  unfolding fastCheck
+  parts =
+      let t = on-says _ _ (sym checked ∙ passed) in
+      let w = demand-says _ _ _ (t .1) in
+      (t .0, w .0, w .1)
+
+  pub fast-right : wordsRight m s words ≡ true
+  fast-right = parts .1
+
+  pub fast-runs : Accepted ≡ runCheck m s fuel σ
+  unfolding runCheck
+  fast-runs = rw (parts .0, parts .2)
+
+  pub fast-words : WordsOk m s words
+  unfolding wordAt
+  fast-words =
+      let w = words-say m s words fast-right in
+      record { checked = parts .0; one-tape = w .0; count = w .1; holds = w .2 }
 
 -- ---- and gives the run: the tapes are safe, and the step count stays below its limit
 

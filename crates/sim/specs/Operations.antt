@@ -1,24 +1,19 @@
 -- The plain engine's operations: their refusals in document 01's order, what they answer, and what they leave in the lent cells. Definitions only.
 use mathlib.Core.Bool.{Bool, true}
-use mathlib.Core.List.{List, []}
-use Prim.Native.Nat.{ℕ, _+_, _-_, _^_}
-use lib.Dec.{eqb, ltb, leb}
-use lib.ListN.{length, getD}
+use mathlib.Core.List.{List}
+use Prim.Native.Nat.{ℕ}
+use lib.Dec.{ltb, leb}
+use lib.ListN.{length}
 use Rattle.laws.specs.Choice.{pick, both}
-use Rattle.laws.specs.Scan.{allIn}
 use Rattle.symbol.specs.Kinds.{stateOf}
-use Rattle.outcome.specs.declared.Refusal.{Refusal}
 use Rattle.outcome.specs.declared.Refusal.the-variants as Why
 use Rattle.machine.specs.declared.Machine.{Machine}
 use Rattle.machine.specs.declared.Checked.{Checked}
 use Rattle.machine.specs.declared.Checked.the-variants.{Accepted, Refused}
-use Rattle.machine.specs.Check.{within, demand, checkedOn, tableCheck}
-use Rattle.machine.specs.Layout.{entryCount}
-use Rattle.machine.specs.Packing.{wordAt}
-use Rattle.machine.specs.Word.{wordCheck}
-use Rattle.tape.specs.Moves.{Held, held, noTape, freshOf}
+use Rattle.machine.specs.Check.{demand, checkedOn, tableCheck}
+use Rattle.tape.specs.Moves.{Held, noTape, freshOf}
 use Rattle.tape.specs.Fits.{tapeFits}
-pub use Rattle.before.specs.Sizes.{has1, has2, ifHas, cellsMost, stepsMost, wordRight, blankTape}
+pub use Rattle.before.specs.Sizes.{has1, has2, ifHas, cellsMost, stepsMost, blankTape}
 unfoldable pub use Rattle.before.specs.Sizes.{sizesFit, fuelFits, wordsRight, freshSizes, freshCheck}
 use Rattle.course.specs.Answers.{answered}
 use Rattle.sim.specs.declared.Simulator.{Simulator}
@@ -29,7 +24,7 @@ use Rattle.sim.specs.declared.StepAnswer.{StepAnswer}
 use Rattle.sim.specs.declared.StepAnswer.the-variants as StepAns
 use Rattle.sim.specs.declared.Fresh.{Fresh}
 use Rattle.sim.specs.declared.Fresh.the-variants as New
-use Rattle.sim.specs.Engine.{Conf, conf, task, End, runOf, Once, onceOf}
+use Rattle.sim.specs.Engine.{Conf, conf, task, End, runOf, Once, onceOf, statusOf}
 
 -- ---- tapes that the machine has, and those that it lacks
 
@@ -106,14 +101,16 @@ ranBack m σ e = given (backOf m σ (e .at)) (Ans.Done (e .outcome))
 abbrev pub runOn : Checked → Conf → Given → Given
 runOn r σ done = answered given Ans.Refused r σ (done .at) (done .answer)
 
+-- what a run's operation answers by its check: the refusal, or the run on the tapes that the machine has
+abbrev pub answerOf : Checked → Machine → List ℕ → (proves : Bool) → StopRule → (fuel : ℕ) → Conf → Given
+answerOf checked m s p rule fuel σ = runOn checked σ (ranBack m σ (runOf (task m s p rule) fuel (bareOf m σ)))
+
 unfoldable pub runAnswer : Machine → List ℕ → StopRule → ℕ → Conf → Given
-runAnswer m s rule fuel σ =
-    runOn (runCheck m s fuel σ) σ (ranBack m σ (runOf (task m s true rule) fuel (bareOf m σ)))
+runAnswer m s rule fuel σ = answerOf (runCheck m s fuel σ) m s true rule fuel σ
 
 -- it "answers as `run` does"
 unfoldable pub fastAnswer : Machine → (s words : List ℕ) → StopRule → ℕ → Conf → Given
-fastAnswer m s words rule fuel σ =
-    runOn (fastCheck m s words fuel σ) σ (ranBack m σ (runOf (task m s true rule) fuel (bareOf m σ)))
+fastAnswer m s words rule fuel σ = answerOf (fastCheck m s words fuel σ) m s true rule fuel σ
 
 -- ---- one step, "a step counts as fuel 1": "running, halted or full"
 
@@ -132,6 +129,11 @@ stepOn r σ done = answered stepGiven StepAns.Refused r σ (done .at) (done .ans
 
 unfoldable pub stepAnswer : Machine → List ℕ → Conf → StepGiven
 stepAnswer m s σ = stepOn (runCheck m s 1 σ) σ (stepBack m σ (onceOf m s (bareOf m σ)))
+
+-- the answer of a run of one step, as a step's
+abbrev pub stepAnswerOf : Answer → StepAnswer
+stepAnswerOf (Ans.Done o) = StepAns.Done (statusOf o)
+stepAnswerOf (Ans.Refused why) = StepAns.Refused why
 
 -- ---- a fresh engine: the table check, the word's 9 and 10, then 11
 

@@ -1,6 +1,6 @@
--- Bursts inside a run: when one may run on an engine's value, and what the value after it keeps. Definitions only.
+-- Bursts inside a run: when one may run on an engine's value, where it starts, and what the value after it keeps. Definitions only.
 use mathlib.Core.Path.{_≡_}
-use mathlib.Core.Bool.{Bool, true}
+use mathlib.Core.Bool.{Bool, true, false}
 use mathlib.Core.List.{List}
 use Prim.Native.Nat.{ℕ, _+_, _≤_, _<_}
 use lib.ListN.{length}
@@ -9,19 +9,28 @@ use Rattle.machine.specs.declared.Machine.{Machine}
 use Rattle.machine.specs.declared.Checked.{Checked}
 use Rattle.machine.specs.declared.Checked.the-variants.{Accepted}
 use Rattle.tape.specs.Fits.{TapeSafe}
-use Rattle.sim.specs.declared.Simulator.{Simulator}
-use Rattle.sim.specs.declared.StopRule.{StopRule}
 use Rattle.burst.specs.declared.inner.hot.Hot.{Hot}
 use Rattle.burst.specs.Words.{WordsOk}
 use Rattle.several.specs.declared.inner.Wide.{Wide}
-use Rattle.sim.specs.declared.Answer.{Answer}
-use Rattle.sim.specs.declared.Answer.the-variants as Ans
-use Rattle.sim.specs.declared.StepAnswer.{StepAnswer}
-use Rattle.sim.specs.declared.StepAnswer.the-variants as StepAns
-use Rattle.sim.specs.Engine.{task, Conf, conf, runOf, statusOf}
-use Rattle.sim.specs.Operations.{bareOf, runCheck, Given, ranBack, runOn}
+use Rattle.sim.specs.declared.Simulator.{Simulator}
+use Rattle.sim.specs.declared.StopRule.{StopRule}
+use Rattle.sim.specs.Engine.{task, Conf, conf, matches, runOf}
+use Rattle.sim.specs.Operations.{runCheck}
 use Rattle.sim.specs.Turns.{RunOk}
-use Rattle.sim.specs.Hot.{Misses}
+
+-- of all states the rule has at most this one
+pub record Misses (rule : StopRule) (stop : ℕ) : Type 0 where
+  pub misses : (q : ℕ) → (q ≡ stop → ⊥) → matches rule (stateOf q) ≡ false
+
+pub record WordsIf (b : Bool) (m : Machine) (s words : List ℕ) : Type 0 where
+  pub words-ok : b ≡ true → WordsOk m s words
+
+-- a check that passes lets the run begin, over the words where they are packed
+pub record Cleared (checked : Checked) (m : Machine) (s : List ℕ) (packed : Bool) (words : List ℕ) (fuel : ℕ) (σ : Conf) : Type 0 where
+  pub runs : checked ≡ Accepted → runCheck m s fuel σ ≡ Accepted
+  pub words-ok : checked ≡ Accepted → WordsIf packed m s words
+
+-- ---- one tape
 
 -- where a burst on the engine's value starts
 abbrev pub hotOf : Simulator → (left : ℕ) → Hot
@@ -32,6 +41,17 @@ hotOf v left =
       high = v .t0 .highest;
       state = v .state .0;
       left = left;
+    }
+
+-- the engine v with the burst's numbers in it
+abbrev pub into : Simulator → (steps : ℕ) → Hot → Simulator
+into v steps x =
+    record {
+      state = stateOf (x .state);
+      steps = steps;
+      t0 = record { len = v .t0 .len; origin = v .t0 .origin; head = x .head; lowest = x .low; highest = x .high };
+      t1 = v .t1;
+      t2 = v .t2;
     }
 
 -- a burst may run: one tape, its numbers inside it, and no cell under another head
@@ -45,9 +65,6 @@ pub record May (tapes : ℕ) (v : Simulator) : Type 0 where
 
 pub record MayIf (b : Bool) (tapes : ℕ) (v : Simulator) : Type 0 where
   pub may : b ≡ true → May tapes v
-
-pub record WordsIf (b : Bool) (m : Machine) (s words : List ℕ) : Type 0 where
-  pub words-ok : b ≡ true → WordsOk m s words
 
 -- of what a run may assume, what concerns the tape of a burst
 pub record SprintOk (m : Machine) (v : Simulator) (c : List ℕ) (left : ℕ) : Type 0 where
@@ -98,19 +115,3 @@ pub record Sped (m : Machine) (s : List ℕ) (proves : Bool) (stop : ℕ) (v : S
   pub lens0 : length d0 ≡ length c0
   pub lens1 : length d1 ≡ length c1
   pub lens2 : length d2 ≡ length c2
-
--- ---- the operations over a run
-
--- a check that passes lets the run begin, over the words where they are packed
-pub record Cleared (checked : Checked) (m : Machine) (s : List ℕ) (packed : Bool) (words : List ℕ) (fuel : ℕ) (σ : Conf) : Type 0 where
-  pub runs : checked ≡ Accepted → runCheck m s fuel σ ≡ Accepted
-  pub words-ok : checked ≡ Accepted → WordsIf packed m s words
-
--- what an operation answers by its check: the refusal, or the run on the tapes that the machine has
-abbrev pub answerOf : Checked → Machine → List ℕ → (proves : Bool) → StopRule → (fuel : ℕ) → Conf → Given
-answerOf checked m s p rule fuel σ = runOn checked σ (ranBack m σ (runOf (task m s p rule) fuel (bareOf m σ)))
-
--- the answer of a run of one step, as a step's
-abbrev pub stepAnswerOf : Answer → StepAnswer
-stepAnswerOf (Ans.Done o) = StepAns.Done (statusOf o)
-stepAnswerOf (Ans.Refused why) = StepAns.Refused why

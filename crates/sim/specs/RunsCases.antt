@@ -19,9 +19,8 @@ use Rattle.burst.specs.WordsFacts.{packs-of}
 use Rattle.sim.specs.Engine.{task, Conf, matches}
 use Rattle.sim.specs.Turns.{RunOk}
 use Rattle.sim.specs.TurnCases.{RunInv}
-use Rattle.sim.specs.Hot.{Misses, into}
 use Rattle.sim.specs.HotSteps.{walked}
-use Rattle.sim.specs.Runs.{hotOf, May, MayIf, WordsIf, SprintOk, SpedOne, Sped}
+use Rattle.sim.specs.Runs.{Misses, WordsIf, hotOf, into, May, MayIf, SprintOk, SpedOne, Sped}
 
 -- ---- the stop rule's state
 
@@ -74,14 +73,12 @@ after-asks Known m v c left p stop k len x y d ok e r =
 
 module _ (m : Machine) (s : List ℕ) (p : Bool) (stop : ℕ) (v : Simulator) (c : List ℕ) (left : ℕ) (b : Bool) (mays : MayIf b (m .tapes) v) (z : b ≡ true)
     (start at : Hot) (c′ : List ℕ) (from : (start ≡ hotOf v left) × (start .state < 65536)) (v′ : Simulator) (left′ : ℕ)
-    (after : (v′ ≡ into v (v .t0 .len) (v .steps + (left - at .left)) at) × (left′ ≡ at .left)) where
+    (after : (v′ ≡ into v (v .steps + (left - at .left)) at) × (left′ ≡ at .left)) where
   sped : (Known : List ℕ → Type 0) → Known s → Reached Known p stop (m .symbols) (v .t0 .len) (hotOf v left) c at c′
-      → SpedOne m s p stop v c left (into v (v .t0 .len) (v .steps + (left - at .left)) at) c′ (at .left)
+      → SpedOne m s p stop v c left (into v (v .steps + (left - at .left)) at) c′ (at .left)
   sped Known known r =
-      let may : May (m .tapes) v = mays .may z in
       record {
-        same = λ rule miss c1 c2. walked Known p stop (m .symbols) (v .t0 .len) _ _ _ _ (r .walk) .same s known m rule v c1 c2 (v .steps) (v .steps + (left - at .left))
-            (record { tapes-is = may .one-tape; symbols-is = refl; none1 = may .none1; none2 = may .none2 }) miss (omega (arith, r .less));
+        same = λ rule miss c1 c2. walked Known m s known p rule stop v c1 c2 (mays .may z) miss (hotOf v left) at c c′ (r .walk) (v .steps);
         okay = λ stride c1 c2 ok. record {
           ok = record {
             symbols-in = ok .ok .symbols-in;
@@ -97,7 +94,7 @@ module _ (m : Machine) (s : List ℕ) (p : Bool) (stop : ℕ) (v : Simulator) (c
         lens = r .lens;
       }
     where
-      safe : TapeSafe (v .t0) c → HotOk c′ (m .symbols) (v .t0 .len) at → TapeSafe (into v (v .t0 .len) (v .steps + (left - at .left)) at .t0) c′
+      safe : TapeSafe (v .t0) c → HotOk c′ (m .symbols) (v .t0 .len) at → TapeSafe (into v (v .steps + (left - at .left)) at .t0) c′
       safe t o =
           let k : TapeOk (v .t0) c = t .ok in
           record {

@@ -18,13 +18,11 @@ use Rattle.before.specs.declared.inner.look.Look.{Look}
 use Rattle.before.specs.declared.inner.look.Look.the-variants as Look
 use Rattle.before.specs.declared.inner.look.Choice.{Choice}
 use Rattle.before.specs.declared.inner.look.Choice.the-variants.{Stop, Go}
-use Rattle.before.specs.Look.{roomsOf, goOf, AtOk}
+use Rattle.before.specs.Look.{roomsOf, goOf}
 use Rattle.before.specs.LookCases.{go-fuel, go-on, go-full, choice-halt, choice-never, choice-go}
 use Rattle.sim.specs.Engine.{Task, Conf, conf, tape0, tape1, tape2, lookWith, lookOf, roomsFor, roomyOf, stepOf, matches, End, end, runOf}
 use Rattle.sim.specs.Turns.{choiceOf, LookOk, StepOk, RunOk}
 use Rattle.sim.specs.EngineCases.{run-halt, run-never, run-fuel, run-full, run-last, run-next}
-
--- ---- what is asked before the choice
 
 -- ---- what the choice says of the run: it ends here, or it follows the entry
 
@@ -93,8 +91,8 @@ pub record RunInv (k : Task) (stride fuel : ℕ) (σ : Conf) (v : Simulator) (c0
 pub len-then : (a b c : ℕ) → b ≡ c → a ≡ b → a ≡ c
 len-then a b c q p = p ∙ q
 
-clash : (c : Choice) (o : Outcome) (a : Action) → c ≡ Stop o → c ≡ Go a → ⊥
-clash c o a p q = let z : _≡_ {A = ℕ} 0 1 = cc in omega arith
+stop-or-go : (c : Choice) (o : Outcome) (a : Action) → c ≡ Stop o → c ≡ Go a → ⊥
+stop-or-go c o a p q = let z : _≡_ {A = ℕ} 0 1 = cc in omega arith
 
 -- the arms, at the choice c
 module _ (k : Task) (f : ℕ) (v : Simulator) (c0 c1 c2 : List ℕ) (c : Choice) (e : c ≡ choiceOf (k .machine) (k .table) (k .proves) f (conf v c0 c1 c2)) where
@@ -109,7 +107,7 @@ module _ (k : Task) (f : ℕ) (v : Simulator) (c0 c1 c2 : List ℕ) (c : Choice)
           let kc : c ≡ Stop o′ = e ∙ q in
           let ko : o ≡ o′ = cc in
           ap (end at) ko ∙ sym r ∙ p
-      go (goes a q h l r) = absurd (clash c o a z (e ∙ q))
+      go (goes a q h l r) = absurd (stop-or-go c o a z (e ∙ q))
 
   module _ (a : Action) (z : c ≡ Go a) where
     pub record Follow : Type 0 where
@@ -121,7 +119,7 @@ module _ (k : Task) (f : ℕ) (v : Simulator) (c0 c1 c2 : List ℕ) (c : Choice)
     follow = go (chosen k f at)
       where
         go : Here k f at → Follow
-        go (ends o q r) = absurd (clash c o a (e ∙ q) z)
+        go (ends o q r) = absurd (stop-or-go c o a (e ∙ q) z)
         go (goes a′ q h l r) =
             let kc : c ≡ Go a′ = e ∙ q in
             let ka : a ≡ a′ = cc in

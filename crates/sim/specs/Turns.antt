@@ -6,11 +6,10 @@ use mathlib.Core.Bool.{Bool, true}
 use lib.ListN.{length}
 use Rattle.machine.specs.declared.Machine.{Machine}
 use Rattle.machine.specs.declared.Action.{Action}
-use Rattle.machine.specs.Layout.{strideOf}
 use Rattle.tape.specs.Fits.{TapeSafe}
 use Rattle.sim.specs.declared.Simulator.{Simulator}
 use Rattle.before.specs.declared.inner.look.Choice.{Choice}
-use Rattle.before.specs.Look.{choiceAt}
+use Rattle.before.specs.Look.{choiceAt, AtOk}
 use Rattle.sim.specs.Engine.{Conf, tape0, tape1, tape2, roomsFor}
 
 -- halted, never, fuel, space: the run ends here, or follows an entry
@@ -19,13 +18,8 @@ choiceOf m s p left σ = choiceAt m s p left (σ .sim .steps) (σ .sim .state) (
 
 -- ---- what a look, a step and a run may assume
 
-pub record LookOk (m : Machine) (stride : ℕ) (v : Simulator) (c0 c1 c2 : List ℕ) : Type 0 where
-  pub symbols-in : m .symbols ≤ 256
-  pub stride-is : stride ≡ strideOf m
-  pub stride-in : stride ≤ 16777216
-  pub safe0 : TapeSafe (v .t0) c0
-  pub safe1 : TapeSafe (v .t1) c1
-  pub safe2 : TapeSafe (v .t2) c2
+abbrev pub LookOk : Machine → (stride : ℕ) → Simulator → (c0 c1 c2 : List ℕ) → Type 0
+LookOk m stride v c0 c1 c2 = AtOk m stride (v .t0) (v .t1) (v .t2) c0 c1 c2
 
 pub record StepOk (v : Simulator) (c0 c1 c2 : List ℕ) (a : Action) : Type 0 where
   pub safe0 : TapeSafe (v .t0) c0

@@ -4,7 +4,7 @@ use mathlib.Core.Bool.{Bool, true, false}
 use mathlib.Core.List.{List}
 use Prim.Native.Nat.{ℕ, _+_, _-_, _≤_}
 use native.Mathlib.Omega.{arith}
-use borrow.Author.Tests.{ne-eqb, eqb-true, eqb-false}
+use borrow.Author.Tests.{eqb-true, eqb-false}
 use lib.Dec.{eqb}
 use Rattle.laws.specs.Choice.{pick, both}
 use Rattle.laws.specs.Tests.{by-test}
@@ -14,21 +14,20 @@ use Rattle.symbol.specs.declared.Dir.the-variants.{L, R, N}
 use Rattle.machine.specs.declared.Machine.{Machine}
 use Rattle.machine.specs.declared.Action.{Action}
 use Rattle.machine.specs.declared.Entry.the-variants.{Defined}
-use Rattle.machine.specs.Layout.{strideOf, entryAt}
-use Rattle.tape.specs.Moves.{Held, readOf, leaves, roomFor}
+use Rattle.machine.specs.Layout.{strideOf}
+use Rattle.tape.specs.Moves.{Held, roomFor}
 use Rattle.before.specs.declared.inner.look.Look.the-variants.{Go}
-use Rattle.before.specs.Look.{stays, staysAll, judgeOf, loopOf, entryOf}
+use Rattle.before.specs.Look.{stays, staysAll, judgeOf, entryOf}
 use Rattle.before.specs.LookCases.{look-judged}
 use Rattle.several.specs.declared.inner.Wide.{Wide}
 use Rattle.several.specs.Several.{Moving, SafeAll, Beat, Walk, here, more, Carried}
 use Rattle.sim.specs.declared.Simulator.{Simulator}
 use Rattle.sim.specs.declared.StopRule.{StopRule}
-use Rattle.sim.specs.Engine.{Task, task, Conf, conf, tape0, tape1, tape2, lookWith, lookOf, roomsFor, roomyOf, stepOf, matches, runOf}
+use Rattle.sim.specs.Engine.{Task, task, Conf, conf, tape0, tape1, tape2, lookWith, lookOf, roomsFor, roomyOf, stepOf, runOf}
 use Rattle.sim.specs.EngineCases.{stepped, run-next}
 use Rattle.sim.specs.Turns.{RunOk}
-use Rattle.sim.specs.Hot.{Misses}
 use Rattle.sim.specs.HotFacts.{go-leaves, go-moves}
-use Rattle.sim.specs.Runs.{wideOf, intoWide, Sped}
+use Rattle.sim.specs.Runs.{Misses, wideOf, intoWide, Sped}
 
 -- ---- no proved loop
 

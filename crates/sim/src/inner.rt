@@ -12,8 +12,7 @@ ghost use mathlib.Core.Path.{_≡_};
 ghost use Prim.Native.Nat.{_+_};
 ghost use Rattle.sim.specs.Engine.{conf, matches, stepOf};
 ghost use Rattle.machine.specs.declared.Checked.the-variants.{Accepted};
-ghost use Rattle.sim.specs.Operations.{given, runCheck};
-ghost use Rattle.sim.specs.Runs.{answerOf};
+ghost use Rattle.sim.specs.Operations.{given, answerOf, runCheck};
 ghost use Rattle.sim.specs.Turns.{choiceOf, LookOk, StepOk};
 
 // Whether a run's stop rule has this state.

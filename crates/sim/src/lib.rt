@@ -9,8 +9,7 @@ use symbol::State;
 use tape::Tape;
 ghost use mathlib.Core.Path.{_≡_};
 ghost use Rattle.sim.specs.Engine.{conf, statusOf};
-ghost use Rattle.sim.specs.Operations.{given, runAnswer, fastAnswer, stepGiven, stepAnswer, made, newAnswer};
-ghost use Rattle.sim.specs.Runs.{stepAnswerOf};
+ghost use Rattle.sim.specs.Operations.{given, runAnswer, fastAnswer, stepGiven, stepAnswer, stepAnswerOf, made, newAnswer};
 
 mod checks;
 mod fast;

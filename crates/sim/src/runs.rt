@@ -19,10 +19,9 @@ ghost use mathlib.Core.Bool.{false};
 ghost use Prim.Native.Nat.{_+_, _-_, _≤_, _<_};
 ghost use Rattle.outcome.specs.declared.Outcome.the-variants.{Stopped};
 ghost use Rattle.sim.specs.Engine.{task, conf, end, runOf};
-ghost use Rattle.sim.specs.Operations.{given};
+ghost use Rattle.sim.specs.Operations.{given, answerOf};
 ghost use Rattle.sim.specs.Turns.{RunOk};
-ghost use Rattle.sim.specs.Hot.{Misses, into};
-ghost use Rattle.sim.specs.Runs.{hotOf, MayIf, SprintOk, WordsIf, SpedOne, wideOf, intoWide, Sped, Cleared, answerOf};
+ghost use Rattle.sim.specs.Runs.{Misses, WordsIf, Cleared, hotOf, into, MayIf, SprintOk, SpedOne, wideOf, intoWide, Sped};
 
 // An engine after a run, and how the run ended.
 pub struct Ran {
@@ -108,7 +107,7 @@ impl Simulator {
     // The value after a burst, which had `left` fuel.
     fn after(self, at: Hot, left: u64) -> Ahead
         requires { ⌜ (self .steps + left ≤ 4611686018427387904) × (at .left ≤ left) × (at .state < 65536) ⌝ }
-        ensures { λ r. ⌜ (r .sim ≡ into self (self .t0 .len) (self .steps + (left - at .left)) at) × (r .left ≡ at .left) ⌝ }
+        ensures { λ r. ⌜ (r .sim ≡ into self (self .steps + (left - at .left)) at) × (r .left ≡ at .left) ⌝ }
     {
         let t0 = self.t0;
         let t1 = self.t1;

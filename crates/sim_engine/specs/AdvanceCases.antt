@@ -11,9 +11,8 @@ use Rattle.sim.specs.declared.Simulator.{Simulator}
 use Rattle.sim.specs.declared.StopRule.the-variants as Rule
 use Rattle.sim.specs.declared.Answer.{Answer}
 use Rattle.sim.specs.Engine.{Conf, conf}
-use Rattle.sim.specs.Operations.{runCheck, Given, given}
+use Rattle.sim.specs.Operations.{runCheck, Given, given, answerOf}
 use Rattle.sim.specs.OperationCases.{run-says}
-use Rattle.sim.specs.Runs.{answerOf}
 use Rattle.times.specs.Kind.{verdictOr, spent}
 use Rattle.times.specs.VerdictFacts.{spent-verdict, other-verdict}
 use Rattle.sim_engine.specs.Advance.{ranFrom, advanceOf}

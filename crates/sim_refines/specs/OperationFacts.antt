@@ -41,8 +41,7 @@ use Rattle.before.specs.declared.inner.look.Look.{Look}
 use Rattle.before.specs.declared.inner.look.Look.the-variants.{Never}
 use Rattle.sim.specs.Engine.{task, Conf, conf, tape0, tape1, tape2, End, end, onLook, lookWith, roomyOf, stepOf, runOf, Once, once, onceOf}
 use Rattle.sim.specs.Operations.{has1, has2, ifHas, bareSim, bareOf, handBack, backOf, simFits, runCheck, wordsRight, fastCheck, Given, given, ranBack, runOn, runAnswer, fastAnswer, StepGiven, stepGiven, stepBack, stepOn, stepAnswer, freshCheck, blankTape, made, madeWith, freshOn, Made, newAnswer}
-use Rattle.sim.specs.FastCases.{fast-right}
-use Rattle.sim.specs.OperationCases.{Passed, run-says, FreshPassed, fresh-says}
+use Rattle.sim.specs.OperationCases.{Passed, run-says, fast-right, FreshPassed, fresh-says}
 use Rattle.sim_refines.specs.Meaning.{tapeOf, has, tapeIf, configOf, FitsIf, EngineFits}
 use Rattle.sim_refines.specs.Statement.{Refines, Kept, Sees, no-entry, loops, goes-on}
 use Rattle.sim_refines.specs.StepFacts.{step-config, step-keeps}
