@@ -1,4 +1,4 @@
-// Steps of the plain engine's operations, which ask that numbers lie inside their bounds.
+// The burst on several tapes and its parts, which ask that numbers lie inside their bounds.
 use machine::inner;
 use tape::Tape;
 ghost use mathlib.Core.Path.{_≡_};
