@@ -22,7 +22,7 @@ use Rattle.tape.specs.Moves.{blanked, laid, movedUp, freshOf, readOf, leaves, r
 use Rattle.tape.specs.Fits.{tapeFits}
 use Rattle.tape.specs.Questions.{blankBeyond}
 use Rattle.sim.specs.declared.Answer.the-variants.{Done, Refused}
-use Rattle.sim.specs.Engine.{stays, staysAll, loopOf, judgeOf, lookOn, entryOf, lookWith, roomsFor, stepOf, matches, runWith, runOf}
+use Rattle.sim.specs.Engine.{stays, staysAll, loopOf, judgeOf, lookOn, entryOf, lookWith, roomsOf, stepOf, matches, runWith, runOf}
 use Rattle.sim.specs.Operations.{bareSim, handBack, sizesFit, simFits, valueCheck, fuelFits, fuelCheck, runCheck, runAnswer, freshSizes, freshCheck, newAnswer}
 use Rattle.stacks.specs.Sides.{symbolUnder, aheadOf, grownOf, pushOf, lacks, takeOf, runFits, runsFit, sumOf}
 use Rattle.rle.specs.Engine as Chain
@@ -84,7 +84,7 @@ pub data AllRight : List Case → Type 1 where
   _also_ : {A : Type 0} {a b : A} {rest : List Case} → a ≡ b → AllRight rest → AllRight (case a b ∷ rest)
 
 pub starred-cases : AllRight starred
-unfolding runAnswer runCheck fuelCheck valueCheck tableCheck sizeCheck entriesCheck entryOk definedOk allIn firstFail pick both sizesFit simFits tapeFits fuelFits newAnswer freshCheck freshSizes wordCheck symbolsCheck freshOf blanked laid fillFrom bareSim handBack runOf runWith lookWith lookOn entryOf entryAt actionAt judgeOf loopOf staysAll stays blankBeyond readOf roomsFor roomFor leaves extra stepOf actOf moveOf grownBy movedUp shiftOf matches Chains.runAnswer Chains.newAnswer Chains.freshCheck Chains.freshSizes Chains.runsOf Chains.laidOf Fits.runCheck Fits.engineCheck Fits.valueCheck Fits.placesFit Fits.chainFits Fits.countsFit Fits.headFits Fits.reachFits Fits.sideFits Chain.runOf Chain.runWithin Chain.planOf Chain.planOn Chain.neverOf Chain.fuelOf Chain.spaceOf Chain.fullFor Chain.repeatsOf Chain.chainFor Chain.sureOf Chain.patternOf Chain.leapTo Chain.carryOf symbolUnder aheadOf grownOf pushOf lacks takeOf runFits runsFit sumOf
+unfolding runAnswer runCheck fuelCheck valueCheck tableCheck sizeCheck entriesCheck entryOk definedOk allIn firstFail pick both sizesFit simFits tapeFits fuelFits newAnswer freshCheck freshSizes wordCheck symbolsCheck freshOf blanked laid fillFrom bareSim handBack runOf runWith lookWith lookOn entryOf entryAt actionAt judgeOf loopOf staysAll stays blankBeyond readOf roomsOf roomFor leaves extra stepOf actOf moveOf grownBy movedUp shiftOf matches Chains.runAnswer Chains.newAnswer Chains.freshCheck Chains.freshSizes Chains.runsOf Chains.laidOf Fits.runCheck Fits.engineCheck Fits.valueCheck Fits.placesFit Fits.chainFits Fits.countsFit Fits.headFits Fits.reachFits Fits.sideFits Chain.runOf Chain.runWithin Chain.planOf Chain.planOn Chain.neverOf Chain.fuelOf Chain.spaceOf Chain.fullFor Chain.repeatsOf Chain.chainFor Chain.sureOf Chain.patternOf Chain.leapTo Chain.carryOf symbolUnder aheadOf grownOf pushOf lacks takeOf runFits runsFit sumOf
 starred-cases =
     refl also refl also refl also refl also refl also refl also refl also refl also refl also refl also refl also
     refl also refl also refl also refl also refl also refl also refl also refl also refl also refl also refl also done

@@ -27,7 +27,7 @@ use Rattle.tape.specs.Growth.{extra}
 use Rattle.tape.specs.Moves.{Held, held, noTape, leaves, roomFor}
 use Rattle.before.specs.declared.inner.look.Look.{Look}
 use Rattle.before.specs.declared.inner.look.Look.the-variants.{Halt, Never, Go}
-use Rattle.sim.specs.Engine.{Task, Conf, conf, End, onLook, haltedEnd, neverEnd, fullEnd, stoppedEnd, matches, lookWith, roomsFor, roomyOf, stepOf, runWith, runOf, Once, once, onceOf}
+use Rattle.sim.specs.Engine.{Task, Conf, conf, End, onLook, haltedEnd, neverEnd, fullEnd, stoppedEnd, matches, lookWith, roomsOf, roomyOf, stepOf, runWith, runOf, Once, once, onceOf}
 use Rattle.sim.specs.Operations.{bareSim, bareOf, handBack, backOf}
 use Rattle.sim_refines.specs.Meaning.{has, FitsIf, EngineFits}
 use Rattle.sim_refines.specs.Statement.{tableIn, heldBy, Judged, Sees, no-entry, loops, goes-on}
@@ -102,7 +102,7 @@ both-first a b e = rw e
 
 module _ (m : Machine) (σ : Conf) (a : Action) where
   pub lacks-some : EngineFits m (bareOf m σ) → ActionOf m a → roomyOf (bareOf m σ) a ≡ false → OnSomeTape m σ a
-  unfolding roomsFor bareSim
+  unfolding roomsOf bareSim
   lacks-some f g e =
       by-test (roomFor (σ .sim .t0) (length (σ .c0)) (a .dir0))
       (λ r0. by-test (roomFor (pick (has m 1) (σ .sim .t1) noTape) (length (σ .c1)) (a .dir1))
@@ -113,7 +113,7 @@ module _ (m : Machine) (σ : Conf) (a : Action) where
       (λ r0. on0 (tape-full (held (σ .sim .t0) (σ .c0)) (a .dir0) (f .fits0 .head-in) r0))
 
   pub some-lacks : OnSomeTape m σ a → roomyOf (bareOf m σ) a ≡ false
-  unfolding roomsFor bareSim
+  unfolding roomsOf bareSim
   some-lacks (on0 f) = both-first _ _ (full-tape (held (σ .sim .t0) (σ .c0)) (a .dir0) f)
   some-lacks (on1 l f) = both-last _ _ (both-first _ _ (if-full (has m 1) (σ .sim .t1) (σ .c1) (a .dir1) (lt-ltb 1 (m .tapes) l) f))
   some-lacks (on2 l f) = both-last _ _ (both-last _ _ (if-full (has m 2) (σ .sim .t2) (σ .c2) (a .dir2) (lt-ltb 2 (m .tapes) l) f))

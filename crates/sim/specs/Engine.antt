@@ -5,7 +5,7 @@ use mathlib.Core.List.{List}
 use Prim.Native.Nat.{ℕ, _+_}
 use lib.Dec.{eqb}
 use lib.ListN.{length}
-use Rattle.laws.specs.Choice.{pick, both}
+use Rattle.laws.specs.Choice.{pick}
 use Rattle.symbol.specs.declared.State.{State}
 use Rattle.outcome.specs.declared.NonHaltProof.{NonHaltProof}
 use Rattle.outcome.specs.declared.Outcome.{Outcome}
@@ -14,14 +14,14 @@ use Rattle.outcome.specs.declared.Status.{Status}
 use Rattle.outcome.specs.declared.Status.the-variants as Step
 use Rattle.machine.specs.declared.Machine.{Machine}
 use Rattle.machine.specs.declared.Action.{Action}
-use Rattle.tape.specs.Moves.{Held, held, roomFor, actOf}
+use Rattle.tape.specs.Moves.{Held, held, actOf}
 use Rattle.sim.specs.declared.Simulator.{Simulator}
 use Rattle.sim.specs.declared.StopRule.{StopRule}
 use Rattle.sim.specs.declared.StopRule.the-variants as Rule
 use Rattle.before.specs.declared.inner.look.Look.{Look}
 use Rattle.before.specs.Look.{lookAt}
 pub use Rattle.before.specs.Look.{onLook}
-unfoldable pub use Rattle.before.specs.Look.{stays, staysAll, loopOf, judgeOf, lookOn, entryOf}
+unfoldable pub use Rattle.before.specs.Look.{stays, staysAll, loopOf, judgeOf, lookOn, entryOf, roomsOf}
 pub use Rattle.course.specs.Run.{Steps}
 unfoldable pub use Rattle.course.specs.Run.{runWith}
 
@@ -67,12 +67,8 @@ lookOf k σ = lookWith (k .machine) (k .table) (k .proves) σ
 
 -- ---- space, decided for all tapes before anything is written
 
-unfoldable pub roomsFor : Simulator → (n0 n1 n2 : ℕ) → Action → Bool
-roomsFor v n0 n1 n2 a =
-    both (roomFor (v .t0) n0 (a .dir0)) (both (roomFor (v .t1) n1 (a .dir1)) (roomFor (v .t2) n2 (a .dir2)))
-
 abbrev pub roomyOf : Conf → Action → Bool
-roomyOf σ a = roomsFor (σ .sim) (length (σ .c0)) (length (σ .c1)) (length (σ .c2)) a
+roomyOf σ a = roomsOf (σ .sim .t0) (σ .sim .t1) (σ .sim .t2) (length (σ .c0)) (length (σ .c1)) (length (σ .c2)) a
 
 -- ---- a step
 

@@ -18,7 +18,7 @@ pub use Rattle.before.specs.LookCases.{entry-is}
 use Rattle.before.specs.declared.inner.look.Look.{Look}
 use Rattle.course.specs.RunCases as Course
 use Rattle.before.specs.declared.inner.look.Look.the-variants.{Halt, Never, Go}
-use Rattle.sim.specs.Engine.{Task, Conf, conf, lookWith, lookOf, roomsFor, roomyOf, stepOf, matches, End, end, haltedEnd, neverEnd, fuelEnd, fullEnd, stoppedEnd, task, stepsOf, runWith, runOf, Once, once, onceOf, statusOf}
+use Rattle.sim.specs.Engine.{Task, Conf, conf, lookWith, lookOf, roomsOf, roomyOf, stepOf, matches, End, end, haltedEnd, neverEnd, fuelEnd, fullEnd, stoppedEnd, task, stepsOf, runWith, runOf, Once, once, onceOf, statusOf}
 
 -- ---- the step
 
@@ -30,9 +30,9 @@ unfolding stepOf
 stepped v c0 c1 c2 d0 d1 d2 a u0 u1 u2 p0 p1 p2 =
     λ i. conf (record { state = a .next; steps = v .steps + 1; t0 = p0 i .tape; t1 = p1 i .tape; t2 = p2 i .tape }) (p0 i .cells) (p1 i .cells) (p2 i .cells)
 
-pub rooms-each : (v : Simulator) (n0 n1 n2 : ℕ) (a : Action) → roomsFor v n0 n1 n2 a ≡ true
+pub rooms-each : (v : Simulator) (n0 n1 n2 : ℕ) (a : Action) → roomsOf (v .t0) (v .t1) (v .t2) n0 n1 n2 a ≡ true
     → (roomFor (v .t0) n0 (a .dir0) ≡ true) × (roomFor (v .t1) n1 (a .dir1) ≡ true) × (roomFor (v .t2) n2 (a .dir2) ≡ true)
-unfolding roomsFor
+unfolding roomsOf
 rooms-each v n0 n1 n2 a r =
     let p = both-split r in
     let q = both-split (p .1) in

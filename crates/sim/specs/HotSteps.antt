@@ -22,7 +22,7 @@ use Rattle.before.specs.declared.inner.look.Look.the-variants.{Go}
 use Rattle.before.specs.LookCases.{judge-off, look-judged}
 use Rattle.sim.specs.declared.Simulator.{Simulator}
 use Rattle.sim.specs.declared.StopRule.{StopRule}
-use Rattle.sim.specs.Engine.{Task, task, Conf, conf, tape0, tape1, tape2, staysAll, judgeOf, lookWith, lookOf, roomsFor, roomyOf, stepOf, runOf}
+use Rattle.sim.specs.Engine.{Task, task, Conf, conf, tape0, tape1, tape2, staysAll, judgeOf, lookWith, lookOf, roomsOf, roomyOf, stepOf, runOf}
 use Rattle.sim.specs.EngineCases.{stepped, run-next}
 use Rattle.sim.specs.Runs.{Misses, into, May}
 use Rattle.sim.specs.HotFacts.{not-blank-left, not-blank-right, beyond-none, go-leaves, go-reads, go-sees, moves-left, moves-right, writes-other, number-left, number-right, number-none, reads-there, reads-none, entry-of-one}
@@ -116,7 +116,7 @@ module _ (Known : List ℕ → Type 0) (m : Machine) (s : List ℕ) (known : Kno
         (reads-there (eng .t0) c (st .ok .head-in)) (reads-none (v .t1) c1 (may .none1)) (reads-none (v .t2) c2 (may .none2)) a (Go a) (judged (st .calm)) (says .is))
 
     roomy : roomyOf σ a ≡ true
-    unfolding roomsFor roomFor leaves pick both
+    unfolding roomsOf roomFor leaves pick both
     roomy = simp (goes .inside, says .still1, says .still2)
 
     step-is : conf moved (set c (x .head) w) c1 c2 ≡ stepOf σ a

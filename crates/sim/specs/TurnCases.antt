@@ -18,9 +18,9 @@ use Rattle.before.specs.declared.inner.look.Look.{Look}
 use Rattle.before.specs.declared.inner.look.Look.the-variants as Look
 use Rattle.before.specs.declared.inner.look.Choice.{Choice}
 use Rattle.before.specs.declared.inner.look.Choice.the-variants.{Stop, Go}
-use Rattle.before.specs.Look.{roomsOf, goOf}
+use Rattle.before.specs.Look.{goOf}
 use Rattle.before.specs.LookCases.{go-fuel, go-on, go-full, choice-halt, choice-never, choice-go}
-use Rattle.sim.specs.Engine.{Task, Conf, conf, tape0, tape1, tape2, lookWith, lookOf, roomsFor, roomyOf, stepOf, matches, End, end, runOf}
+use Rattle.sim.specs.Engine.{Task, Conf, conf, tape0, tape1, tape2, lookWith, lookOf, roomyOf, stepOf, matches, End, end, runOf}
 use Rattle.sim.specs.Turns.{choiceOf, LookOk, StepOk, RunOk}
 use Rattle.sim.specs.EngineCases.{run-halt, run-never, run-fuel, run-full, run-last, run-next}
 
@@ -34,7 +34,7 @@ abbrev Here : (k : Task) (f : ℕ) (σ : Conf) → Type 0
 Here k f σ = Chosen k f σ (choiceOf (k .machine) (k .table) (k .proves) f σ)
 
 pub chosen : (k : Task) (f : ℕ) (σ : Conf) → Here k f σ
-unfolding lookWith roomsFor roomsOf
+unfolding lookWith
 chosen k f σ = look (lookOf k σ) refl
   where
     made : (a : Action) (x : Choice) (r : Bool) → lookOf k σ ≡ Look.Go a → r ≡ roomyOf σ a → x ≡ goOf a f (σ .sim .steps) r → choiceOf (k .machine) (k .table) (k .proves) f σ ≡ x

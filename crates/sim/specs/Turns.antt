@@ -9,8 +9,8 @@ use Rattle.machine.specs.declared.Action.{Action}
 use Rattle.tape.specs.Fits.{TapeSafe}
 use Rattle.sim.specs.declared.Simulator.{Simulator}
 use Rattle.before.specs.declared.inner.look.Choice.{Choice}
-use Rattle.before.specs.Look.{choiceAt, AtOk}
-use Rattle.sim.specs.Engine.{Conf, tape0, tape1, tape2, roomsFor}
+use Rattle.before.specs.Look.{roomsOf, choiceAt, AtOk}
+use Rattle.sim.specs.Engine.{Conf, tape0, tape1, tape2}
 
 -- halted, never, fuel, space: the run ends here, or follows an entry
 abbrev pub choiceOf : Machine → List ℕ → (proves : Bool) → (left : ℕ) → Conf → Choice
@@ -26,7 +26,7 @@ pub record StepOk (v : Simulator) (c0 c1 c2 : List ℕ) (a : Action) : Type 0 wh
   pub safe1 : TapeSafe (v .t1) c1
   pub safe2 : TapeSafe (v .t2) c2
   pub steps-in : v .steps < 9223372036854775808
-  pub rooms : roomsFor v (length c0) (length c1) (length c2) a ≡ true
+  pub rooms : roomsOf (v .t0) (v .t1) (v .t2) (length c0) (length c1) (length c2) a ≡ true
 
 pub record RunOk (m : Machine) (stride : ℕ) (v : Simulator) (c0 c1 c2 : List ℕ) (fuel : ℕ) : Type 0 where
   pub ok : LookOk m stride v c0 c1 c2

@@ -23,7 +23,7 @@ use Rattle.several.specs.declared.inner.Wide.{Wide}
 use Rattle.several.specs.Several.{Moving, SafeAll, Beat, Walk, here, more, Carried}
 use Rattle.sim.specs.declared.Simulator.{Simulator}
 use Rattle.sim.specs.declared.StopRule.{StopRule}
-use Rattle.sim.specs.Engine.{Task, task, Conf, conf, tape0, tape1, tape2, lookWith, lookOf, roomsFor, roomyOf, stepOf, runOf}
+use Rattle.sim.specs.Engine.{Task, task, Conf, conf, tape0, tape1, tape2, lookWith, lookOf, roomsOf, roomyOf, stepOf, runOf}
 use Rattle.sim.specs.EngineCases.{stepped, run-next}
 use Rattle.sim.specs.Turns.{RunOk}
 use Rattle.sim.specs.HotFacts.{go-leaves, go-moves}
@@ -69,7 +69,7 @@ module _ (m : Machine) (s : List ℕ) (p : Bool) (rule : StopRule) (stop stride 
         (b .act) (Go (b .act)) (judged p (m .tapes) _ (b .act) _ _ _ _ several (b .calm)) refl)
 
     roomy : roomyOf σ (b .act) ≡ true
-    unfolding roomsFor roomFor pick both
+    unfolding roomsOf roomFor pick both
     roomy = simp (b .inside0, b .inside1, b .inside2)
 
     step-is : conf (intoWide (steps + 1) y) d0 d1 d2 ≡ stepOf σ (b .act)

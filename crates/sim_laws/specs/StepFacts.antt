@@ -19,7 +19,7 @@ use Rattle.turing.specs.Tables.{tableOf, TableOf}
 use Rattle.turing.specs.RunFacts.{not-defined, step-act, step-halted}
 use Rattle.tape.specs.declared.Tape.{Tape}
 use Rattle.tape.specs.Moves.{held, noTape, roomFor}
-use Rattle.sim.specs.Engine.{Conf, tape0, tape1, tape2, roomsFor, roomyOf, stepOf}
+use Rattle.sim.specs.Engine.{Conf, tape0, tape1, tape2, roomsOf, roomyOf, stepOf}
 use Rattle.sim.specs.Operations.{bareSim, bareOf}
 use Rattle.sim_refines.specs.Meaning.{has, configOf, EngineFits}
 use Rattle.sim_refines.specs.StepFacts.{step-config}
@@ -55,7 +55,7 @@ module _ (m : Machine) (s : List ℕ) (table : TableOf m (tableOf m s)) (σ : Co
   room2 = roomFor (σ .sim .t2) (length (σ .c2)) (a .dir2)
 
   rooms : roomyOf σ a ≡ true → (room0 ≡ true) × (room1 ≡ true) × (room2 ≡ true)
-  unfolding roomsFor
+  unfolding roomsOf
   rooms r = let p = both-split r in (p .0, both-split (p .1) .0, both-split (p .1) .1)
 
   pub step-mean : roomyOf σ a ≡ true → meanOf m (stepOf σ a) ≡ nextOf m s (meanOf m σ)
@@ -81,7 +81,7 @@ module _ (m : Machine) (s : List ℕ) (table : TableOf m (tableOf m s)) (σ : Co
   step-room r (b, e, p) = none-passes r (subst (SomePasses (meanOf m σ)) (one-entry (entry (tableOf m s) (configOf m σ)) b a e reads) p)
 
   pub step-full : roomyOf σ a ≡ false → NoRoom m s (meanOf m σ)
-  unfolding meanOf roomsFor
+  unfolding meanOf roomsOf
   step-full r = (
     a,
     reads,

@@ -7,7 +7,7 @@ use native.Mathlib.Numerals.{add-one}
 use native.Mathlib.Omega.{arith}
 use borrow.Author.Tests.{ltb-false, le-ltb}
 use lib.ListN.{length}
-use Rattle.laws.specs.Tests.{clash, both-split}
+use Rattle.laws.specs.Tests.{clash}
 use Rattle.symbol.specs.declared.Dir.{Dir}
 use Rattle.symbol.specs.declared.Dir.the-variants.{N}
 use Rattle.machine.specs.declared.Machine.{Machine}
@@ -19,7 +19,8 @@ use Rattle.turing.specs.Tables.{tableOf, TableOf}
 use Rattle.turing.specs.NeverFacts.{Bare, blank-stays}
 use Rattle.tape.specs.Moves.{Held, held, noTape, readOf, roomFor, actOf}
 use Rattle.tape.specs.MoveFacts.{none-reads, none-acts, act-fits, length-act}
-use Rattle.sim.specs.Engine.{Conf, tape0, tape1, tape2, entryOf, roomsFor, roomyOf, stepOf}
+use Rattle.sim.specs.Engine.{Conf, tape0, tape1, tape2, entryOf, roomyOf, stepOf}
+use Rattle.sim.specs.EngineCases.{rooms-each}
 use Rattle.sim_refines.specs.Meaning.{has, tapeIf, configOf, FitsIf, EngineFits}
 use Rattle.sim_refines.specs.Statement.{Kept}
 use Rattle.sim_refines.specs.TapeFacts.{read-tape, act-tape}
@@ -63,18 +64,14 @@ module _ (m : Machine) (s : List ℕ) (σ : Conf) (f : EngineFits m σ) where
     of-machine : ActionOf m a
     of-machine = table _ _ _ _ a reads
 
-    rooms : (roomFor (σ .sim .t0) (length (σ .c0)) (a .dir0) ≡ true) × (roomFor (σ .sim .t1) (length (σ .c1)) (a .dir1) ≡ true) × (roomFor (σ .sim .t2) (length (σ .c2)) (a .dir2) ≡ true)
-    unfolding roomsFor
-    rooms = let p = both-split roomy in (p .0, both-split (p .1) .0, both-split (p .1) .1)
-
     acted0 : Acted true (m .symbols) (tape0 σ) (a .write0 .0) (a .dir0)
-    acted0 = act-if true (m .symbols) (tape0 σ) _ _ (f .fits0) (of-machine .write0-in) (rooms .0) (λ e. absurd (clash refl e))
+    acted0 = act-if true (m .symbols) (tape0 σ) _ _ (f .fits0) (of-machine .write0-in) (rooms-each (σ .sim) _ _ _ a roomy .0) (λ e. absurd (clash refl e))
 
     acted1 : Acted (has m 1) (m .symbols) (tape1 σ) (a .write1 .0) (a .dir1)
-    acted1 = act-if (has m 1) (m .symbols) (tape1 σ) _ _ (f .fits1) (of-machine .write1-in) (rooms .1) (λ e. of-machine .lacks1 (omega (arith, ltb-false 1 (m .tapes) e)))
+    acted1 = act-if (has m 1) (m .symbols) (tape1 σ) _ _ (f .fits1) (of-machine .write1-in) (rooms-each (σ .sim) _ _ _ a roomy .1) (λ e. of-machine .lacks1 (omega (arith, ltb-false 1 (m .tapes) e)))
 
     acted2 : Acted (has m 2) (m .symbols) (tape2 σ) (a .write2 .0) (a .dir2)
-    acted2 = act-if (has m 2) (m .symbols) (tape2 σ) _ _ (f .fits2) (of-machine .write2-in) (rooms .2) (λ e. of-machine .lacks2 (omega (arith, ltb-false 2 (m .tapes) e)))
+    acted2 = act-if (has m 2) (m .symbols) (tape2 σ) _ _ (f .fits2) (of-machine .write2-in) (rooms-each (σ .sim) _ _ _ a roomy .2) (λ e. of-machine .lacks2 (omega (arith, ltb-false 2 (m .tapes) e)))
 
     -- a step of the engine is a step of the table machine
     pub step-config : configOf m (stepOf σ a) ≡ act (configOf m σ) a

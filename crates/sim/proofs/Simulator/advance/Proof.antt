@@ -5,13 +5,13 @@ use Rattle.sim.proofs.Simulator.advance.Statement.{statement}
 use Rattle.sim.proofs.Simulator.advance.Tie as tie
 
 act-requires : tie.Need-act-requires
-act-requires c κs = (c .before .before .before .before .before .before .before .before .pre .safe0 .ok, rooms-each _ _ _ _ _ (c .before .before .before .before .before .before .before .before .pre .rooms) .0)
+act-requires c κs = (c .before .before .before .before .before .before .before .before .pre .safe0 .ok, rooms-each (c .before .before .before .before .before .before .before .before .args .self) _ _ _ _ (c .before .before .before .before .before .before .before .before .pre .rooms) .0)
 
 act-requires-2 : tie.Need-act-requires-2
-act-requires-2 c κs = (c .before .before .before .before .before .before .before .before .before .before .before .before .pre .safe1 .ok, rooms-each _ _ _ _ _ (c .before .before .before .before .before .before .before .before .before .before .before .before .pre .rooms) .1)
+act-requires-2 c κs = (c .before .before .before .before .before .before .before .before .before .before .before .before .pre .safe1 .ok, rooms-each (c .before .before .before .before .before .before .before .before .before .before .before .before .args .self) _ _ _ _ (c .before .before .before .before .before .before .before .before .before .before .before .before .pre .rooms) .1)
 
 act-requires-3 : tie.Need-act-requires-3
-act-requires-3 c κs = (c .before .before .before .before .before .before .before .before .before .before .before .before .before .before .before .before .pre .safe2 .ok, rooms-each _ _ _ _ _ (c .before .before .before .before .before .before .before .before .before .before .before .before .before .before .before .before .pre .rooms) .2)
+act-requires-3 c κs = (c .before .before .before .before .before .before .before .before .before .before .before .before .before .before .before .before .pre .safe2 .ok, rooms-each (c .before .before .before .before .before .before .before .before .before .before .before .before .before .before .before .before .args .self) _ _ _ _ (c .before .before .before .before .before .before .before .before .before .before .before .before .before .before .before .before .pre .rooms) .2)
 
 add-t22 : tie.Need-add-t22
 add-t22 c = omega (arith, c .before .before .before .before .before .before .before .before .before .before .before .before .before .before .before .before .before .before .before .before .pre .steps-in)
