@@ -32,7 +32,8 @@ use Rattle.sim_refines.specs.Refinement.{plain-refines}
 use Rattle.sim_refines.specs.RunFacts.{run-twice}
 use Rattle.sim_refines.specs.Operations as Claims
 use Rattle.sim_refines.specs.Operations.{RunHolds, StepHolds}
-use Rattle.sim_refines.specs.OperationFacts.{config-bare, bare-back, bare-fits, run-holds, step-holds}
+use Rattle.sim_refines.specs.BareFacts.{config-bare, bare-back, bare-fits}
+use Rattle.sim_refines.specs.OperationFacts.{run-holds, step-holds}
 use Rattle.demands.specs.ChainFacts.{not-full-verdict}
 use Rattle.demands.specs.FirstClaims.{ofAnswer, ofStep}
 use Rattle.demands.specs.FirstSpace.{GoesOn, EndsFull, PlainFull}

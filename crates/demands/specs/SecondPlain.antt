@@ -26,7 +26,8 @@ use Rattle.sim.specs.Operations.{simFits, wordsRight, given, runAnswer, fastAns
 use Rattle.sim_refines.specs.Meaning.{tapeOf, configOf}
 use Rattle.sim_refines.specs.Counts.{Counts}
 use Rattle.sim_refines.specs.Operations.{HandedBack, RunHolds, StepHolds}
-use Rattle.sim_refines.specs.OperationFacts.{run-holds, run-never-halts, fast-agrees, fast-done, step-holds, step-handed-back, new-holds, new-fits}
+use Rattle.sim_refines.specs.FreshFacts.{new-holds, new-fits}
+use Rattle.sim_refines.specs.OperationFacts.{run-holds, run-never-halts, fast-agrees, fast-done, step-holds, step-handed-back}
 use Rattle.sim_refines.specs.QuestionFacts.{find-is, non-blank-is, count-is}
 
 pub record PlainEngine : Type 0 where

@@ -22,7 +22,7 @@ use Rattle.sim_refines.specs.Statement.{heldBy, Sees, no-entry, loops, goes-on}
 use Rattle.sim_refines.specs.StepFacts.{step-keeps}
 use Rattle.sim_refines.specs.LookFacts.{look-sees}
 use Rattle.sim_refines.specs.RunFacts.{verdict-exact}
-use Rattle.sim_refines.specs.OperationFacts.{bare-fits, bare-back}
+use Rattle.sim_refines.specs.BareFacts.{bare-fits, bare-back}
 use Rattle.timeline.specs.Laws.{Advance}
 use Rattle.timeline.specs.Legs.{Steps, steps-none, steps-one, steps-halted, advance-after, advance-done, advance-full}
 use Rattle.timeline.specs.TableRun.{machine}

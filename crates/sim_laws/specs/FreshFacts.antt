@@ -20,7 +20,7 @@ use Rattle.sim.specs.declared.Fresh.the-variants as New
 use Rattle.sim.specs.Engine.{conf}
 use Rattle.sim.specs.Operations.{has1, has2, ifHas, cellsMost, blankTape, made, Made, newAnswer}
 use Rattle.sim.specs.OperationCases.{Passed, on-says, fresh-says}
-use Rattle.sim_refines.specs.OperationFacts.{new-accepted, new-fits}
+use Rattle.sim_refines.specs.FreshFacts.{new-accepted, new-fits}
 
 -- the sizes that a fresh engine asks for are within those that every operation asks for
 

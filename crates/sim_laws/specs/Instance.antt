@@ -14,7 +14,7 @@ use Rattle.sim.specs.Engine.{Conf, conf}
 use Rattle.sim.specs.Operations.{Made, made, newAnswer}
 use Rattle.sim.specs.OperationCases.{Passed}
 use Rattle.sim_refines.specs.Meaning.{configOf}
-use Rattle.sim_refines.specs.OperationFacts.{new-holds}
+use Rattle.sim_refines.specs.FreshFacts.{new-holds}
 use Rattle.times.specs.Timeline.{answered}
 use Rattle.timeline.specs.Parts.{lawsOf}
 use Rattle.timeline.specs.Instance.{Instance, Instances}

@@ -23,7 +23,7 @@ use Rattle.sim.specs.Engine.{Conf, tape0, tape1, tape2, roomsOf, roomyOf, stepO
 use Rattle.sim.specs.Operations.{bareSim, bareOf}
 use Rattle.sim_refines.specs.Meaning.{has, configOf, EngineFits}
 use Rattle.sim_refines.specs.StepFacts.{step-config}
-use Rattle.sim_refines.specs.OperationFacts.{config-bare}
+use Rattle.sim_refines.specs.BareFacts.{config-bare}
 use Rattle.sim_laws.specs.Family.{movedOn, extentOf, extentIf, Mean, meanOf, nextOf, SomePasses, first, second, third, NoRoom}
 use Rattle.sim_laws.specs.ExtentFacts.{extent-act, extent-room, extent-full}
 

@@ -1,38 +1,49 @@
 -- A fresh engine fits and holds the table machine's start: "the start state, heads at 0, tape 0 holding the word from 0 rightward, all else blank".
 -- Assumes nothing.
-use mathlib.Core.Path.{_≡_, refl, ap, _∙_, subst⁻¹}
+use mathlib.Core.Path.{_≡_, refl, sym, ap, _∙_, subst, subst⁻¹}
 use mathlib.Core.Bool.{Bool, true, false}
 use mathlib.Core.List.{List, []}
 use Prim.Native.Nat.{ℕ, _+_, _≤_, _<_}
 use native.Mathlib.Omega.{arith}
 use lib.ListN.{length, getD}
 use Rattle.laws.specs.Choice.{pick}
+use Rattle.laws.specs.Tests.{pick-cases}
 use Rattle.symbol.specs.Kinds.{stateOf}
 use Rattle.machine.specs.declared.Machine.{Machine}
+use Rattle.machine.specs.declared.Checked.{Checked}
+use Rattle.machine.specs.declared.Checked.the-variants.{Accepted, Refused}
+use Rattle.machine.specs.CheckFacts.{ranges}
+use Rattle.machine.specs.WordFacts.{word-says}
 use Rattle.turing.specs.TableMachine.{blankTape, start}
-use Rattle.tape.specs.Moves.{Held, held, noTape, freshOf}
+use Rattle.tape.specs.declared.Tape.{Tape}
+use Rattle.tape.specs.Moves.{held, freshOf}
 use Rattle.tape.specs.MoveFacts.{fresh-fits}
-use Rattle.sim.specs.Engine.{Conf, tape0, tape1, tape2}
+use Rattle.before.specs.Sizes as Sizes
+use Rattle.before.specs.SizesCases.{blank-room}
+use Rattle.sim.specs.declared.Simulator.{Simulator}
+use Rattle.sim.specs.declared.Fresh.the-variants as New
+use Rattle.sim.specs.Engine.{Conf, conf, tape0, tape1, tape2}
+use Rattle.sim.specs.Operations.{has1, has2, handBack, simFits, freshCheck, made, madeWith, freshOn, Made, newAnswer}
+use Rattle.sim.specs.OperationCases.{FreshPassed, fresh-says}
 use Rattle.sim_refines.specs.Meaning.{tapeOf, has, tapeIf, configOf, FitsIf, EngineFits}
 use Rattle.sim_refines.specs.TapeFacts.{fresh-tape}
+use Rattle.sim_refines.specs.BareFacts.{back-fits}
 
--- a tape without a word, which the machine has or lacks
-abbrev pub freshIf : (has : Bool) → List ℕ → Held
-freshIf b c = pick b (freshOf [] c) (held noTape c)
+-- ---- an engine on fresh tapes
 
-fresh-tape-if : (b : Bool) (c : List ℕ) → (b ≡ true → 32 ≤ length c) → tapeIf b (freshIf b c) ≡ blankTape
+fresh-tape-if : (b : Bool) (c : List ℕ) → (b ≡ true → 32 ≤ length c) → tapeIf b (Sizes.blankTape b c) ≡ blankTape
 unfolding pick
 fresh-tape-if true c room = fresh-tape [] c (omega (arith, room refl))
 fresh-tape-if false c room = refl
 
-fresh-fits-if : (k : ℕ) → 1 ≤ k → (b : Bool) (c : List ℕ) → (b ≡ true → 32 ≤ length c) → FitsIf b k (freshIf b c)
+fresh-fits-if : (k : ℕ) → 1 ≤ k → (b : Bool) (c : List ℕ) → (b ≡ true → 32 ≤ length c) → FitsIf b k (Sizes.blankTape b c)
 unfolding pick
 fresh-fits-if k l true c room = fresh-fits k [] c (omega (arith, room refl)) l (λ i h. absurd (omega arith))
 fresh-fits-if k l false c room = refl
 
 module _ (m : Machine) (w c0 c1 c2 : List ℕ) (room0 : 32 + length w ≤ length c0) (room1 : has m 1 ≡ true → 32 ≤ length c1) (room2 : has m 2 ≡ true → 32 ≤ length c2)
     (σ : Conf) (state-is : σ .sim .state ≡ stateOf (m .start)) (steps-is : σ .sim .steps ≡ 0)
-    (is0 : tape0 σ ≡ freshOf w c0) (is1 : tape1 σ ≡ freshIf (has m 1) c1) (is2 : tape2 σ ≡ freshIf (has m 2) c2) where
+    (is0 : tape0 σ ≡ freshOf w c0) (is1 : tape1 σ ≡ Sizes.blankTape (has m 1) c1) (is2 : tape2 σ ≡ Sizes.blankTape (has m 2) c2) where
   pub fresh-holds : configOf m σ ≡ start (m .start) w
   fresh-holds = λ i. record {
     state = state-is i .0;
@@ -50,3 +61,62 @@ module _ (m : Machine) (w c0 c1 c2 : List ℕ) (room0 : 32 + length w ≤ length
     fits1 = subst⁻¹ (FitsIf (has m 1) (m .symbols)) is1 (fresh-fits-if (m .symbols) l (has m 1) c1 room1);
     fits2 = subst⁻¹ (FitsIf (has m 2) (m .symbols)) is2 (fresh-fits-if (m .symbols) l (has m 2) c2 room2);
   }
+
+-- ---- what `new` gives
+
+accepted-fresh : (c : Checked) (c0 c1 c2 : List ℕ) (d : Made) (v : Simulator) (d0 d1 d2 : List ℕ) → freshOn c c0 c1 c2 d ≡ made (New.Made v) d0 d1 d2
+    → (c ≡ Accepted) × (d ≡ made (New.Made v) d0 d1 d2)
+accepted-fresh (Refused why) c0 c1 c2 d v d0 d1 d2 e =
+    let k = ap (λ (g : Made). g .answer) e in
+    let z : _≡_ {A = ℕ} 0 1 = cc in absurd (omega arith)
+accepted-fresh Accepted c0 c1 c2 d v d0 d1 d2 e = (refl, e)
+
+module _ (m : Machine) (s w c0 c1 c2 : List ℕ) (v : Simulator) (d0 d1 d2 : List ℕ) (done : newAnswer m s w c0 c1 c2 ≡ made (New.Made v) d0 d1 d2) where
+  pub new-accepted : (freshCheck m s w (length c0) (length c1) (length c2) ≡ Accepted)
+      × (madeWith m (freshOf w c0) (Sizes.blankTape (has1 m) c1) (Sizes.blankTape (has2 m) c2) ≡ made (New.Made v) d0 d1 d2)
+  unfolding newAnswer
+  new-accepted = accepted-fresh _ _ _ _ _ _ _ _ _ done
+
+  new-passed : FreshPassed m s w (length c0) (length c1) (length c2)
+  new-passed = fresh-says m s w _ _ _ (new-accepted .0)
+
+  abbrev engine : Conf
+  engine = conf v d0 d1 d2
+
+  sim-is : v ≡ record { state = stateOf (m .start); steps = 0; t0 = freshOf w c0 .tape; t1 = Sizes.blankTape (has1 m) c1 .tape; t2 = Sizes.blankTape (has2 m) c2 .tape }
+  sim-is = let k = ap (λ (g : Made). g .answer) (new-accepted .1) in cc
+
+  is0 : tape0 engine ≡ freshOf w c0
+  is0 = λ i. held (sim-is i .t0) (sym (ap (λ (x : Made). x .c0) (new-accepted .1)) i)
+
+  is1 : tape1 engine ≡ Sizes.blankTape (has m 1) c1
+  is1 = λ i. held (sim-is i .t1) (sym (ap (λ (x : Made). x .c1) (new-accepted .1)) i)
+
+  is2 : tape2 engine ≡ Sizes.blankTape (has m 2) c2
+  is2 = λ i. held (sim-is i .t2) (sym (ap (λ (x : Made). x .c2) (new-accepted .1)) i)
+
+  start-state : v .state ≡ stateOf (m .start)
+  start-state = ap (λ (u : Simulator). u .state) sim-is
+
+  start-steps : v .steps ≡ 0
+  start-steps = ap (λ (u : Simulator). u .steps) sim-is
+
+  -- it holds the start configuration, with the word on tape 0, and fits
+  pub new-holds : configOf m engine ≡ start (m .start) w
+  new-holds = fresh-holds m w c0 c1 c2 (new-passed .room0) (blank-room (has m 1) _ (new-passed .room1)) (blank-room (has m 2) _ (new-passed .room2)) engine start-state start-steps is0 is1 is2
+
+  new-engine : EngineFits m engine
+  new-engine =
+      let r = ranges m s (new-passed .table) in
+      fresh-engine-fits m w c0 c1 c2 (new-passed .room0) (blank-room (has m 1) _ (new-passed .room1)) (blank-room (has m 2) _ (new-passed .room2)) engine start-state start-steps is0 is1 is2
+      (r .symbols-low) (r .start-in) (word-says (m .symbols) w (new-passed .word) .1)
+
+  pub new-fits : simFits m v d0 d1 d2 ≡ true
+  unfolding handBack
+  new-fits = subst (λ (u : Simulator). simFits m u d0 d1 d2 ≡ true) same (back-fits m engine engine new-engine)
+    where
+      either : (b : Bool) (t : Tape) → pick b t t ≡ t
+      either b t = pick-cases b t t (λ (x : Tape). x ≡ t) (λ _. refl) (λ _. refl)
+
+      same : handBack (m .tapes) v v ≡ v
+      same = λ i. record { state = v .state; steps = v .steps; t0 = v .t0; t1 = either (has m 1) (v .t1) i; t2 = either (has m 2) (v .t2) i }

@@ -1,13 +1,14 @@
 pub mod Meaning
 pub mod Statement
+pub mod Operations
 pub mod Counts
 pub mod TapeFacts
 pub mod StepFacts
 pub mod LookFacts
 pub mod Refinement
 pub mod RunFacts
+pub mod BareFacts
 pub mod FreshFacts
+pub mod OperationFacts
 pub mod CountFacts
 pub mod QuestionFacts
-pub mod Operations
-pub mod OperationFacts

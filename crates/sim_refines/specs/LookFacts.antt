@@ -1,13 +1,12 @@
 -- What the engine sees before a step is the table machine's verdict. Assumes nothing.
 use mathlib.Core.Path.{_≡_, refl, sym, _∙_}
-use mathlib.Core.Bool.{Bool, true, false}
+use mathlib.Core.Bool.{Bool, true}
 use borrow.Author.Tests.{eqb-true, eq-eqb}
 use lib.Dec.{eqb}
 use Rattle.laws.specs.Choice.{both}
 use Rattle.laws.specs.Tests.{clash, both-split, both-true, pick-cases}
 use Rattle.symbol.specs.declared.Dir.{Dir}
 use Rattle.symbol.specs.declared.Dir.the-variants.{L, R, N}
-use Rattle.outcome.specs.declared.NonHaltProof.{NonHaltProof}
 use Rattle.machine.specs.declared.Machine.{Machine}
 use Rattle.machine.specs.declared.Action.{Action}
 use Rattle.machine.specs.declared.Entry.{Entry}
@@ -15,7 +14,6 @@ use Rattle.machine.specs.declared.Entry.the-variants.{Undefined, Defined}
 use Rattle.turing.specs.TableMachine.{readT, entry, Stays, Walks, stays, walks, goes}
 use Rattle.tape.specs.Moves.{readOf}
 use Rattle.tape.specs.Questions.{blankBeyond}
-use Rattle.before.specs.declared.inner.look.Look.the-variants.{Never}
 use Rattle.sim.specs.Engine.{Task, Conf, tape0, tape1, tape2, staysAll, loopOf, judgeOf, lookOn, entryOf, lookWith, lookOf}
 use Rattle.sim.specs.Engine as engine
 use Rattle.sim_refines.specs.Meaning.{has, configOf, EngineFits}

@@ -24,7 +24,7 @@ use Rattle.sim_refines.specs.LookFacts.{look-sees}
 
 -- ---- what is kept through one change and another
 
-kept-none : (m : Machine) (σ : Conf) → EngineFits m σ → Kept m σ σ
+pub kept-none : (m : Machine) (σ : Conf) → EngineFits m σ → Kept m σ σ
 kept-none m σ f = record {
   fits = f;
   same-length0 = refl;
