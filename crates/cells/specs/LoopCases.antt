@@ -4,14 +4,11 @@ use mathlib.Core.Option.{Option}
 use mathlib.Core.List.{List}
 use Prim.Native.Nat.{ℕ, suc, _+_, _-_, _≤_, _<_}
 use native.Mathlib.Omega.{arith}
-use borrow.Author.Tests.{eq-eqb, ne-eqb}
 use lib.ListN.{length, getD, set}
 use Rattle.laws.specs.Fill.{fillFrom}
 use Rattle.laws.specs.FillFacts.{fill-before, set-fill}
-use Rattle.laws.specs.Scan.{firstFail}
-use Rattle.laws.specs.ScanFacts.{Scanned, scanned, clean, failed, first-hit, first-next, first-end}
-use Rattle.laws.specs.ScanDown.{lastFail}
-use Rattle.laws.specs.ScanDownFacts.{ScannedDown, scanned-down, last-hit, last-next, last-end}
+use Rattle.laws.specs.ScanFacts.{Scanned, scanned, clean, failed}
+use Rattle.laws.specs.ScanDownFacts.{ScannedDown, scanned-down}
 use Rattle.laws.specs.ScanDownFacts as down
 use Rattle.symbol.specs.Places.{foundOf}
 use Rattle.symbol.specs.declared.position.Found.{Found}
@@ -58,33 +55,8 @@ pub fresh-is : (w c c₁ c₂ c₃ : List ℕ) → c₁ ≡ blanked 0 16 c → c
     → c₃ ≡ freshCells w c
 fresh-is w c c₁ c₂ c₃ p q r = r ∙ ap (λ (l : List ℕ). blanked (16 + length w) (32 + length w) l) (q ∙ ap (λ (l : List ℕ). laid 16 w l) p)
 
--- ---- the scans
+-- ---- what the scans find is one of the cells that they look at
 
-module _ (c : List ℕ) (from to i : ℕ) (is : firstFail (blankAt c) (to - i) i ≡ firstFail (blankAt c) (to - from) from) where
-  pub first-here : i < to → (getD c i 0 ≡ 0 → ⊥) → Index.At i ≡ firstWritten c from to
-  unfolding firstWritten
-  first-here h z = sym (ap foundOf (first-hit (blankAt c) to i _ is h (ne-eqb _ _ z)))
-
-  pub first-onward : i < to → getD c i 0 ≡ 0 → firstFail (blankAt c) (to - (i + 1)) (i + 1) ≡ firstFail (blankAt c) (to - from) from
-  first-onward h z = first-next (blankAt c) to i _ is h (eq-eqb _ _ z)
-
-  pub first-nowhere : to ≤ i → Index.Nothing ≡ firstWritten c from to
-  unfolding firstWritten
-  first-nowhere h = sym (ap foundOf (first-end (blankAt c) to i _ is h))
-
-module _ (c : List ℕ) (to i : ℕ) (is : lastFail (blankAt c) i ≡ lastFail (blankAt c) to) where
-  pub last-here : 0 < i → (getD c (i - 1) 0 ≡ 0 → ⊥) → Index.At (i - 1) ≡ lastWritten c to
-  unfolding lastWritten
-  last-here h z = sym (ap foundOf (last-hit (blankAt c) i _ is h (ne-eqb _ _ z)))
-
-  pub last-onward : 0 < i → getD c (i - 1) 0 ≡ 0 → lastFail (blankAt c) (i - 1) ≡ lastFail (blankAt c) to
-  last-onward h z = last-next (blankAt c) i _ is h (eq-eqb _ _ z)
-
-  pub last-nowhere : i ≤ 0 → Index.Nothing ≡ lastWritten c to
-  unfolding lastWritten
-  last-nowhere h = sym (ap foundOf (last-end (blankAt c) i _ is h))
-
--- what they find is one of the cells that they look at
 pub first-reach : (c : List ℕ) (from to n : ℕ) (f : Found) → f ≡ firstWritten c from to → to ≤ n → reach f ≤ n
 unfolding firstWritten
 first-reach c from to n f e h = rw e (by (scanned (blankAt c) (to - from) from))

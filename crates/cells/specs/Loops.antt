@@ -2,7 +2,7 @@
 use mathlib.Core.Bool.{Bool}
 use mathlib.Core.List.{List}
 use Prim.Native.Nat.{ℕ, _+_, _-_}
-use lib.Dec.{eqb, ltb}
+use lib.Dec.{eqb}
 use lib.ListN.{length, getD}
 use Rattle.laws.specs.Fill.{fillFrom}
 use Rattle.laws.specs.Scan.{firstFail}
@@ -38,9 +38,6 @@ freshCells w c = blanked (16 + length w) (32 + length w) (laid 16 w (blanked 0 1
 
 -- ---- what a scan finds
 
-abbrev pub symbolAt : (k : ℕ) → List ℕ → ℕ → Bool
-symbolAt k c i = ltb (getD c i 0) k
-
 -- the cell at index i is blank
 abbrev pub blankAt : List ℕ → ℕ → Bool
 blankAt c i = eqb (getD c i 0) 0
@@ -50,13 +47,10 @@ abbrev pub reach : Found → ℕ
 reach (Index.At i) = i + 1
 reach Index.Nothing = 0
 
-abbrev pub onFound : {A : Type 0} → Found → (ℕ → A) → A → A
-onFound (Index.At i) f a = f i
-onFound Index.Nothing f a = a
-
 -- what stands at an index, where there is one
 unfoldable pub foundCell : List ℕ → Found → ℕ
-foundCell c f = onFound f (λ i. getD c i 0) 0
+foundCell c (Index.At i) = getD c i 0
+foundCell c Index.Nothing = 0
 
 -- the lowest that is not blank of the cells from index `from` up to `to`, and the highest below `to`
 unfoldable pub firstWritten : List ℕ → (from to : ℕ) → Found

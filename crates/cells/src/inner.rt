@@ -7,8 +7,9 @@ ghost use lib.ListN.{length, getD, set};
 ghost use Rattle.laws.specs.Choice.{pick};
 ghost use Rattle.laws.specs.Scan.{allIn};
 ghost use Rattle.laws.specs.ScanDown.{countFails};
+ghost use Rattle.symbol.specs.Kinds.{symbolIn};
 ghost use Rattle.cells.specs.Growth.{extra};
-ghost use Rattle.cells.specs.Loops.{blanked, laid, movedUp, freshCells, symbolAt, reach, blankAt, foundCell, firstWritten, lastWritten};
+ghost use Rattle.cells.specs.Loops.{blanked, laid, movedUp, freshCells, reach, blankAt, foundCell, firstWritten, lastWritten};
 
 pub fn put(cells: &mut [u8], at: usize, w: u8)
     requires { ⌜ at < length (now cells) ⌝ }
@@ -95,7 +96,7 @@ pub fn open_left(cells: &mut [u8], more: usize, len: usize)
 // Whether the first `n` cells are symbols below `k`.
 pub fn all_below(cells: &[u8], n: usize, k: u64) -> bool
     requires { ⌜ n ≤ length (now cells) ⌝ }
-    ensures { λ r. ⌜ r ≡ allIn (symbolAt k (now (cells .entry))) n 0 ⌝ }
+    ensures { λ r. ⌜ r ≡ allIn (symbolIn k (now (cells .entry))) n 0 ⌝ }
 {
     let mut i = 0;
     while i < n {

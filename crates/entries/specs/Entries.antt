@@ -49,8 +49,3 @@ definedFor n t k s i =
 -- an undefined entry is eight zeros
 abbrev pub entryFor : (n t k : ℕ) → List ℕ → ℕ → Bool
 entryFor n t k s i = pick (eqb (flagAt s i) 0) (allIn (zeroAt s i) 8 0) (definedFor n t k s i)
-
--- ---- an input word: the symbol at i is below k
-
-abbrev pub symbolIn : (k : ℕ) → List ℕ → ℕ → Bool
-symbolIn k w i = ltb (getD w i 0) k

@@ -1,18 +1,15 @@
 -- Numbers of entries, and the check of their bytes, one fact for each way through the code. Assumes nothing.
 use mathlib.Core.Path.{_≡_, refl, sym, ap, _∙_}
-use mathlib.Core.Bool.{Bool, true, false}
+use mathlib.Core.Bool.{Bool}
 use mathlib.Core.List.{List}
-use Prim.Native.Nat.{ℕ, _+_, _*_, _-_, _^_, _≤_, _<_}
+use Prim.Native.Nat.{ℕ, _*_, _^_, _≤_, _<_}
 use native.Mathlib.Nat.{mul-le-mul, pow-suc, pow-zero, one-mul}
 use native.Mathlib.Omega.{arith}
-use borrow.Author.Tests.{lt-ltb, le-ltb, eq-eqb, ne-eqb}
-use lib.ListN.{length, getD}
+use borrow.Author.Tests.{eq-eqb, ne-eqb}
+use lib.ListN.{getD}
 use Rattle.laws.specs.Choice.{pick}
-use Rattle.laws.specs.Scan.{allIn, firstFail}
-use Rattle.laws.specs.ScanFacts.{first-hit, first-next, first-end}
-use Rattle.symbol.specs.Places.{foundOf}
-use Rattle.symbol.specs.declared.position.Found.the-variants.{At, Nothing}
-use Rattle.entries.specs.Entries.{zeroAt, definedFor, entryFor, symbolIn}
+use Rattle.laws.specs.Scan.{allIn}
+use Rattle.entries.specs.Entries.{zeroAt, definedFor, entryFor}
 
 -- ---- sizes: nothing wraps
 
@@ -50,14 +47,14 @@ module _ (t k : ℕ) where
       sym (power-three k) ∙ ap (λ (n : ℕ). k ^ n) (sym e)
 
 -- the summands of an entry's number
-pub record Parts (k stride q a1 a2 : ℕ) : Type 0 where
+pub record Summands (k stride q a1 a2 : ℕ) : Type 0 where
   pub rows : q * stride ≤ 65535 * 16777216
   pub second : k * a1 ≤ 256 * 255
   pub square : k * k ≤ 65536
   pub third : k * k * a2 ≤ 65536 * 255
 
-pub parts : (k stride q a1 a2 : ℕ) → k ≤ 256 → stride ≤ 16777216 → q < 65536 → a1 < 256 → a2 < 256 → Parts k stride q a1 a2
-parts k stride q a1 a2 hk hs hq h1 h2 = record {
+pub summands : (k stride q a1 a2 : ℕ) → k ≤ 256 → stride ≤ 16777216 → q < 65536 → a1 < 256 → a2 < 256 → Summands k stride q a1 a2
+summands k stride q a1 a2 hk hs hq h1 h2 = record {
   rows = mul-le-mul {n₂ = 65535} {m₂ = 16777216} (omega arith) hs;
   second = mul-le-mul {n₂ = 256} {m₂ = 255} hk (omega arith);
   square = square-fits k hk;
@@ -74,15 +71,3 @@ module _ (n t k : ℕ) (s : List ℕ) (i : ℕ) (x : Bool) where
   pub entry-defined : (getD s (8 * i) 0 ≡ 0 → ⊥) → x ≡ definedFor n t k s i → x ≡ entryFor n t k s i
   unfolding pick
   entry-defined z p = simp (ne-eqb _ _ z, p)
-
--- ---- the scans for the first of n places that fails a test
-
-module _ (test : ℕ → Bool) (n i : ℕ) (from : firstFail test (n - i) i ≡ firstFail test n 0) where
-  pub scan-bad : i < n → test i ≡ false → At i ≡ foundOf (firstFail test n 0)
-  scan-bad h z = sym (ap foundOf (first-hit test n i _ from h z))
-
-  pub scan-next : i < n → test i ≡ true → firstFail test (n - (i + 1)) (i + 1) ≡ firstFail test n 0
-  scan-next h z = first-next test n i _ from h z
-
-  pub scan-end : n ≤ i → Nothing ≡ foundOf (firstFail test n 0)
-  scan-end h = sym (ap foundOf (first-end test n i _ from h))

@@ -4,8 +4,9 @@ ghost use mathlib.Core.Path.{_≡_};
 ghost use Prim.Native.Nat.{_+_, _*_, _≤_, _<_, _^_};
 ghost use lib.ListN.{length};
 ghost use Rattle.laws.specs.Scan.{allIn, firstFail};
+ghost use Rattle.symbol.specs.Kinds.{symbolIn};
 ghost use Rattle.symbol.specs.Places.{foundOf};
-ghost use Rattle.entries.specs.Entries.{entryNumber, within, zeroAt, headOk, tapeOk, writesOk, definedFor, entryFor, symbolIn};
+ghost use Rattle.entries.specs.Entries.{entryNumber, within, zeroAt, headOk, tapeOk, writesOk, definedFor, entryFor};
 ghost use Rattle.entries.specs.Words.{wordFor};
 
 // k^t.

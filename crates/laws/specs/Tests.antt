@@ -24,10 +24,10 @@ pub pick-no : {A : Type 0} (a : Bool) (x b c : A) → a ≡ false → x ≡ c �
 unfolding pick
 pick-no a x b c p q = simp (p, q)
 
-pub same : {A : Type 0} {x : A} → x ≡ x
-same = refl
+pub itself : {A : Type 0} {x : A} → x ≡ x
+itself = refl
 
-pub ruleset tests = (both-no, both-go, pick-yes, pick-no, lt-ltb, le-ltb, le-leb, lt-leb, eq-eqb, ne-eqb, same)
+pub ruleset tests = (both-no, both-go, pick-yes, pick-no, lt-ltb, le-ltb, le-leb, lt-leb, eq-eqb, ne-eqb, itself)
 
 -- the same where the test is a Bool r that a callee returned
 

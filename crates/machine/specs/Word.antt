@@ -9,7 +9,7 @@ use Rattle.outcome.specs.declared.Refusal.the-variants as Why
 use Rattle.machine.specs.declared.Checked.{Checked}
 use Rattle.machine.specs.declared.Checked.the-variants.{Accepted, Refused}
 use Rattle.machine.specs.Check.{demand}
-pub use Rattle.entries.specs.Entries.{symbolIn}
+pub use Rattle.symbol.specs.Kinds.{symbolIn}
 
 abbrev pub symbolAnswer : Option ℕ → Checked
 symbolAnswer none = Accepted

@@ -59,7 +59,7 @@ pub enum Entry {
     Defined(Action),
 }
 
-// The answer of the table check, and of packing.
+// The answer of a check of a table or a word, and of packing and encoding.
 pub enum Checked {
     Accepted,
     Refused(Refusal),

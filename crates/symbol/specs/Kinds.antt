@@ -1,6 +1,10 @@
 -- Symbols, states and moves by their numbers (document 01, symbol.rs). Definitions only.
+use mathlib.Core.Bool.{Bool}
+use mathlib.Core.List.{List}
 use Prim.Native.Nat.{ℕ}
+use lib.Dec.{ltb}
 use lib.IntN.{ℤ, pos, negsuc}
+use lib.ListN.{getD}
 use Rattle.symbol.specs.declared.Symbol.{Symbol}
 use Rattle.symbol.specs.declared.State.{State}
 use Rattle.symbol.specs.declared.Dir.{Dir}
@@ -11,6 +15,10 @@ symbolOf n = record { 0 = n }
 
 abbrev pub stateOf : ℕ → State
 stateOf n = record { 0 = n }
+
+-- "symbols below k": the one at place i of a word, or of a tape's cells
+abbrev pub symbolIn : (k : ℕ) → List ℕ → ℕ → Bool
+symbolIn k s i = ltb (getD s i 0) k
 
 -- "L 0, R 1, N 2"
 abbrev pub dirNumber : Dir → ℕ

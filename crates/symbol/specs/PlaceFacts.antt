@@ -10,7 +10,6 @@ use Rattle.laws.specs.Position.{_⊖_, up, dn}
 use Rattle.laws.specs.PositionFacts.{ints, diff-⊖}
 use Rattle.laws.specs.Tests.{by-test}
 use Rattle.symbol.specs.Places.{raisedOf, indexAt, indexOf}
-use Rattle.symbol.specs.declared.position.Found.{Found}
 use Rattle.symbol.specs.declared.position.Found.the-variants.{At, Nothing}
 
 module _ (u d o len : ℕ) where

@@ -8,8 +8,9 @@ use borrow.Author.Tests.{leb-true, ltb-true, le-leb, lt-ltb}
 use lib.ListN.{length, getD}
 use Rattle.laws.specs.ScanFacts.{all-says, all-holds}
 use Rattle.laws.specs.Tests.{both-split, both-true}
+use Rattle.symbol.specs.Kinds.{symbolIn}
 use Rattle.tape.specs.declared.Tape.{Tape}
-use Rattle.tape.specs.Fits.{shapeFits, symbolAt, tapeFits, TapeOk}
+use Rattle.tape.specs.Fits.{shapeFits, tapeFits, TapeOk}
 
 pub record TapeFits (k : ℕ) (t : Tape) (c : List ℕ) : Type 0 where
   pub least : 32 ≤ t .len
@@ -44,7 +45,7 @@ module _ (k : ℕ) (t : Tape) (c : List ℕ) where
         low-head = leb-true _ _ (p5 .0);
         head-high = leb-true _ _ (p6 .0);
         high-in = ltb-true _ _ (p6 .1);
-        symbols = λ i b. ltb-true _ _ (all-says (symbolAt k c) (t .len) 0 (p0 .1) i (omega arith) (omega arith));
+        symbols = λ i b. ltb-true _ _ (all-says (symbolIn k c) (t .len) 0 (p0 .1) i (omega arith) (omega arith));
       }
 
   pub fits-holds : TapeFits k t c → tapeFits k t c ≡ true
@@ -56,7 +57,7 @@ module _ (k : ℕ) (t : Tape) (c : List ℕ) where
       (both-true (lt-ltb _ _ (f .head-in))
       (both-true (lt-ltb _ _ (f .origin-in))
       (both-true (le-leb _ _ (f .low-head)) (both-true (le-leb _ _ (f .head-high)) (lt-ltb _ _ (f .high-in))))))))
-      (all-holds (symbolAt k c) (t .len) 0 (λ i a b. lt-ltb _ _ (f .symbols i (omega arith))))
+      (all-holds (symbolIn k c) (t .len) 0 (λ i a b. lt-ltb _ _ (f .symbols i (omega arith))))
 
   pub fits-ok : TapeFits k t c → t .len ≤ 1073741824 → TapeOk t c
   fits-ok f h = omega arith

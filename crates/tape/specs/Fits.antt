@@ -1,13 +1,14 @@
 -- When a tape's numbers and cells fit (document 01, refusal 12), and what the functions on one tape may assume. Definitions only.
 use mathlib.Core.Bool.{Bool}
 use mathlib.Core.List.{List}
-use Prim.Native.Nat.{ℕ, _+_, _≤_, _<_}
+use Prim.Native.Nat.{ℕ, _≤_, _<_}
 use lib.Dec.{ltb, leb}
-use lib.ListN.{length, getD}
+use lib.ListN.{length}
 use Rattle.laws.specs.Choice.{both}
 use Rattle.laws.specs.Scan.{allIn}
+use Rattle.symbol.specs.Kinds.{symbolIn}
 use Rattle.tape.specs.declared.Tape.{Tape}
-pub use Rattle.cells.specs.Loops.{symbolAt, reach}
+pub use Rattle.cells.specs.Loops.{reach}
 
 -- "length from 32 to the buffer's, head and origin below it, lowest ≤ head ≤ highest, all inside"
 abbrev pub shapeFits : Tape → (cap : ℕ) → Bool
@@ -21,7 +22,7 @@ shapeFits t cap =
 
 -- "symbols below k": of the first len cells, those past are not looked at
 unfoldable pub tapeFits : (k : ℕ) → Tape → List ℕ → Bool
-tapeFits k t c = both (shapeFits t (length c)) (allIn (symbolAt k c) (t .len) 0)
+tapeFits k t c = both (shapeFits t (length c)) (allIn (symbolIn k c) (t .len) 0)
 
 -- true of every tape that fits, and of one that the machine lacks, whose numbers are 0
 pub record TapeOk (t : Tape) (c : List ℕ) : Type 0 where

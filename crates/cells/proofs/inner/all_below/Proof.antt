@@ -5,14 +5,14 @@ use Rattle.laws.specs.Scan.{allIn}
 use Rattle.laws.specs.ScanFacts.{all-hit, all-next, all-end}
 use Rattle.laws.specs.Tests.{tests}
 use native.Mathlib.Nat.{sub-zero}
-use Rattle.cells.specs.Loops.{symbolAt}
+use Rattle.symbol.specs.Kinds.{symbolIn}
 use borrow.Author.Needs.{needs}
 use Rattle.cells.proofs.inner.all_below.Statement.{statement}
 use Rattle.cells.proofs.inner.all_below.Tie as tie
 
 abbrev Inv-loop : tie.InvT-loop
 Inv-loop cells n k i₀ i =
-    allIn (symbolAt k cells) (n - i) i ≡ allIn (symbolAt k cells) n 0
+    allIn (symbolIn k cells) (n - i) i ≡ allIn (symbolIn k cells) n 0
 
 abbrev μ-loop : tie.MeasureT-loop
 μ-loop cells n k i₀ i = n - i

@@ -1,8 +1,10 @@
 use Prim.Native.Nat.{_-_}
 use mathlib.Core.Path.{_≡_, refl}
 use Rattle.laws.specs.Scan.{firstFail}
-use Rattle.cells.specs.Loops.{blankAt}
-use Rattle.cells.specs.LoopCases.{first-here, first-onward, first-nowhere}
+use Rattle.laws.specs.ScanFacts.{first-next}
+use Rattle.symbol.specs.FoundFacts.{first-found, first-nowhere}
+use Rattle.cells.specs.Loops.{blankAt, firstWritten}
+use borrow.Author.Tests.{eq-eqb, ne-eqb}
 use borrow.Author.Needs.{needs}
 use Rattle.cells.proofs.inner.first_written.Statement.{statement}
 use Rattle.cells.proofs.inner.first_written.Tie as tie
@@ -21,7 +23,8 @@ shared-slice-read-if1 : tie.Need-shared-slice-read-if1 Inv-loop μ-loop
 shared-slice-read-if1 c = search needs
 
 returns : tie.Need-returns Inv-loop μ-loop
-returns c = search first-here
+unfolding firstWritten
+returns c = search (first-found, ne-eqb)
 
 add-i : tie.Need-add-i Inv-loop μ-loop
 add-i c = search needs
@@ -30,9 +33,10 @@ loop-less : tie.Need-loop-less Inv-loop μ-loop
 loop-less c = search needs
 
 loop-again : tie.Need-loop-again Inv-loop μ-loop
-loop-again c = search first-onward
+loop-again c = search (first-next, eq-eqb)
 
 returns-2 : tie.Need-returns-2 Inv-loop μ-loop
+unfolding firstWritten
 returns-2 c = search first-nowhere
 
 pub first-written-spec : {M : Type 1} → statement M

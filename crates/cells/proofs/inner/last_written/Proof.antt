@@ -1,8 +1,10 @@
 use Prim.Native.Nat.{_≤_}
 use mathlib.Core.Path.{_≡_, refl}
 use Rattle.laws.specs.ScanDown.{lastFail}
-use Rattle.cells.specs.Loops.{blankAt}
-use Rattle.cells.specs.LoopCases.{last-here, last-onward, last-nowhere}
+use Rattle.laws.specs.ScanDownFacts.{last-next}
+use Rattle.symbol.specs.FoundFacts.{last-found, last-nowhere}
+use Rattle.cells.specs.Loops.{blankAt, lastWritten}
+use borrow.Author.Tests.{eq-eqb, ne-eqb}
 use borrow.Author.Needs.{needs}
 use native.Mathlib.Omega.{arith}
 use Rattle.cells.proofs.inner.last_written.Statement.{statement}
@@ -25,15 +27,17 @@ shared-slice-read-if1 : tie.Need-shared-slice-read-if1 Inv-loop μ-loop
 shared-slice-read-if1 c = search needs
 
 returns : tie.Need-returns Inv-loop μ-loop
-returns c = search last-here
+unfolding lastWritten
+returns c = search (last-found, ne-eqb)
 
 loop-less : tie.Need-loop-less Inv-loop μ-loop
 loop-less c = search needs
 
 loop-again : tie.Need-loop-again Inv-loop μ-loop
-loop-again c = (omega arith, search last-onward)
+loop-again c = (omega arith, search (last-next, eq-eqb))
 
 returns-2 : tie.Need-returns-2 Inv-loop μ-loop
+unfolding lastWritten
 returns-2 c = search last-nowhere
 
 pub last-written-spec : {M : Type 1} → statement M

@@ -1,5 +1,6 @@
 use borrow.Author.Needs.{needs}
-use Rattle.entries.specs.EntryCases.{scan-bad, scan-next, scan-end}
+use Rattle.laws.specs.ScanFacts.{first-next}
+use Rattle.symbol.specs.FoundFacts.{first-found, first-nowhere}
 use Rattle.entries.specs.Entries.{entryFor}
 use borrow.Author.Tests.{not-true, not-false}
 use Rattle.laws.specs.Scan.{firstFail}
@@ -23,7 +24,7 @@ entry-ok-requires : tie.Need-entry-ok-requires Inv-loop μ-loop
 entry-ok-requires c κs = search needs
 
 returns : tie.Need-returns Inv-loop μ-loop
-returns c = scan-bad _ _ _ (c .before .before .before .loop .inv) (omega arith) (sym (c .before .entry-ok .ensures) ∙ not-true _ (c .if1 .taken))
+returns c = first-found _ _ _ _ (c .before .before .before .loop .inv) (omega arith) (sym (c .before .entry-ok .ensures) ∙ not-true _ (c .if1 .taken))
 
 add-i : tie.Need-add-i Inv-loop μ-loop
 add-i c = search needs
@@ -32,10 +33,10 @@ loop-less : tie.Need-loop-less Inv-loop μ-loop
 loop-less c = search needs
 
 loop-again : tie.Need-loop-again Inv-loop μ-loop
-loop-again c = scan-next _ _ _ (c .before .before .before .loop .inv) (omega arith) (sym (c .before .entry-ok .ensures) ∙ not-false _ (c .if1 .left))
+loop-again c = first-next _ _ _ _ (c .before .before .before .loop .inv) (omega arith) (sym (c .before .entry-ok .ensures) ∙ not-false _ (c .if1 .left))
 
 returns-2 : tie.Need-returns-2 Inv-loop μ-loop
-returns-2 c = search scan-end
+returns-2 c = search first-nowhere
 
 pub first-bad-spec : {M : Type 1} → statement M
 first-bad-spec =

@@ -1,7 +1,8 @@
 use borrow.Author.Needs.{needs}
 use native.Mathlib.Omega.{arith}
-use Rattle.entries.specs.EntryCases.{scan-bad, scan-next, scan-end}
-use Rattle.entries.specs.Entries.{symbolIn}
+use Rattle.laws.specs.ScanFacts.{first-next}
+use Rattle.symbol.specs.FoundFacts.{first-found, first-nowhere}
+use Rattle.symbol.specs.Kinds.{symbolIn}
 use Rattle.laws.specs.Scan.{firstFail}
 use borrow.Author.Tests.{lt-ltb, le-ltb}
 use lib.ListN.{length}
@@ -27,7 +28,7 @@ cast-if1 : tie.Need-cast-if1 Inv-loop μ-loop
 cast-if1 c = omega (arith, c .shared-slice-known .given (c .before .before .loop .i))
 
 returns : tie.Need-returns Inv-loop μ-loop
-returns c = search (scan-bad, le-ltb)
+returns c = search (first-found, le-ltb)
 
 add-i : tie.Need-add-i Inv-loop μ-loop
 add-i c = search needs
@@ -36,10 +37,10 @@ loop-less : tie.Need-loop-less Inv-loop μ-loop
 loop-less c = search needs
 
 loop-again : tie.Need-loop-again Inv-loop μ-loop
-loop-again c = search (scan-next, lt-ltb)
+loop-again c = search (first-next, lt-ltb)
 
 returns-2 : tie.Need-returns-2 Inv-loop μ-loop
-returns-2 c = search scan-end
+returns-2 c = search first-nowhere
 
 pub first-over-spec : {M : Type 1} → statement M
 first-over-spec =
