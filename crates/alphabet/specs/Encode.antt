@@ -12,8 +12,8 @@ use Rattle.symbol.specs.Kinds.{symbolOf}
 use Rattle.symbol.specs.declared.Symbol.{Symbol}
 use Rattle.outcome.specs.declared.Refusal.the-variants as Why
 use Rattle.machine.specs.declared.Checked.{Checked}
-use Rattle.machine.specs.declared.Checked.the-variants.{Accepted, Refused}
-use Rattle.machine.specs.Check.{demand, checkedOn}
+use Rattle.machine.specs.declared.Checked.the-variants.{Accepted}
+use Rattle.machine.specs.Check.{demand, checkedOn, answerAt, filledOn}
 use Rattle.alphabet.specs.declared.Named.{Named}
 use Rattle.alphabet.specs.declared.Named.the-variants.{Missing, Found}
 
@@ -54,23 +54,15 @@ byteAt glyphs word i = byteOn (symbolFor glyphs (getD word i 0))
 
 -- ---- a word: "17 glyph not allowed (first place), 18 output shorter than the word"
 
-abbrev pub glyphAnswer : Option ℕ → Checked
-glyphAnswer none = Accepted
-glyphAnswer (some i) = Refused (Why.Glyph i)
-
 unfoldable pub glyphsCheck : (glyphs flags word : List ℕ) → Checked
-glyphsCheck glyphs flags word = glyphAnswer (firstFail (allowedAt glyphs flags word) (length word) 0)
+glyphsCheck glyphs flags word = answerAt Why.Glyph (firstFail (allowedAt glyphs flags word) (length word) 0)
 
 unfoldable pub encodeCheck : (glyphs flags word : List ℕ) (room : ℕ) → Checked
 encodeCheck glyphs flags word room =
     checkedOn (glyphsCheck glyphs flags word) (demand (leb (length word) room) Why.OutputSize Accepted)
 
-abbrev pub heldOn : Checked → (out filled : List ℕ) → List ℕ
-heldOn (Refused why) out filled = out
-heldOn Accepted out filled = filled
-
 -- what the output holds afterwards: place i the symbol of the word's glyph at i, the places past the word what they held; after a refusal all what it held
 unfoldable pub encodeInto : (glyphs flags word out : List ℕ) → List ℕ
 encodeInto glyphs flags word out =
-    heldOn (encodeCheck glyphs flags word (length out)) out
+    filledOn (encodeCheck glyphs flags word (length out)) out
     (fillFrom (byteAt glyphs word) (length word) 0 out)

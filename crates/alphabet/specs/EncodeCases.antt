@@ -17,9 +17,10 @@ use Rattle.outcome.specs.declared.Refusal.{Refusal}
 use Rattle.outcome.specs.declared.Refusal.the-variants as Why
 use Rattle.machine.specs.declared.Checked.{Checked}
 use Rattle.machine.specs.declared.Checked.the-variants.{Accepted, Refused}
+use Rattle.machine.specs.Check.{answerAt}
 use Rattle.alphabet.specs.declared.Named.{Named}
 use Rattle.alphabet.specs.declared.Named.the-variants.{Missing, Found}
-use Rattle.alphabet.specs.Encode.{differs, named, symbolFor, isInput, allowedOn, byteOn, allowedAt, byteAt, glyphAnswer, glyphsCheck, encodeCheck, encodeInto}
+use Rattle.alphabet.specs.Encode.{differs, named, symbolFor, isInput, allowedOn, byteOn, allowedAt, byteAt, glyphsCheck, encodeCheck, encodeInto}
 
 -- ---- one glyph
 
@@ -68,7 +69,7 @@ module _ (glyphs : List ℕ) (glyph : ℕ) (n : Named) (is : n ≡ symbolFor gly
 module _ (glyphs flags word : List ℕ) (i : ℕ) (from : firstFail (allowedAt glyphs flags word) (length word - i) i ≡ firstFail (allowedAt glyphs flags word) (length word) 0) where
   pub glyph-over : (r : Bool) → i < length word → r ≡ allowedOn flags (symbolFor glyphs (getD word i 0)) → not r ≡ true → Refused (Why.Glyph i) ≡ glyphsCheck glyphs flags word
   unfolding glyphsCheck allowedAt
-  glyph-over r h e z = sym (ap glyphAnswer (first-hit (allowedAt glyphs flags word) (length word) i _ from h (sym e ∙ not-true r z)))
+  glyph-over r h e z = sym (ap (answerAt Why.Glyph) (first-hit (allowedAt glyphs flags word) (length word) i _ from h (sym e ∙ not-true r z)))
 
   pub glyph-next : (r : Bool) → i < length word → r ≡ allowedOn flags (symbolFor glyphs (getD word i 0)) → not r ≡ false
       → firstFail (allowedAt glyphs flags word) (length word - (i + 1)) (i + 1) ≡ firstFail (allowedAt glyphs flags word) (length word) 0
@@ -77,7 +78,7 @@ module _ (glyphs flags word : List ℕ) (i : ℕ) (from : firstFail (allowedAt g
 
   pub glyphs-end : length word ≤ i → Accepted ≡ glyphsCheck glyphs flags word
   unfolding glyphsCheck
-  glyphs-end h = sym (ap glyphAnswer (first-end (allowedAt glyphs flags word) (length word) i _ from h))
+  glyphs-end h = sym (ap (answerAt Why.Glyph) (first-end (allowedAt glyphs flags word) (length word) i _ from h))
 
 -- ---- what is written
 

@@ -3,7 +3,7 @@ use mathlib.Core.Path.{_≡_, ap, subst, _∙_}
 use mathlib.Core.Bool.{true, false}
 use mathlib.Core.Option.{Option}
 use mathlib.Core.List.{List}
-use Prim.Native.Nat.{ℕ, _+_, _≤_, _<_, min}
+use Prim.Native.Nat.{ℕ, _≤_, _<_, min}
 use native.Mathlib.Omega.{arith}
 use borrow.Author.Tests.{leb-true, leb-false, eqb-true, eq-eqb, not-true, not-false}
 use lib.Dec.{eqb, leb}
@@ -17,10 +17,10 @@ use Rattle.outcome.specs.declared.Refusal.{Refusal}
 use Rattle.outcome.specs.declared.Refusal.the-variants as Why
 use Rattle.machine.specs.declared.Checked.{Checked}
 use Rattle.machine.specs.declared.Checked.the-variants.{Accepted, Refused}
-use Rattle.machine.specs.Check.{demand, checkedOn}
+use Rattle.machine.specs.Check.{demand, checkedOn, answerAt}
 use Rattle.alphabet.specs.declared.Named.{Named}
 use Rattle.alphabet.specs.declared.Named.the-variants.{Missing, Found}
-use Rattle.alphabet.specs.Encode.{differs, named, symbolFor, allowedOn, byteOn, allowedAt, byteAt, glyphAnswer, glyphsCheck, encodeCheck, encodeInto}
+use Rattle.alphabet.specs.Encode.{differs, named, symbolFor, allowedOn, byteOn, allowedAt, byteAt, glyphsCheck, encodeCheck, encodeInto}
 
 -- ---- one glyph
 
@@ -72,7 +72,7 @@ module _ (glyphs flags word : List ℕ) where
   unfolding glyphsCheck
   checks = by _ (scanned (allowedAt glyphs flags word) (length word) 0)
     where
-      by : (x : Option ℕ) → Scanned (allowedAt glyphs flags word) (length word) 0 x → Checks (glyphAnswer x)
+      by : (x : Option ℕ) → Scanned (allowedAt glyphs flags word) (length word) 0 x → Checks (answerAt Why.Glyph x)
       by x (clean f) = passed (λ i h. f i (omega arith) (omega arith))
       by x (failed i a b z f) = stopped i (record { inside = omega arith; bad = z; good = λ j h. f j (omega arith) h })
 

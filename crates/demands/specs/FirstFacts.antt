@@ -1,7 +1,7 @@
 -- Each operation's check is the first of its list of tests. Assumes nothing.
 use mathlib.Core.Path.{_≡_, refl, sym, ap, _∙_}
 use mathlib.Core.Bool.{Bool, true, false}
-use mathlib.Core.Option.{Option, none, some}
+use mathlib.Core.Option.{Option}
 use mathlib.Core.List.{List, [], _∷_, _++_}
 use Prim.Native.Nat.{ℕ, _*_}
 use native.Mathlib.Omega.{arith}
@@ -17,10 +17,10 @@ use Rattle.machine.specs.declared.Machine.{Machine}
 use Rattle.machine.specs.declared.Checked.{Checked}
 use Rattle.machine.specs.declared.Checked.the-variants.{Accepted, Refused}
 use Rattle.machine.specs.Layout.{entryCount}
-use Rattle.machine.specs.Check.{within, demand, checkedOn, entryOk, entryAnswer, entriesCheck, sizeCheck, tableCheck}
+use Rattle.machine.specs.Check.{within, demand, checkedOn, answerAt, entryOk, entriesCheck, sizeCheck, tableCheck}
 use Rattle.machine.specs.Packing.{packCheck}
-use Rattle.machine.specs.Word.{symbolIn, symbolAnswer, symbolsCheck, wordCheck}
-use Rattle.alphabet.specs.Encode.{allowedAt, glyphAnswer, glyphsCheck, encodeCheck}
+use Rattle.machine.specs.Word.{symbolIn, symbolsCheck, wordCheck}
+use Rattle.alphabet.specs.Encode.{allowedAt, glyphsCheck, encodeCheck}
 use Rattle.before.specs.Sizes as Sizes
 use Rattle.sim.specs.Engine as Plain
 use Rattle.sim.specs.Operations as Plains
@@ -74,13 +74,12 @@ on-on Accepted b c = refl
 
 -- ---- 6, 10 and 17: the lowest that fails
 
-scan-first : (p : ℕ → Bool) (n : ℕ) (f : Option ℕ → Checked) (why : ℕ → Refusal) → f none ≡ Accepted → ((j : ℕ) → f (some j) ≡ Refused (why j))
-    → f (firstFail p n 0) ≡ pick (allIn p n 0) Accepted (Refused (why (lowest p n)))
-scan-first p n f why e g = by (firstFail p n 0) (scanned p n 0)
+scan-first : (p : ℕ → Bool) (n : ℕ) (why : ℕ → Refusal) → answerAt why (firstFail p n 0) ≡ pick (allIn p n 0) Accepted (Refused (why (lowest p n)))
+scan-first p n why = by (firstFail p n 0) (scanned p n 0)
   where
-    by : (x : Option ℕ) → Scanned p n 0 x → f x ≡ pick (allIn p n 0) Accepted (Refused (why (numberOr0 x)))
-    by x (clean h) = e ∙ sym (pick-true _ _ _ (all-holds p n 0 h))
-    by x (failed j a b z r) = g j ∙ sym (pick-false _ _ _ (by-test (allIn p n 0) (λ t. absurd (clash (all-says p n 0 t j a b) z)) (λ t. t)))
+    by : (x : Option ℕ) → Scanned p n 0 x → answerAt why x ≡ pick (allIn p n 0) Accepted (Refused (why (numberOr0 x)))
+    by x (clean h) = sym (pick-true _ _ _ (all-holds p n 0 h))
+    by x (failed j a b z r) = sym (pick-false _ _ _ (by-test (allIn p n 0) (λ t. absurd (clash (all-says p n 0 t j a b) z)) (λ t. t)))
 
 module _ (m : Machine) (s : List ℕ) where
   pub table-first : tableCheck m s ≡ firstOf (tableTests m s)
@@ -88,7 +87,7 @@ module _ (m : Machine) (s : List ℕ) where
   table-first =
       ap (λ (x : Checked). demand (within 1 3 (m .tapes)) Why.Tapes (demand (within 1 256 (m .symbols)) Why.Symbols (demand (within 1 65536 (m .states)) Why.States
       (demand (ltb (m .start) (m .states)) Why.Start (demand (eqb (length s) (8 * entryCount m)) Why.TableSize x)))))
-      (scan-first (entryOk m s) (entryCount m) entryAnswer Why.Entry refl (λ j. refl))
+      (scan-first (entryOk m s) (entryCount m) Why.Entry)
 
   pub pack-first : (room : ℕ) → packCheck m s room ≡ firstOf (packTests m s room)
   unfolding packCheck firstOf
@@ -96,14 +95,14 @@ module _ (m : Machine) (s : List ℕ) where
 
 pub word-first : (k : ℕ) (w : List ℕ) → wordCheck k w ≡ firstOf (wordTests k w)
 unfolding wordCheck symbolsCheck firstOf
-word-first k w = ap (demand (leb (length w) 1048576) Why.WordLength) (scan-first (symbolIn k w) (length w) symbolAnswer Why.WordSymbol refl (λ j. refl))
+word-first k w = ap (demand (leb (length w) 1048576) Why.WordLength) (scan-first (symbolIn k w) (length w) Why.WordSymbol)
 
 pub encode-first : (glyphs flags word : List ℕ) (room : ℕ) → encodeCheck glyphs flags word room ≡ firstOf (encodeTests glyphs flags word room)
 unfolding encodeCheck glyphsCheck firstOf
 encode-first glyphs flags word room =
     on-first _ _ (or (allIn (allowedAt glyphs flags word) (length word) 0) (Why.Glyph (lowest (allowedAt glyphs flags word) (length word))) ∷ [])
     (or (leb (length word) room) Why.OutputSize ∷ [])
-    (scan-first (allowedAt glyphs flags word) (length word) glyphAnswer Why.Glyph refl (λ j. refl))
+    (scan-first (allowedAt glyphs flags word) (length word) Why.Glyph)
     refl
 
 -- ---- the plain engine

@@ -23,10 +23,10 @@ use Rattle.machine.specs.declared.Checked.{Checked}
 use Rattle.machine.specs.declared.Checked.the-variants.{Accepted, Refused}
 use Rattle.machine.specs.declared.Looked.the-variants as Looked
 use Rattle.machine.specs.Layout.{strideOf, entryCount, entryNumber, entryAt}
-use Rattle.machine.specs.Check.{tableCheck, lookedOn, lookupOf}
-use Rattle.machine.specs.Packing.{wordAt, packCheck, packedOn, packInto}
-use Rattle.machine.specs.Word.{symbolIn, symbolAnswer, symbolsCheck, wordCheck}
-use Rattle.alphabet.specs.Encode.{allowedAt, byteAt, encodeCheck, heldOn, encodeInto}
+use Rattle.machine.specs.Check.{answerAt, filledOn, tableCheck, lookedOn, lookupOf}
+use Rattle.machine.specs.Packing.{wordAt, packCheck, packInto}
+use Rattle.machine.specs.Word.{symbolIn, symbolsCheck, wordCheck}
+use Rattle.alphabet.specs.Encode.{allowedAt, byteAt, encodeCheck, encodeInto}
 use Rattle.alphabet.specs.EncodeFacts.{refused-place}
 use Rattle.tape.specs.Moves.{freshOf}
 use Rattle.tape.specs.Questions.{cellOf, nonBlankOf, countOf, windowOf, findOf}
@@ -63,7 +63,7 @@ module _ (m : Machine) (s : List ℕ) where
       (packCheck m s (length out), packInto m s out)
   unfolding numbersOf packInto
   pack-turns out = turns _ (packTests m s (length out)) (λ (x : Checked × List ℕ). x .0) (λ why. (Refused why, out))
-      (λ c. (c, packedOn c out (fillFrom (wordAt s (m .symbols)) (entryCount m) 0 out))) _ refl (pack-first m s (length out)) refl (λ why. refl) (λ why. refl)
+      (λ c. (c, filledOn c out (fillFrom (wordAt s (m .symbols)) (entryCount m) 0 out))) _ refl (pack-first m s (length out)) refl (λ why. refl) (λ why. refl)
 
 module _ (k : ℕ) (w : List ℕ) where
   pub word-turns : TurnsAway (9 ∷ 10 ∷ []) (wordTests k w) (λ (r : Checked). r) Refused (wordCheck k w)
@@ -78,7 +78,7 @@ module _ (k : ℕ) (w : List ℕ) where
       Place : Type 0
       Place = (i < length w) × (k ≤ getD w i 0) × ((j : ℕ) → j < i → getD w j 0 < k)
 
-      by : (x : Option ℕ) → Scanned (symbolIn k w) (length w) 0 x → symbolAnswer x ≡ Refused (Why.WordSymbol i) → Place
+      by : (x : Option ℕ) → Scanned (symbolIn k w) (length w) 0 x → answerAt Why.WordSymbol x ≡ Refused (Why.WordSymbol i) → Place
       by x (clean h) e = let z : _≡_ {A = ℕ} 0 1 = cc in absurd (omega arith)
       by x (failed j a b z r) e =
           let q : j ≡ i = cc in
@@ -90,7 +90,7 @@ module _ (glyphs flags word : List ℕ) where
       (encodeCheck glyphs flags word (length out), encodeInto glyphs flags word out)
   unfolding numbersOf encodeInto
   encode-turns out = turns _ (encodeTests glyphs flags word (length out)) (λ (x : Checked × List ℕ). x .0) (λ why. (Refused why, out))
-      (λ c. (c, heldOn c out (fillFrom (byteAt glyphs word) (length word) 0 out))) _ refl (encode-first glyphs flags word (length out)) refl (λ why. refl) (λ why. refl)
+      (λ c. (c, filledOn c out (fillFrom (byteAt glyphs word) (length word) 0 out))) _ refl (encode-first glyphs flags word (length out)) refl (λ why. refl) (λ why. refl)
 
   pub encode-place : (room i : ℕ) → encodeCheck glyphs flags word room ≡ Refused (Why.Glyph i)
       → (i < length word) × (allowedAt glyphs flags word i ≡ false) × ((j : ℕ) → j < i → allowedAt glyphs flags word j ≡ true)

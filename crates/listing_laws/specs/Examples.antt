@@ -7,7 +7,7 @@ use Rattle.laws.specs.ScanDown.{countFails}
 use Rattle.laws.specs.Fill.{fillFrom}
 use Rattle.laws.specs.Position.{_⊖_}
 use Rattle.machine.specs.Layout.{actionAt, entryAt}
-use Rattle.machine.specs.Check.{definedOk, entryOk, entriesCheck, sizeCheck, tableCheck}
+use Rattle.machine.specs.Check.{entryOk, entriesCheck, sizeCheck, tableCheck}
 use Rattle.machine.specs.Word.{symbolsCheck, wordCheck}
 use Rattle.tape.specs.Growth.{extra}
 use Rattle.tape.specs.Moves.{blanked, laid, movedUp, freshOf, readOf, leaves, roomFor, grownBy, shiftOf, moveOf, actOf}
@@ -38,5 +38,5 @@ pub record Examples : Type 0 where
       ≡ bytes "answer steps state head low high score\nnever 0 0 0 0 0 0\nnever 20 0 20 0 20 20\nnever 19 0 19 0 19 19\nrefused 13\n"
 
 pub examples : Examples
-unfolding get16 get32 get64 put16 put32 put64 pick both allIn firstFail countFails fillFrom _⊖_ actionAt entryAt definedOk entryOk entriesCheck sizeCheck tableCheck symbolsCheck wordCheck extra blanked laid movedUp freshOf readOf leaves roomFor grownBy shiftOf moveOf actOf tapeFits blankBeyond countOf lookWith roomsOf stepOf matches runOf runWith stays staysAll loopOf judgeOf lookOn entryOf bareSim handBack simFits valueCheck engineCheck fuelCheck runCheck newAnswer sizesFit fuelFits freshSizes freshCheck slotOf putSlot moveSlot thinBy newOk timesOk ended thinned recorded recordDue advanceTo goOn goBack stay goTo callCheck call newCheck new newOn callOn ranFrom advanceOf putTape putHeld putIf putSim packOf tapeAt simIn holdsOne fillIf filled unpackOf onto pieces sameList digits number onNum below showOn show showℤ onSome machineOk machineLine move entryLine symbolsOf wordOf callLine place given define nothing line atEnd onNext readFrom listing rowOf rowsOf refusedLine rowLine rowLines output blankCells blankStore turned answerOn answerWith answerOf answerFor answerTo
+unfolding get16 get32 get64 put16 put32 put64 pick both allIn firstFail countFails fillFrom _⊖_ actionAt entryAt entryOk entriesCheck sizeCheck tableCheck symbolsCheck wordCheck extra blanked laid movedUp freshOf readOf leaves roomFor grownBy shiftOf moveOf actOf tapeFits blankBeyond countOf lookWith roomsOf stepOf matches runOf runWith stays staysAll loopOf judgeOf lookOn entryOf bareSim handBack simFits valueCheck engineCheck fuelCheck runCheck newAnswer sizesFit fuelFits freshSizes freshCheck slotOf putSlot moveSlot thinBy newOk timesOk ended thinned recorded recordDue advanceTo goOn goBack stay goTo callCheck call newCheck new newOn callOn ranFrom advanceOf putTape putHeld putIf putSim packOf tapeAt simIn holdsOne fillIf filled unpackOf onto pieces sameList digits number onNum below showOn show showℤ onSome machineOk machineLine move entryLine symbolsOf wordOf callLine place given define nothing line atEnd onNext readFrom listing rowOf rowsOf refusedLine rowLine rowLines output blankCells blankStore turned answerOn answerWith answerOf answerFor answerTo
 examples = record { whole = refl; walker = refl }

@@ -6,7 +6,7 @@ use Prim.Native.Nat.{ℕ, _*_}
 use lib.Dec.{eqb, ltb}
 use lib.ListN.{length}
 use Rattle.laws.specs.Choice.{pick}
-use Rattle.laws.specs.Scan.{allIn, firstFail}
+use Rattle.laws.specs.Scan.{firstFail}
 use Rattle.symbol.specs.declared.Symbol.{Symbol}
 use Rattle.symbol.specs.declared.State.{State}
 use Rattle.outcome.specs.declared.Refusal.{Refusal}
@@ -16,8 +16,8 @@ use Rattle.machine.specs.declared.Checked.{Checked}
 use Rattle.machine.specs.declared.Checked.the-variants.{Accepted, Refused}
 use Rattle.machine.specs.declared.Looked.{Looked}
 use Rattle.machine.specs.declared.Looked.the-variants as Look
-use Rattle.machine.specs.Layout.{strideOf, entryCount, entryNumber, flagAt, entryAt}
-use Rattle.entries.specs.Entries.{definedFor}
+use Rattle.machine.specs.Layout.{strideOf, entryCount, entryNumber, entryAt}
+use Rattle.entries.specs.Entries.{entryFor}
 pub use Rattle.entries.specs.Entries.{within, zeroAt, headOk, tapeOk, writesOk}
 
 -- where the test fails the refusal, else the rest
@@ -29,23 +29,23 @@ abbrev pub checkedOn : Checked → Checked → Checked
 checkedOn (Refused why) rest = Refused why
 checkedOn Accepted rest = rest
 
--- ---- one entry
+-- after a scan: the refusal with the place found, if there is one
+abbrev pub answerAt : (ℕ → Refusal) → Option ℕ → Checked
+answerAt why none = Accepted
+answerAt why (some i) = Refused (why i)
 
-unfoldable pub definedOk : Machine → List ℕ → ℕ → Bool
-definedOk m s i = definedFor (m .states) (m .tapes) (m .symbols) s i
-
--- an undefined entry is eight zeros
-unfoldable pub entryOk : Machine → List ℕ → ℕ → Bool
-entryOk m s i = pick (eqb (flagAt s i) 0) (allIn (zeroAt s i) 8 0) (definedOk m s i)
+-- what an output holds after a check: what it held where that refuses, else what is written
+abbrev pub filledOn : Checked → (out filled : List ℕ) → List ℕ
+filledOn (Refused why) out filled = out
+filledOn Accepted out filled = filled
 
 -- ---- the table
 
-abbrev pub entryAnswer : Option ℕ → Checked
-entryAnswer none = Accepted
-entryAnswer (some i) = Refused (Why.Entry i)
+unfoldable pub entryOk : Machine → List ℕ → ℕ → Bool
+entryOk m s i = entryFor (m .states) (m .tapes) (m .symbols) s i
 
 unfoldable pub entriesCheck : Machine → List ℕ → ℕ → Checked
-entriesCheck m s count = entryAnswer (firstFail (entryOk m s) count 0)
+entriesCheck m s count = answerAt Why.Entry (firstFail (entryOk m s) count 0)
 
 unfoldable pub sizeCheck : Machine → List ℕ → ℕ → Checked
 sizeCheck m s count = demand (eqb (length s) (8 * count)) Why.TableSize (entriesCheck m s count)

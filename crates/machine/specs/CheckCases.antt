@@ -1,12 +1,12 @@
 -- The table check and the lookup, one fact for each way through the code. Assumes nothing.
-use mathlib.Core.Path.{_≡_, refl, sym, ap, _∙_}
+use mathlib.Core.Path.{_≡_, refl, ap}
 use mathlib.Core.Option.{Option, none, some}
 use mathlib.Core.List.{List}
 use Prim.Native.Nat.{ℕ, _+_, _*_, _/_, _%_, _^_, _≤_, _<_}
+use native.Mathlib.Omega.{arith}
 use borrow.Author.Tests.{lt-ltb, le-ltb, eq-eqb, ne-eqb}
 use lib.ListN.{length, getD}
 use Rattle.laws.specs.Choice.{pick, both}
-use Rattle.laws.specs.Scan.{firstFail}
 use Rattle.symbol.specs.Kinds.{symbolOf, stateOf}
 use Rattle.symbol.specs.Places.{foundOf}
 use Rattle.symbol.specs.declared.position.Found.{Found}
@@ -15,18 +15,15 @@ use Rattle.symbol.specs.declared.Symbol.{Symbol}
 use Rattle.symbol.specs.declared.State.{State}
 use Rattle.symbol.specs.declared.Dir.{Dir}
 use Rattle.outcome.specs.declared.Refusal.{Refusal}
-use Rattle.outcome.specs.declared.Refusal.the-variants as Why
 use Rattle.machine.specs.declared.Machine.{Machine}
 use Rattle.machine.specs.declared.Action.{Action}
 use Rattle.machine.specs.declared.Entry.{Entry}
 use Rattle.machine.specs.declared.Entry.the-variants.{Undefined, Defined}
 use Rattle.machine.specs.declared.Checked.{Checked}
 use Rattle.machine.specs.declared.Checked.the-variants.{Accepted, Refused}
-use Rattle.machine.specs.declared.Looked.{Looked}
 use Rattle.machine.specs.declared.Looked.the-variants as Look
 use Rattle.machine.specs.Layout.{strideOf, entryNumber, byteAt, dirOf, actionAt, entryAt}
-use Rattle.machine.specs.Check.{definedOk, entryOk, entryAnswer, entriesCheck, sizeCheck, tableCheck, lookupOf}
-use Rattle.entries.specs.Entries.{entryFor}
+use Rattle.machine.specs.Check.{answerAt, sizeCheck, tableCheck, lookupOf}
 pub use Rattle.entries.specs.EntryCases.{count-fits, count-small, stride-one}
 
 -- ---- the entry of a number
@@ -58,32 +55,16 @@ module _ (s : List ℕ) (i : ℕ) where
   unfolding entryAt pick both
   entry-some a h z p = simp (lt-ltb _ _ h, eq-eqb _ _ z, p)
 
--- ---- the scan over the entries
+-- ---- the answer to a scan
 
--- the answer where a scan found a place
-abbrev pub answerOf : (ℕ → Refusal) → Found → Checked
-answerOf why (At i) = Refused (why i)
-answerOf why Nothing = Accepted
+module _ (why : ℕ → Refusal) (f : Found) where
+  pub scan-bad : (x : Option ℕ) (i : ℕ) → f ≡ foundOf x → f ≡ At i → Refused (why i) ≡ answerAt why x
+  scan-bad none i p e = let z : _≡_ {A = ℕ} 0 1 = cc in absurd (omega arith)
+  scan-bad (some j) i p e = let q : i ≡ j = cc in ap (λ (n : ℕ). Refused (why n)) q
 
-entry-answer : (x : Option ℕ) → answerOf Why.Entry (foundOf x) ≡ entryAnswer x
-entry-answer none = refl
-entry-answer (some i) = refl
-
-module _ (m : Machine) (s : List ℕ) (n : ℕ) where
-  scan-same : firstFail (entryFor (m .states) (m .tapes) (m .symbols) s) n 0 ≡ firstFail (entryOk m s) n 0
-  unfolding entryOk definedOk
-  scan-same = refl
-
-  module _ (f : Found) (is : f ≡ foundOf (firstFail (entryFor (m .states) (m .tapes) (m .symbols) s) n 0)) where
-    answered : answerOf Why.Entry f ≡ entriesCheck m s n
-    unfolding entriesCheck
-    answered = ap (answerOf Why.Entry) (is ∙ ap foundOf scan-same) ∙ entry-answer (firstFail (entryOk m s) n 0)
-
-    pub scan-bad : (i : ℕ) → f ≡ At i → Refused (Why.Entry i) ≡ entriesCheck m s n
-    scan-bad i e = ap (answerOf Why.Entry) (sym e) ∙ answered
-
-    pub scan-end : f ≡ Nothing → Accepted ≡ entriesCheck m s n
-    scan-end e = ap (answerOf Why.Entry) (sym e) ∙ answered
+  pub scan-end : (x : Option ℕ) → f ≡ foundOf x → f ≡ Nothing → Accepted ≡ answerAt why x
+  scan-end none p e = refl
+  scan-end (some j) p e = let z : _≡_ {A = ℕ} 0 1 = cc in absurd (omega arith)
 
 -- ---- the whole check and the lookup
 

@@ -13,9 +13,9 @@ use Rattle.machine.specs.declared.Action.{Action}
 use Rattle.machine.specs.declared.Entry.{Entry}
 use Rattle.machine.specs.declared.Entry.the-variants.{Undefined, Defined}
 use Rattle.machine.specs.declared.Checked.{Checked}
-use Rattle.machine.specs.declared.Checked.the-variants.{Accepted, Refused}
+use Rattle.machine.specs.declared.Checked.the-variants.{Accepted}
 use Rattle.machine.specs.Layout.{entryCount, dirOf, entryAt, singleOf}
-use Rattle.machine.specs.Check.{demand, checkedOn, tableCheck}
+use Rattle.machine.specs.Check.{demand, checkedOn, filledOn, tableCheck}
 pub use Rattle.entries.specs.Words.{wordOf, wordFor}
 
 -- "undefined is 3"
@@ -62,12 +62,8 @@ packCheck m s room =
     checkedOn (tableCheck m s)
     (demand (eqb (m .tapes) 1) Why.PackedWords (demand (leb (entryCount m) room) Why.OutputSize Accepted))
 
-abbrev pub packedOn : Checked → List ℕ → List ℕ → List ℕ
-packedOn (Refused why) out filled = out
-packedOn Accepted out filled = filled
-
 -- what the output holds afterwards: place i the word of entry i; after a refusal what it held
 unfoldable pub packInto : Machine → List ℕ → List ℕ → List ℕ
 packInto m s out =
-    packedOn (packCheck m s (length out)) out
+    filledOn (packCheck m s (length out)) out
     (fillFrom (wordAt s (m .symbols)) (entryCount m) 0 out)

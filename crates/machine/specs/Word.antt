@@ -1,5 +1,4 @@
 -- The check of an input word: refusals 9 and 10, of 10 the first place. Definitions only.
-use mathlib.Core.Option.{Option, none, some}
 use mathlib.Core.List.{List}
 use Prim.Native.Nat.{ℕ}
 use lib.Dec.{leb}
@@ -7,17 +6,12 @@ use lib.ListN.{length}
 use Rattle.laws.specs.Scan.{firstFail}
 use Rattle.outcome.specs.declared.Refusal.the-variants as Why
 use Rattle.machine.specs.declared.Checked.{Checked}
-use Rattle.machine.specs.declared.Checked.the-variants.{Accepted, Refused}
-use Rattle.machine.specs.Check.{demand}
+use Rattle.machine.specs.Check.{demand, answerAt}
 pub use Rattle.symbol.specs.Kinds.{symbolIn}
-
-abbrev pub symbolAnswer : Option ℕ → Checked
-symbolAnswer none = Accepted
-symbolAnswer (some i) = Refused (Why.WordSymbol i)
 
 -- "10 a word symbol not below k (first place given)"
 unfoldable pub symbolsCheck : (k : ℕ) → List ℕ → Checked
-symbolsCheck k w = symbolAnswer (firstFail (symbolIn k w) (length w) 0)
+symbolsCheck k w = answerAt Why.WordSymbol (firstFail (symbolIn k w) (length w) 0)
 
 -- "9 word over 1,048,576"
 unfoldable pub wordCheck : (k : ℕ) → List ℕ → Checked

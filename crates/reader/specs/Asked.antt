@@ -11,11 +11,12 @@ use lib.Seq.{getD-take, length-take-le}
 use borrow.Author.Tests.{leb-true, ltb-true, lt-ltb, le-leb}
 use Rattle.laws.specs.Tests.{pick-true, pick-cases}
 use Rattle.laws.specs.ScanFacts.{clean-none}
+use Rattle.outcome.specs.declared.Refusal.the-variants as Why
 use Rattle.machine.specs.declared.Machine.{Machine}
 use Rattle.machine.specs.declared.Checked.the-variants.{Accepted}
 use Rattle.machine.specs.Layout.{entryCount}
-use Rattle.machine.specs.Check.{tableCheck}
-use Rattle.machine.specs.Word.{symbolIn, symbolAnswer, symbolsCheck, wordCheck}
+use Rattle.machine.specs.Check.{answerAt, tableCheck}
+use Rattle.machine.specs.Word.{symbolIn, symbolsCheck, wordCheck}
 use Rattle.tables.specs.WellFormed.{LaidOut, WellFormed}
 use Rattle.tables.specs.CheckExact.{table-check-accepts}
 use Rattle.text.specs.Pieces.{sameList, lines}
@@ -178,5 +179,5 @@ module _ (s : List ℕ) (x : Sofar) (e : listing s ≡ asked x) where
   asked-word =
       let k : Kept x = asked-kept s x e in
       pick-true _ _ _ (le-leb (length (x .word)) 1048576 (omega (arith, k .short)))
-      ∙ ap symbolAnswer (clean-none (symbolIn (x .machine .symbols) (x .word)) (length (x .word)) 0
+      ∙ ap (answerAt Why.WordSymbol) (clean-none (symbolIn (x .machine .symbols) (x .word)) (length (x .word)) 0
       (λ i a b. lt-ltb (getD (x .word) i 0) (x .machine .symbols) (k .in-range i (omega arith))))

@@ -1,26 +1,23 @@
 -- What a run keeps of an engine that fits: it fits, its buffers keep their lengths, and its steps rise by the fuel at most. Assumes nothing.
 use mathlib.Core.Path.{_≡_, refl, sym, ap, _∙_}
 use mathlib.Core.Bool.{Bool, true, false}
-use mathlib.Core.Option.{Option}
 use mathlib.Core.List.{List}
-use Prim.Native.Nat.{ℕ, zero, suc, _+_, _*_, _/_, _%_, _≤_, _<_}
+use Prim.Native.Nat.{ℕ, zero, suc, _+_, _*_, _/_, _≤_, _<_}
 use native.Mathlib.Omega.{arith}
-use borrow.Author.Tests.{ltb-true, eqb-true, ne-eqb}
+use borrow.Author.Tests.{ltb-true, eqb-true, lt-ltb}
 use lib.Dec.{ltb, eqb}
 use lib.ListN.{length}
 use Rattle.laws.specs.Choice.{pick, both}
-use Rattle.laws.specs.Scan.{firstFail}
-use Rattle.laws.specs.ScanFacts.{Holds, Scanned, clean, failed, scanned}
-use Rattle.laws.specs.Tests.{both-split, pick-cases, pick-true, pick-false}
+use Rattle.laws.specs.Tests.{both-split, pick-cases}
 use Rattle.symbol.specs.declared.Dir.{Dir}
 use Rattle.machine.specs.declared.Machine.{Machine}
 use Rattle.machine.specs.declared.Action.{Action}
 use Rattle.machine.specs.declared.Entry.{Entry}
 use Rattle.machine.specs.declared.Entry.the-variants.{Undefined, Defined}
 use Rattle.machine.specs.declared.Checked.the-variants.{Accepted}
-use Rattle.machine.specs.Layout.{entryCount, flagAt, byteAt, actionAt, entryAt}
-use Rattle.machine.specs.Check.{tapeOk, definedOk, entryOk, entryAnswer, entriesCheck, tableCheck}
-use Rattle.machine.specs.CheckFacts.{ranges}
+use Rattle.machine.specs.Layout.{entryCount, flagAt, actionAt, entryAt}
+use Rattle.machine.specs.Check.{tableCheck}
+use Rattle.machine.specs.CheckFacts.{ranges, PassedEntry, defined-passed}
 use Rattle.tape.specs.Moves.{Held, held, noTape, roomFor, actOf}
 use Rattle.tape.specs.Fits.{tapeFits}
 use Rattle.tape.specs.FitFacts.{fits-says, fits-holds}
@@ -39,40 +36,21 @@ pub record Lawful (m : Machine) (a : Action) : Type 0 where
   pub write1-in : has1 m ≡ true → a .write1 .0 < m .symbols
   pub write2-in : has2 m ≡ true → a .write2 .0 < m .symbols
 
-write-in : (has : Bool) (k w d : ℕ) → tapeOk has k w d ≡ true → has ≡ true → w < k
-write-in has k w d h e = ltb-true _ _ (sym (pick-true has (ltb w k) (both (eqb w 0) (eqb d 2)) e) ∙ h)
-
 module _ (m : Machine) (s : List ℕ) where
-  all-pass : (x : Option ℕ) → Scanned (entryOk m s) (entryCount m) 0 x → entryAnswer x ≡ Accepted → Holds (entryOk m s) (entryCount m) 0
-  all-pass x (clean f) e = f
-  all-pass x (failed j a b z f) e = let z : _≡_ {A = ℕ} 0 1 = cc in absurd (omega arith)
-
-  defined-lawful : (i : ℕ) → definedOk m s i ≡ true → Lawful m (actionAt s i)
-  unfolding definedOk actionAt
-  defined-lawful i h =
-      let p = both-split h in
-      let a = both-split (p .0) in
-      let b = both-split (a .1) in
-      let w = both-split (p .1) in
-      let x = both-split (w .1) in
-      record {
-        next-in = b .0;
-        write0-in = ltb-true _ _ (w .0);
-        write1-in = write-in (has1 m) (m .symbols) (byteAt s i 4) (byteAt s i 6 / 3 % 3) (x .0);
-        write2-in = write-in (has2 m) (m .symbols) (byteAt s i 5) (byteAt s i 6 / 9 % 3) (x .1);
-      }
+  passed-lawful : (i : ℕ) → PassedEntry m s i → Lawful m (actionAt s i)
+  unfolding actionAt
+  passed-lawful i p = record {
+    next-in = lt-ltb _ _ (p .next-in);
+    write0-in = p .write0-in;
+    write1-in = p .write1-in;
+    write2-in = p .write2-in;
+  }
 
   module _ (accepted : tableCheck m s ≡ Accepted) where
-    passes : Holds (entryOk m s) (entryCount m) 0
-    unfolding entriesCheck
-    passes = all-pass (firstFail (entryOk m s) (entryCount m) 0) (scanned (entryOk m s) (entryCount m) 0) (ranges m s accepted .entries)
-
     inside : (i : ℕ) → i < length s / 8 → flagAt s i ≡ 1 → Lawful m (actionAt s i)
-    unfolding entryOk
     inside i l f =
         let n : length s ≡ 8 * entryCount m = ranges m s accepted .size in
-        let z : eqb (flagAt s i) 0 ≡ false = ne-eqb (flagAt s i) 0 (λ (q : flagAt s i ≡ 0). omega arith) in
-        defined-lawful i (sym (pick-false (eqb (flagAt s i) 0) _ (definedOk m s i) z) ∙ passes i (omega arith) (omega arith))
+        passed-lawful i (defined-passed m s i accepted (omega arith) f)
 
     pub entry-lawful : (i : ℕ) (a : Action) → entryAt s i ≡ Defined a → Lawful m a
     unfolding entryAt

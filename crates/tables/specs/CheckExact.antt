@@ -18,8 +18,8 @@ use Rattle.machine.specs.declared.Machine.{Machine}
 use Rattle.machine.specs.declared.Checked.{Checked}
 use Rattle.machine.specs.declared.Checked.the-variants.{Accepted, Refused}
 use Rattle.machine.specs.Layout.{entryCount}
-use Rattle.machine.specs.Check.{within, demand, entryOk, entryAnswer, entriesCheck, sizeCheck, tableCheck}
-use Rattle.machine.specs.CheckFacts.{within-says, Ranges, ranges}
+use Rattle.machine.specs.Check.{within, demand, answerAt, entryOk, entriesCheck, sizeCheck, tableCheck}
+use Rattle.machine.specs.CheckFacts.{within-says, Ranges, ranges, entry-passed}
 use Rattle.tables.specs.WellFormed.{Bytes, LaidOut, Asked, WellFormed, Lowest, FirstRefusal}
 use Rattle.tables.specs.EntryFacts.{entry-laid, laid-entry}
 
@@ -55,17 +55,13 @@ module _ (m : Machine) (s : List ℕ) where
 
     module _ (some : 1 ≤ m .symbols) where
       scan-refused : ((j : ℕ) → j < 6 → Asked m s j) → (x : Option ℕ) → Scanned (entryOk m s) (entryCount m) 0 x
-          → (r : Refusal) → entryAnswer x ≡ Refused r → FirstRefusal m s r
+          → (r : Refusal) → answerAt Why.Entry x ≡ Refused r → FirstRefusal m s r
       scan-refused before x (clean f) r e = let z : _≡_ {A = ℕ} 0 1 = cc in absurd (omega arith)
       scan-refused before x (failed i a b z f) r e =
           let bad : ¬ (LaidOut m s i) = λ l. clash (laid-entry m s i l) z in
           let low : (j : ℕ) → j < i → LaidOut m s j = λ j h. entry-laid m s j bytes some (f j (omega arith) h) in
           let h : i < entryCount m = omega arith in
           refused (Why.Entry i) (λ all. bad (all i h)) before (h, bad, low) r (cc)
-
-      scan-accepted : (x : Option ℕ) → Scanned (entryOk m s) (entryCount m) 0 x → entryAnswer x ≡ Accepted → (i : ℕ) → i < entryCount m → LaidOut m s i
-      scan-accepted x (clean f) e i h = entry-laid m s i bytes some (f i (omega arith) (omega arith))
-      scan-accepted x (failed j a b z f) e i h = let z : _≡_ {A = ℕ} 0 1 = cc in absurd (omega arith)
 
     -- ---- "the table check, first in every operation that takes one": a refusal is the first that applies
     pub table-check-refuses-first : (r : Refusal) → tableCheck m s ≡ Refused r → FirstRefusal m s r
@@ -97,7 +93,6 @@ module _ (m : Machine) (s : List ℕ) where
 
     -- ---- it accepts exactly the well-formed tables
     pub table-check-accepted : tableCheck m s ≡ Accepted → WellFormed m s
-    unfolding entriesCheck
     table-check-accepted h = all
       where
         g : Ranges m s
@@ -111,7 +106,7 @@ module _ (m : Machine) (s : List ℕ) where
         all (suc (suc (suc (suc zero)))) = g .start-in
         all (suc (suc (suc (suc (suc zero))))) = g .size
         all (suc (suc (suc (suc (suc (suc zero)))))) =
-            scan-accepted (g .symbols-low) _ (scanned (entryOk m s) (entryCount m) 0) (g .entries)
+            λ i l. entry-laid m s i bytes (g .symbols-low) (entry-passed m s i h l)
         all (suc (suc (suc (suc (suc (suc (suc n))))))) = tt
 
   pub table-check-accepts : WellFormed m s → tableCheck m s ≡ Accepted
@@ -122,4 +117,4 @@ module _ (m : Machine) (s : List ℕ) where
       ∙ pick-true _ _ _ (within-holds 1 65536 (m .states) (w 3))
       ∙ pick-true _ _ _ (lt-ltb (m .start) (m .states) (w 4))
       ∙ pick-true _ _ _ (eq-eqb (length s) (8 * entryCount m) (w 5))
-      ∙ ap entryAnswer (clean-none (entryOk m s) (entryCount m) 0 (λ i a b. laid-entry m s i (w 6 i (omega arith))))
+      ∙ ap (answerAt Why.Entry) (clean-none (entryOk m s) (entryCount m) 0 (λ i a b. laid-entry m s i (w 6 i (omega arith))))

@@ -5,12 +5,12 @@ use mathlib.Core.List.{List}
 use Prim.Native.Nat.{ℕ, zero, suc, _+_, _*_, _/_, _%_, _≤_, _<_}
 use native.Mathlib.Nat.{add-zero, add-mul-mod-self-left, mod-eq-of-lt}
 use native.Mathlib.Omega.{arith}
-use borrow.Author.Tests.{ltb-true, ltb-false, eqb-true, lt-ltb, le-ltb, eq-eqb, ne-eqb}
+use borrow.Author.Tests.{ltb-false, eqb-true, lt-ltb, le-ltb, eq-eqb, ne-eqb}
 use lib.Dec.{eqb, ltb}
 use lib.ListN.{getD}
-use Rattle.laws.specs.Choice.{pick, both}
+use Rattle.laws.specs.Choice.{pick}
 use Rattle.laws.specs.Scan.{allIn}
-use Rattle.laws.specs.Tests.{both-split, both-true, by-test, pick-true, pick-false}
+use Rattle.laws.specs.Tests.{both-true, by-test, pick-true, pick-false}
 use Rattle.laws.specs.ScanFacts.{all-says, all-holds}
 use Rattle.symbol.specs.declared.Dir.{Dir}
 use Rattle.symbol.specs.declared.Dir.the-variants.{L, R, N}
@@ -20,7 +20,8 @@ use Rattle.machine.specs.declared.Entry.{Entry}
 use Rattle.machine.specs.declared.Entry.the-variants.{Undefined, Defined}
 use Rattle.machine.specs.PackedFacts.{number-small}
 use Rattle.machine.specs.Layout.{flagAt, byteAt, dirOf, actionAt}
-use Rattle.machine.specs.Check.{zeroAt, tapeOk, definedOk, entryOk}
+use Rattle.machine.specs.Check.{zeroAt, tapeOk, entryOk}
+use Rattle.machine.specs.CheckFacts.{PassedEntry, defined-says}
 use Rattle.symbol.specs.Kinds.{dirNumber}
 use Rattle.tables.specs.WellFormed.{Bytes, entryBytes, ActionOf, EntryOf, LaidOut}
 
@@ -49,9 +50,6 @@ moves-apart d x y z e =
     let k : d ≡ dirNumber x + 3 * (dirNumber y + 3 * dirNumber z) = omega arith in
     (ap (λ (n : ℕ). n % 3) k ∙ add-mul-mod-self-left (dirNumber x) 3 (dirNumber y + 3 * dirNumber z) ∙ mod-eq-of-lt (omega arith), omega arith, omega arith)
 
-two-is-n : (d : ℕ) → d ≡ 2 → dirOf d ≡ N
-two-is-n d e = ap dirOf e ∙ number-move N
-
 -- ---- from a passed check to the layout
 
 eight-zeros : (j : ℕ) → j < 8 → getD (entryBytes Undefined) j 0 ≡ 0
@@ -65,48 +63,14 @@ eight-zeros (suc (suc (suc (suc (suc (suc zero)))))) h = refl
 eight-zeros (suc (suc (suc (suc (suc (suc (suc zero))))))) h = refl
 eight-zeros (suc (suc (suc (suc (suc (suc (suc (suc j)))))))) h = absurd (omega arith)
 
-pub record Passed (m : Machine) (s : List ℕ) (i : ℕ) : Type 0 where
-  pub next-in : byteAt s i 1 + 256 * byteAt s i 2 < m .states
-  pub moves-in : byteAt s i 6 < 27
-  pub last : byteAt s i 7 ≡ 0
-  pub write0-in : byteAt s i 3 < m .symbols
-  pub tape1 : tapeOk (ltb 1 (m .tapes)) (m .symbols) (byteAt s i 4) (byteAt s i 6 / 3 % 3) ≡ true
-  pub tape2 : tapeOk (ltb 2 (m .tapes)) (m .symbols) (byteAt s i 5) (byteAt s i 6 / 9 % 3) ≡ true
-
 pub flag-is : (s : List ℕ) (i : ℕ) → byteAt s i 0 ≡ flagAt s i
 flag-is s i = ap (λ (n : ℕ). getD s n 0) (add-zero (8 * i))
 
 module _ (m : Machine) (s : List ℕ) (i : ℕ) where
-  pub passed : definedOk m s i ≡ true → (flagAt s i ≡ 1) × Passed m s i
-  unfolding definedOk
-  passed h =
-      let p = both-split h in
-      let a = both-split (p .0) in
-      let b = both-split (a .1) in
-      let c = both-split (b .1) in
-      let w = both-split (p .1) in
-      let x = both-split (w .1) in (
-        eqb-true _ _ (a .0),
-        record {
-          next-in = ltb-true _ _ (b .0);
-          moves-in = ltb-true _ _ (c .0);
-          last = eqb-true _ _ (c .1);
-          write0-in = ltb-true _ _ (w .0);
-          tape1 = x .0;
-          tape2 = x .1;
-        },
-      )
-
-  -- a tape of the machine is written a symbol of it; one that it lacks, blank, and it stays
-  tape-write : (has : Bool) (w d : ℕ) → 1 ≤ m .symbols → tapeOk has (m .symbols) w d ≡ true → w < m .symbols
-  unfolding pick
-  tape-write true w d k h = ltb-true _ _ h
-  tape-write false w d k h = omega (arith, eqb-true w 0 (both-split h .0))
-
-  tape-lacks : (t n w d : ℕ) → n ≤ t → tapeOk (ltb t n) (m .symbols) w d ≡ true → (w ≡ 0) × (d ≡ 2)
-  tape-lacks t n w d l h =
-      let g : both (eqb w 0) (eqb d 2) ≡ true = sym (pick-false (ltb t n) (ltb w (m .symbols)) (both (eqb w 0) (eqb d 2)) (le-ltb t n l)) ∙ h in
-      (eqb-true w 0 (both-split g .0), eqb-true d 2 (both-split g .1))
+  -- a write below k, or 0 where the machine lacks the tape, is a symbol
+  write-symbol : {D : Type 0} (has : Bool) (w : ℕ) → 1 ≤ m .symbols → (has ≡ true → w < m .symbols) → (has ≡ false → (w ≡ 0) × D) → w < m .symbols
+  write-symbol true w k f g = f refl
+  write-symbol false w k f g = omega (arith, g refl .0)
 
   module _ (bytes : Bytes s) (some : 1 ≤ m .symbols) where
     moves-are : byteAt s i 6 < 27 → byteAt s i 6 ≡ dirNumber (actionAt s i .dir0) + 3 * dirNumber (actionAt s i .dir1) + 9 * dirNumber (actionAt s i .dir2)
@@ -116,7 +80,7 @@ module _ (m : Machine) (s : List ℕ) (i : ℕ) where
         omega (arith, move-number (d % 3) (omega arith), move-number (d / 3 % 3) (omega arith), move-number (d / 9 % 3) (omega arith))
 
     -- a defined entry that passed holds the bytes of what is read there
-    defined-laid : flagAt s i ≡ 1 → Passed m s i → LaidOut m s i
+    defined-laid : flagAt s i ≡ 1 → PassedEntry m s i → LaidOut m s i
     unfolding actionAt
     defined-laid f p = record { entry = Defined (actionAt s i); of-machine = of-machine; stands = stands }
       where
@@ -124,10 +88,10 @@ module _ (m : Machine) (s : List ℕ) (i : ℕ) where
         of-machine = record {
           next-in = p .next-in;
           write0-in = p .write0-in;
-          write1-in = tape-write (ltb 1 (m .tapes)) (byteAt s i 4) (byteAt s i 6 / 3 % 3) some (p .tape1);
-          write2-in = tape-write (ltb 2 (m .tapes)) (byteAt s i 5) (byteAt s i 6 / 9 % 3) some (p .tape2);
-          lacks1 = λ l. let q = tape-lacks 1 (m .tapes) (byteAt s i 4) (byteAt s i 6 / 3 % 3) (omega arith) (p .tape1) in (q .0, two-is-n _ (q .1));
-          lacks2 = λ l. let q = tape-lacks 2 (m .tapes) (byteAt s i 5) (byteAt s i 6 / 9 % 3) (omega arith) (p .tape2) in (q .0, two-is-n _ (q .1));
+          write1-in = write-symbol (ltb 1 (m .tapes)) (byteAt s i 4) some (p .write1-in) (p .lacks1);
+          write2-in = write-symbol (ltb 2 (m .tapes)) (byteAt s i 5) some (p .write2-in) (p .lacks2);
+          lacks1 = λ l. p .lacks1 (le-ltb 1 (m .tapes) (omega arith));
+          lacks2 = λ l. p .lacks2 (le-ltb 2 (m .tapes) (omega arith));
         }
 
         stands : (j : ℕ) → j < 8 → byteAt s i j ≡ getD (entryBytes (Defined (actionAt s i))) j 0
@@ -152,7 +116,7 @@ module _ (m : Machine) (s : List ℕ) (i : ℕ) where
     unfolding entryOk
     entry-laid h = by-test (eqb (flagAt s i) 0)
         (λ z. undefined-laid (sym (pick-true _ _ _ z) ∙ h))
-        (λ z. let p = passed (sym (pick-false _ _ _ z) ∙ h) in defined-laid (p .0) (p .1))
+        (λ z. let p = defined-says m s i (sym (pick-false _ _ _ z) ∙ h) in defined-laid (p .0) (p .1))
 
   -- ---- and back, from the layout to a passed check
 
@@ -169,7 +133,7 @@ module _ (m : Machine) (s : List ℕ) (i : ℕ) where
       (q .0, e ∙ ap dirNumber (q .1))
 
   laid-defined : (a : Action) → ActionOf m a → ((j : ℕ) → j < 8 → byteAt s i j ≡ getD (entryBytes (Defined a)) j 0) → entryOk m s i ≡ true
-  unfolding entryOk definedOk
+  unfolding entryOk
   laid-defined a o stands =
       let b0 : flagAt s i ≡ 1 = sym (flag-is s i) ∙ stands 0 (omega arith) in
       let b1 : byteAt s i 1 ≡ a .next .0 % 256 = stands 1 (omega arith) in

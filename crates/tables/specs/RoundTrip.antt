@@ -1,16 +1,16 @@
 -- PACKING: "Packing and unpacking a one-tape entry gives the entry", and a packed table holds the word of each entry. Assumes nothing.
 use mathlib.Core.Path.{_≡_, refl, sym, ap, _∙_}
 use mathlib.Core.List.{List}
-use Prim.Native.Nat.{ℕ, _*_, _%_, _^_, _≤_, _<_}
+use Prim.Native.Nat.{ℕ, _*_, _^_, _≤_, _<_}
 use native.Mathlib.Nat.{mul-le-mul}
 use native.Mathlib.Omega.{arith}
-use borrow.Author.Tests.{lt-ltb, le-leb, ne-eqb, eq-eqb}
+use borrow.Author.Tests.{le-leb, ne-eqb, eq-eqb}
 use lib.Dec.{eqb}
 use lib.ListN.{length, getD}
 use Rattle.laws.specs.Choice.{pick}
 use Rattle.laws.specs.FillFacts.{fill-in, fill-past}
 use Rattle.laws.specs.Tests.{pick-true, pick-false}
-use Rattle.symbol.specs.Kinds.{symbolOf, stateOf, dirNumber}
+use Rattle.symbol.specs.Kinds.{symbolOf, stateOf}
 use Rattle.symbol.specs.declared.Dir.the-variants.{R}
 use Rattle.machine.specs.declared.Machine.{Machine}
 use Rattle.machine.specs.declared.Action.{Action}

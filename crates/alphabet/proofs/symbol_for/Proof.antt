@@ -6,7 +6,7 @@ use lib.ListN.{length}
 use native.Mathlib.Nat.{sub-zero}
 use native.Mathlib.Omega.{arith}
 use mathlib.Core.Path.{_≡_}
-use Prim.Native.Nat.{_-_, _≤_, min}
+use Prim.Native.Nat.{_-_, min}
 use Rattle.alphabet.proofs.symbol_for.Statement.{statement}
 use Rattle.alphabet.proofs.symbol_for.Tie as tie
 

@@ -1,3 +1,5 @@
+use Rattle.outcome.specs.declared.Refusal.the-variants as Why
+use Rattle.machine.specs.Check.{entryOk, entriesCheck}
 use Rattle.machine.specs.CheckCases.{scan-bad, scan-end}
 use borrow.Author.Needs.{needs}
 use Rattle.machine.proofs.checks.check_entries.Statement.{statement}
@@ -13,10 +15,12 @@ enum-told : tie.Need-enum-told
 enum-told c = search needs
 
 returns : tie.Need-returns
-returns c = search scan-bad
+unfolding entriesCheck entryOk
+returns c = search (scan-bad Why.Entry)
 
 returns-2 : tie.Need-returns-2
-returns-2 c = search scan-end
+unfolding entriesCheck entryOk
+returns-2 c = search (scan-end Why.Entry)
 
 pub check-entries-spec : {M : Type 1} → statement M
 check-entries-spec =

@@ -1,4 +1,6 @@
-use Rattle.machine.specs.WordFacts.{symbol-over, symbols-end}
+use Rattle.outcome.specs.declared.Refusal.the-variants as Why
+use Rattle.machine.specs.Word.{symbolsCheck}
+use Rattle.machine.specs.CheckCases.{scan-bad, scan-end}
 use borrow.Author.Needs.{needs}
 use Rattle.machine.proofs.word.check_symbols.Statement.{statement}
 use Rattle.machine.proofs.word.check_symbols.Tie as tie
@@ -13,10 +15,12 @@ enum-told : tie.Need-enum-told
 enum-told c = search needs
 
 returns : tie.Need-returns
-returns c = search symbol-over
+unfolding symbolsCheck
+returns c = search (scan-bad Why.WordSymbol)
 
 returns-2 : tie.Need-returns-2
-returns-2 c = search symbols-end
+unfolding symbolsCheck
+returns-2 c = search (scan-end Why.WordSymbol)
 
 pub check-symbols-spec : {M : Type 1} → statement M
 check-symbols-spec =
