@@ -2,6 +2,7 @@
 use mathlib.Core.Path.{_≡_, refl, _∙_}
 use mathlib.Core.List.{List}
 use Prim.Native.Nat.{ℕ, _+_, _-_, _≤_, _<_}
+use native.Mathlib.Decide.{decLt}
 use native.Mathlib.Omega.{arith}
 use lib.ListN.{length, getD}
 use Rattle.laws.specs.FillFacts.{length-fill, fill-before, fill-past, fill-in}
@@ -90,6 +91,12 @@ module _ (w c : List ℕ) where
 
 -- ---- growth by n cells
 
+-- cell i of the grown tape g is the cell of h at the same position, or a new blank below or past the cells of h
+pub data GrownCell (h g : Held) (i : ℕ) : Type 0 where
+  old : (j : ℕ) → j < h .tape .len → i + h .tape .origin ≡ j + g .tape .origin → getD (g .cells) i 0 ≡ getD (h .cells) j 0 → GrownCell h g i
+  new-low : i + h .tape .origin < g .tape .origin → getD (g .cells) i 0 ≡ 0 → GrownCell h g i
+  new-high : h .tape .len + g .tape .origin ≤ i + h .tape .origin → getD (g .cells) i 0 ≡ 0 → GrownCell h g i
+
 module _ (n : ℕ) (h : Held) where
   pub length-grown : (d : Dir) → length (grownBy n h d .cells) ≡ length (h .cells)
   unfolding grownBy
@@ -97,22 +104,21 @@ module _ (n : ℕ) (h : Held) where
   length-grown R = length-blanked _ _ _
   length-grown N = refl
 
-  module _ (fits : h .tape .len + n ≤ length (h .cells)) where
-    pub left-new : (i : ℕ) → i < n → getD (grownBy n h L .cells) i 0 ≡ 0
-    unfolding grownBy
-    left-new i a = blanked-in _ _ _ i (omega arith) a (omega (arith, length-moved-up n (h .tape .len) (h .cells)))
-
-    pub left-old : (i : ℕ) → n ≤ i → i < h .tape .len + n → getD (grownBy n h L .cells) i 0 ≡ getD (h .cells) (i - n) 0
-    unfolding grownBy
-    left-old i a b = blanked-past _ _ _ i (omega arith) a ∙ moved-up-in n (h .tape .len) (h .cells) i a (omega arith) (omega arith)
-
-    pub right-new : (i : ℕ) → h .tape .len ≤ i → i < h .tape .len + n → getD (grownBy n h R .cells) i 0 ≡ 0
-    unfolding grownBy
-    right-new i a b = blanked-in _ _ _ i a b fits
-
-  pub right-old : (i : ℕ) → i < h .tape .len → getD (grownBy n h R .cells) i 0 ≡ getD (h .cells) i 0
+  pub grown-holds : h .tape .len + n ≤ length (h .cells) → (d : Dir) (i : ℕ) → i < grownBy n h d .tape .len → GrownCell h (grownBy n h d) i
   unfolding grownBy
-  right-old i a = blanked-before _ _ _ i a
+  grown-holds fits L i b = by (decLt i n)
+    where
+      by : Dec (i < n) → GrownCell h (grownBy n h L) i
+      by (yes q) = new-low (omega arith) (blanked-in _ _ _ i (omega arith) q (omega (arith, length-moved-up n (h .tape .len) (h .cells))))
+      by (no q) =
+          let a : n ≤ i = omega arith in
+          old (i - n) (omega arith) (omega arith) (blanked-past _ _ _ i (omega arith) a ∙ moved-up-in n (h .tape .len) (h .cells) i a (omega arith) (omega arith))
+  grown-holds fits R i b = by (decLt i (h .tape .len))
+    where
+      by : Dec (i < h .tape .len) → GrownCell h (grownBy n h R) i
+      by (yes q) = old i q refl (blanked-before _ _ _ i q)
+      by (no q) = new-high (omega arith) (blanked-in _ _ _ i (omega arith) b fits)
+  grown-holds fits N i b = old i b refl refl
 
   pub grown-past : (d : Dir) (i : ℕ) → h .tape .len + n ≤ i → getD (grownBy n h d .cells) i 0 ≡ getD (h .cells) i 0
   unfolding grownBy

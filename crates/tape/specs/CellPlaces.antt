@@ -1,5 +1,5 @@
 -- A cell by its position: where a position lies among a tape's cells, what stands there, and that a growth cannot be seen. Assumes nothing.
-use mathlib.Core.Path.{_≡_, refl, sym, ap, _∙_}
+use mathlib.Core.Path.{_≡_, sym, ap, _∙_}
 use mathlib.Core.List.{List}
 use Prim.Native.Nat.{ℕ, _+_, _-_, _≤_, _<_}
 use native.Mathlib.Decide.{decLt}
@@ -14,7 +14,7 @@ use Rattle.symbol.specs.declared.Dir.{Dir}
 use Rattle.symbol.specs.declared.Dir.the-variants.{L, R, N}
 use Rattle.tape.specs.Moves.{Held, grownBy}
 use Rattle.tape.specs.Questions.{cellAt, cellOf}
-use Rattle.tape.specs.CellFacts.{left-new, left-old, right-new, right-old}
+use Rattle.tape.specs.CellFacts.{GrownCell, old, new-low, new-high, grown-holds}
 
 -- where position z lies among len cells of which number o is position 0
 pub data Place (o len : ℕ) (z : ℤ) : Type 0 where
@@ -49,35 +49,23 @@ cell-of-index o len c i h = cell-in o len c (i ⊖ o) i h (omega (arith, diff-�
 
 -- ---- a growth cannot be seen
 
-module _ (n : ℕ) (h : Held) (room : h .tape .len + n ≤ length (h .cells)) (z : ℤ) where
-  grown-left-cell : cellOf (grownBy n h L) z ≡ cellOf h z
-  unfolding grownBy
-  grown-left-cell = by (place (h .tape .origin + n) (h .tape .len + n) z)
-    where
-      at : (j : ℕ) → j < h .tape .len + n → up z + (h .tape .origin + n) ≡ j + dn z → Dec (j < n) → cellOf (grownBy n h L) z ≡ cellOf h z
-      at j b e (yes q) = cell-in _ _ _ z j b e ∙ left-new n h room j q ∙ sym (cell-below _ _ _ z (omega arith))
-      at j b e (no q) = cell-in _ _ _ z j b e ∙ left-old n h room j (omega arith) b ∙ sym (cell-in _ _ _ z (j - n) (omega arith) (omega arith))
+-- on no side is there less of the tape than before
+grown-wide : (n : ℕ) (h : Held) (d : Dir) → (h .tape .origin ≤ grownBy n h d .tape .origin) × (h .tape .len + grownBy n h d .tape .origin ≤ grownBy n h d .tape .len + h .tape .origin)
+unfolding grownBy
+grown-wide n h L = (omega arith, omega arith)
+grown-wide n h R = (omega arith, omega arith)
+grown-wide n h N = (omega arith, omega arith)
 
-      by : Place (h .tape .origin + n) (h .tape .len + n) z → cellOf (grownBy n h L) z ≡ cellOf h z
-      by (below b) = cell-below _ _ _ z b ∙ sym (cell-below _ _ _ z (omega arith))
-      by (past b) = cell-past _ _ _ z b ∙ sym (cell-past _ _ _ z (omega arith))
-      by (inside j b e) = at j b e (decLt j n)
+pub grown-cell : (n : ℕ) (h : Held) → h .tape .len + n ≤ length (h .cells) → (z : ℤ) (d : Dir) → cellOf (grownBy n h d) z ≡ cellOf h z
+grown-cell n h room z d = by (grown-wide n h d) (place (grownBy n h d .tape .origin) (grownBy n h d .tape .len) z)
+  where
+    at : (j : ℕ) → j < grownBy n h d .tape .len → up z + grownBy n h d .tape .origin ≡ j + dn z → GrownCell h (grownBy n h d) j → cellOf (grownBy n h d) z ≡ cellOf h z
+    at j b e (old k l p q) = cell-in _ _ _ z j b e ∙ q ∙ sym (cell-in _ _ _ z k l (omega arith))
+    at j b e (new-low p q) = cell-in _ _ _ z j b e ∙ q ∙ sym (cell-below _ _ _ z (omega arith))
+    at j b e (new-high p q) = cell-in _ _ _ z j b e ∙ q ∙ sym (cell-past _ _ _ z (omega arith))
 
-  grown-right-cell : cellOf (grownBy n h R) z ≡ cellOf h z
-  unfolding grownBy
-  grown-right-cell = by (place (h .tape .origin) (h .tape .len + n) z)
-    where
-      at : (j : ℕ) → j < h .tape .len + n → up z + h .tape .origin ≡ j + dn z → Dec (j < h .tape .len) → cellOf (grownBy n h R) z ≡ cellOf h z
-      at j b e (yes q) = cell-in _ _ _ z j b e ∙ right-old n h j q ∙ sym (cell-in _ _ _ z j q e)
-      at j b e (no q) = cell-in _ _ _ z j b e ∙ right-new n h room j (omega arith) b ∙ sym (cell-past _ _ _ z (omega arith))
-
-      by : Place (h .tape .origin) (h .tape .len + n) z → cellOf (grownBy n h R) z ≡ cellOf h z
-      by (below b) = cell-below _ _ _ z b ∙ sym (cell-below _ _ _ z b)
-      by (past b) = cell-past _ _ _ z b ∙ sym (cell-past _ _ _ z (omega arith))
-      by (inside j b e) = at j b e (decLt j (h .tape .len))
-
-  pub grown-cell : (d : Dir) → cellOf (grownBy n h d) z ≡ cellOf h z
-  unfolding grownBy
-  grown-cell L = grown-left-cell
-  grown-cell R = grown-right-cell
-  grown-cell N = refl
+    by : (h .tape .origin ≤ grownBy n h d .tape .origin) × (h .tape .len + grownBy n h d .tape .origin ≤ grownBy n h d .tape .len + h .tape .origin)
+        → Place (grownBy n h d .tape .origin) (grownBy n h d .tape .len) z → cellOf (grownBy n h d) z ≡ cellOf h z
+    by w (below b) = cell-below _ _ _ z b ∙ sym (cell-below _ _ _ z (omega arith))
+    by w (past b) = cell-past _ _ _ z b ∙ sym (cell-past _ _ _ z (omega arith))
+    by w (inside j b e) = at j b e (grown-holds n h room d j b)

@@ -1,5 +1,5 @@
 -- What a fresh tape has, and what a write and a move keep: the buffer's length, what the functions assume, and what fits. Assumes nothing.
-use mathlib.Core.Path.{_≡_, refl, sym, ap, _∙_, subst⁻¹}
+use mathlib.Core.Path.{_≡_, refl, sym, _∙_}
 use mathlib.Core.Bool.{true, false}
 use mathlib.Core.List.{List}
 use Prim.Native.Nat.{ℕ, _+_, _-_, _≤_, _<_}
@@ -18,9 +18,9 @@ use Rattle.tape.specs.Growth.{extra}
 use Rattle.tape.specs.GrowthFacts.{extra-room, extra-within}
 use Rattle.tape.specs.Moves.{Held, held, freshOf, noTape, readOf, writeOf, leaves, roomFor, grownBy, growOf, shiftOf, shifted, moveOf, actOf}
 use Rattle.tape.specs.Fits.{tapeFits, TapeOk, TapeSafe}
-use Rattle.tape.specs.FitFacts.{TapeFits, fits-says, fits-holds, fits-ok}
+use Rattle.tape.specs.FitFacts.{TapeFits, fits-says, fits-ok}
 use Rattle.tape.specs.MoveCases.{room-says, grown-stays}
-use Rattle.tape.specs.CellFacts.{length-fresh, fresh-low, fresh-word, fresh-high, length-grown, left-new, left-old, right-new, right-old}
+use Rattle.tape.specs.CellFacts.{length-fresh, fresh-low, fresh-word, fresh-high, length-grown, GrownCell, old, new-low, new-high, grown-holds}
 
 -- of the numbers and the buffer together
 abbrev pub HeldOk : Held → Type 0
@@ -154,9 +154,17 @@ module _ (k n : ℕ) (h : Held) (f : HeldFits k h) (room : h .tape .len + n ≤ 
   some-symbol : 1 ≤ k
   some-symbol = omega (arith, f .symbols 0 (omega arith))
 
-  left-fits : HeldFits k (grownBy n h L)
+  grown-symbols : (d : Dir) (i : ℕ) → i < grownBy n h d .tape .len → getD (grownBy n h d .cells) i 0 < k
+  grown-symbols d i b = by (grown-holds n h room d i b)
+    where
+      by : GrownCell h (grownBy n h d) i → getD (grownBy n h d .cells) i 0 < k
+      by (old j l p q) = rw q (f .symbols j l)
+      by (new-low p q) = rw q some-symbol
+      by (new-high p q) = rw q some-symbol
+
+  grown-fits : (d : Dir) → HeldFits k (grownBy n h d)
   unfolding grownBy
-  left-fits = record {
+  grown-fits L = record {
     least = omega arith;
     most = omega (arith, length-grown n h L);
     head-in = omega arith;
@@ -164,16 +172,9 @@ module _ (k n : ℕ) (h : Held) (f : HeldFits k h) (room : h .tape .len + n ≤ 
     low-head = omega arith;
     head-high = omega arith;
     high-in = omega arith;
-    symbols = λ i a. at i a (decLt i n);
+    symbols = grown-symbols L;
   }
-    where
-      at : (i : ℕ) → i < h .tape .len + n → Dec (i < n) → getD (grownBy n h L .cells) i 0 < k
-      at i a (yes q) = rw (left-new n h room i q) some-symbol
-      at i a (no q) = rw (left-old n h room i (omega arith) a) (f .symbols (i - n) (omega arith))
-
-  right-fits : HeldFits k (grownBy n h R)
-  unfolding grownBy
-  right-fits = record {
+  grown-fits R = record {
     least = omega arith;
     most = omega (arith, length-grown n h R);
     head-in = omega arith;
@@ -181,17 +182,8 @@ module _ (k n : ℕ) (h : Held) (f : HeldFits k h) (room : h .tape .len + n ≤ 
     low-head = omega arith;
     head-high = omega arith;
     high-in = omega arith;
-    symbols = λ i a. at i a (decLt i (h .tape .len));
+    symbols = grown-symbols R;
   }
-    where
-      at : (i : ℕ) → i < h .tape .len + n → Dec (i < h .tape .len) → getD (grownBy n h R .cells) i 0 < k
-      at i a (yes q) = rw (right-old n h i q) (f .symbols i q)
-      at i a (no q) = rw (right-new n h room i (omega arith) a) some-symbol
-
-  grown-fits : (d : Dir) → HeldFits k (grownBy n h d)
-  unfolding grownBy
-  grown-fits L = left-fits
-  grown-fits R = right-fits
   grown-fits N = f
 
 shift-fits : (k : ℕ) (t : Tape) (c : List ℕ) (d : Dir) → TapeFits k t c → leaves t d ≡ false → TapeFits k (shiftOf t d) c
