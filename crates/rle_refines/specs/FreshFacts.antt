@@ -16,7 +16,7 @@ use Rattle.laws.specs.PositionFacts.{ints, diff-⊖}
 use Rattle.laws.specs.Tests.{by-test, pick-cases, pick-true, pick-false}
 use Rattle.machine.specs.declared.Machine.{Machine}
 use Rattle.turing.specs.TableMachine.{wordCell, startTape, start}
-use Rattle.turing.specs.NeverFacts.{tape-≡}
+use Rattle.turing.specs.TapeFacts.{tape-≡}
 use Rattle.stacks.specs.Sides.{Side, side, placesOf, topOf, grownOf, pushOf, cellsOf, sumOf, symbolUnder}
 use Rattle.rle.specs.Engine.{Conf, conf}
 use Rattle.rle.specs.Fits.{zeroAt}

@@ -17,7 +17,8 @@ use Rattle.turing.specs.TableMachine.{run, Halted, halts}
 use Rattle.turing.specs.Tables.{tableOf, TableOf}
 use Rattle.turing.specs.RunFacts.{run-add}
 use Rattle.turing.specs.VerdictFacts.{verdict-unique}
-use Rattle.turing.specs.NeverFacts.{Bare, never-sound-bare}
+use Rattle.turing.specs.TapeFacts.{Bare}
+use Rattle.turing.specs.NeverFacts.{never-sound-bare}
 use Rattle.turing.specs.TableFacts.{accepted-table}
 use Rattle.sim.specs.declared.StopRule.{StopRule}
 use Rattle.sim.specs.Engine.{Task, task}

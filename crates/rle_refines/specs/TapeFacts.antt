@@ -10,7 +10,7 @@ use Rattle.laws.specs.Tests.{clash, pick-cases}
 use Rattle.symbol.specs.declared.Dir.{Dir}
 use Rattle.symbol.specs.declared.Dir.the-variants.{L, R, N}
 use Rattle.turing.specs.TableMachine.{Tape, readT, put, update, Sideways, Beyond}
-use Rattle.turing.specs.NeverFacts.{tape-≡}
+use Rattle.turing.specs.TapeFacts.{tape-≡}
 use Rattle.rle_refines.specs.Meaning.{Stream, blanks, cons, tail, distance, look, tapeAround}
 
 -- ---- the smaller and the larger of two raised positions

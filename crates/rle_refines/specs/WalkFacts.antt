@@ -11,7 +11,7 @@ use Rattle.tables.specs.WellFormed.{ActionOf}
 use Rattle.turing.specs.TableMachine.{Table, Tape, Config, readT, update, blankTape, entry, step, run, Sideways}
 use Rattle.turing.specs.Tables.{TableOf}
 use Rattle.turing.specs.RunFacts.{step-act}
-use Rattle.turing.specs.NeverFacts.{blank-stays}
+use Rattle.turing.specs.TapeFacts.{blank-stays}
 use Rattle.rle_refines.specs.Meaning.{Stream, cons, tail, prepend, tapeAround}
 use Rattle.rle_refines.specs.StackFacts.{prepend-cons}
 use Rattle.rle_refines.specs.TapeFacts.{facing, onward, arrived, read-around, update-facing, update-still}

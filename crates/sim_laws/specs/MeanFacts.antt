@@ -7,7 +7,7 @@ use lib.IntN.{ℤ}
 use lib.ListN.{length, take, getD}
 use lib.Seq.{getD-take}
 use Rattle.machine.specs.declared.Machine.{Machine}
-use Rattle.turing.specs.NeverFacts.{tape-≡}
+use Rattle.turing.specs.TapeFacts.{tape-≡}
 use Rattle.tape.specs.declared.Tape.{Tape}
 use Rattle.tape.specs.Moves.{Held, held}
 use Rattle.tape.specs.Questions.{cellOf}

@@ -16,7 +16,7 @@ use Rattle.machine.specs.declared.Entry.the-variants.{Defined}
 use Rattle.tables.specs.WellFormed.{ActionOf}
 use Rattle.turing.specs.TableMachine.{blankTape, readT, update, entry, act}
 use Rattle.turing.specs.Tables.{tableOf, TableOf}
-use Rattle.turing.specs.NeverFacts.{Bare, blank-stays}
+use Rattle.turing.specs.TapeFacts.{Bare, blank-stays}
 use Rattle.tape.specs.Moves.{Held, held, noTape, readOf, roomFor, actOf}
 use Rattle.tape.specs.MoveFacts.{none-reads, none-acts, act-fits, length-act}
 use Rattle.sim.specs.Engine.{Conf, tape0, tape1, tape2, entryOf, roomyOf, stepOf}

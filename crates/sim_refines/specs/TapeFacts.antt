@@ -19,7 +19,7 @@ use Rattle.symbol.specs.Kinds.{dirNumber}
 use Rattle.symbol.specs.declared.Dir.{Dir}
 use Rattle.symbol.specs.declared.Dir.the-variants.{L, R, N}
 use Rattle.turing.specs.TableMachine.{readT, put, writeT, moveT, update, wordCell, startTape, Sideways, Beyond}
-use Rattle.turing.specs.NeverFacts.{put-same, put-other, tape-≡}
+use Rattle.turing.specs.TapeFacts.{put-same, put-other, tape-≡}
 use Rattle.tape.specs.Growth.{extra}
 use Rattle.tape.specs.GrowthFacts.{extra-room}
 use Rattle.tape.specs.Moves.{Held, freshOf, readOf, writeOf, leaves, roomFor, grownBy, growOf, shiftOf, shifted, moveOf, actOf}

@@ -10,7 +10,8 @@ use Rattle.turing.specs.TableMachine.{Table, Config, step, run, Halted, Verdict
 use Rattle.turing.specs.Tables.{tableOf, TableOf}
 use Rattle.turing.specs.RunFacts.{run-suc, step-halted, step-steps, dec-halted}
 use Rattle.turing.specs.VerdictFacts.{verdict-unique}
-use Rattle.turing.specs.NeverFacts.{Bare, bare-start, bare-step, never-sound-bare}
+use Rattle.turing.specs.TapeFacts.{Bare, bare-start, bare-step}
+use Rattle.turing.specs.NeverFacts.{never-sound-bare}
 use Rattle.timeline.specs.Automaton.{Automaton, Start, iterate}
 
 abbrev pub IsFull : Outcome → Type 0

@@ -2,5 +2,6 @@ pub mod TableMachine
 pub mod Tables
 pub mod RunFacts
 pub mod VerdictFacts
+pub mod TapeFacts
 pub mod NeverFacts
 pub mod TableFacts
