@@ -1,7 +1,6 @@
 // The machine's numbers, its table of eight-byte entries, the table check, and packed words.
 use entries::inner as bytes;
 use outcome::Refusal;
-use packed::Packed;
 use symbol::Dir;
 use symbol::State;
 use symbol::Symbol;

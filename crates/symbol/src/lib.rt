@@ -1,7 +1,6 @@
 // Tape symbols, states and head moves.
 ghost use mathlib.Core.Path.{_≡_};
 ghost use Prim.Native.Nat.{_≤_};
-ghost use mathlib.Core.Bool.{Bool};
 ghost use lib.Dec.{eqb};
 ghost use Rattle.symbol.specs.Kinds.{symbolOf, stateOf, dirNumber, deltaOf, reversedOf};
 

@@ -4,7 +4,6 @@ use symbol::position;
 use symbol::position::Found;
 ghost use mathlib.Core.Path.{_≡_};
 ghost use Prim.Native.Nat.{_+_, _≤_, _^_};
-ghost use lib.ListN.{length};
 ghost use Rattle.cells.specs.Loops.{reach};
 ghost use Rattle.views.specs.Views.{Shown, cellAt, raisedAt, windowFrom, windowAt, cellsBelow, lastUpTo, firstFrom};
 
