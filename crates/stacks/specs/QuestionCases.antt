@@ -9,7 +9,7 @@ use lib.ListN.{getD}
 use Rattle.laws.specs.Choice.{pick}
 use Rattle.laws.specs.Tests.{pick-true, pick-false}
 use Rattle.stacks.specs.Sides.{side, symbolUnder, sumOf, symbolIn, weightAt, weightOf, nearOf}
-use Rattle.stacks.specs.SideFacts.{sum-last, sum-more, sum-next}
+use Rattle.stacks.specs.SideFacts.{sum-part, sum-last, sum-next}
 
 -- ---- the symbol at a distance
 
@@ -60,12 +60,6 @@ pub written-next : (ss ls : List ℕ) (i sum w : ℕ) → (sum ≡ weightOf ss l
 written-next ss ls i sum w p q =
     let e : i + 1 ≡ suc i = omega arith in
     (omega (arith, p .0, q .0, ap (weightOf ss ls) e, weight-suc ss ls i), omega (arith, p .1, q .1, sum-next i (sumOf ls i) ls refl))
-
--- a sum of some runs is no more than that of all
-pub sum-part : (ls : List ℕ) (i n : ℕ) → i ≤ n → sumOf ls i ≤ sumOf ls n
-sum-part ls i n h =
-    let e : i + (n - i) ≡ n = omega arith in
-    omega (arith, sum-more i (n - i) ls, ap (sumOf ls) e)
 
 -- with one more run the sum is still a part
 pub written-room : (ss ls : List ℕ) (i n sum w : ℕ) → (sum ≡ weightOf ss ls i) × (sum ≤ sumOf ls i) → (w ≡ weightAt ss ls i) × (w ≤ getD ls i 0) → i < n → sum + w ≤ sumOf ls n

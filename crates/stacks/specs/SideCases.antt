@@ -1,8 +1,8 @@
 -- What the operations of one side do, a lemma for each return. Assumes nothing.
-use mathlib.Core.Path.{_≡_, refl, sym, _∙_, ap}
+use mathlib.Core.Path.{_≡_, sym, _∙_, ap}
 use mathlib.Core.Bool.{false, not}
 use mathlib.Core.List.{List}
-use Prim.Native.Nat.{ℕ, zero, suc, _+_, _-_, _≤_, _<_}
+use Prim.Native.Nat.{ℕ, _+_, _-_, _≤_, _<_}
 use native.Mathlib.Omega.{arith}
 use borrow.Author.Tests.{leb-false, lt-ltb, le-ltb, eq-eqb, ne-eqb}
 use lib.Dec.{eqb, leb}
@@ -56,18 +56,14 @@ take-part n k m ss ls h e z = simp (ne-eqb k 0 h, ← e, ne-eqb m 0 z)
 
 -- ---- the test of one run
 
-above : (n : ℕ) → (n ≡ 0 → ⊥) → 0 < n
-above zero e = absurd (e refl)
-above (suc n) e = omega arith
-
 pub run-empty : (k i : ℕ) (ss ls : List ℕ) → getD ls i 0 ≡ 0 → false ≡ runFits k ss ls i
 unfolding runFits both
 run-empty k i ss ls e = simp (le-ltb 0 (getD ls i 0) (omega arith))
 
 pub run-over : (k i s : ℕ) (ss ls : List ℕ) → s ≡ getD ss i 0 → (getD ls i 0 ≡ 0 → ⊥) → k ≤ s → false ≡ runFits k ss ls i
 unfolding runFits both
-run-over k i s ss ls q e h = simp (lt-ltb 0 (getD ls i 0) (above _ e), le-ltb (getD ss i 0) k (omega arith))
+run-over k i s ss ls q e h = simp (lt-ltb 0 (getD ls i 0) (omega arith), le-ltb (getD ss i 0) k (omega arith))
 
 pub run-rest : (k i s t : ℕ) (ss ls : List ℕ) → s ≡ getD ss i 0 → t ≡ symbolUnder ss i → (getD ls i 0 ≡ 0 → ⊥) → s < k → not (eqb (getD ss i 0) t) ≡ runFits k ss ls i
 unfolding runFits both
-run-rest k i s t ss ls q u e h = simp (lt-ltb 0 (getD ls i 0) (above _ e), lt-ltb (getD ss i 0) k (omega arith), u)
+run-rest k i s t ss ls q u e h = simp (lt-ltb 0 (getD ls i 0) (omega arith), lt-ltb (getD ss i 0) k (omega arith), u)

@@ -1,27 +1,28 @@
--- What the operations of one side keep: the number of places, live runs within them, and how many cells there are. Assumes nothing.
+-- Sums of lengths, and what the operations of one side keep: the number of places, live runs within them, and how many cells there are. Assumes nothing.
 use mathlib.Core.Path.{_≡_, refl, sym, _∙_, ap, ap₂}
 use mathlib.Core.Logic.{_⊎_, inl, inr}
 use mathlib.Core.Bool.{false}
 use mathlib.Core.List.{List}
 use Prim.Native.Nat.{ℕ, zero, suc, _+_, _-_, _≤_, _<_, min}
 use native.Mathlib.Omega.{arith}
-use borrow.Author.Tests.{eqb-false}
+use borrow.Author.Tests.{ne-eqb, eqb-true, eqb-false}
 use lib.Dec.{eqb}
 use lib.ListN.{length, getD, set, length-set}
 use lib.Seq.{getD-set-same, getD-set-other}
-use Rattle.laws.specs.Tests.{pick-cases}
-use Rattle.stacks.specs.Sides.{Side, side, topOf, aheadOf, grownOf, pushOf, lacks, takeOf, sumOf, cellsOf}
+use Rattle.laws.specs.Choice.{pick}
+use Rattle.laws.specs.Tests.{by-test, pick-cases, pick-true, pick-false}
+use Rattle.stacks.specs.Sides.{Side, side, placesOf, symbolUnder, topOf, aheadOf, grownOf, pushOf, lacks, takeOf, sumOf, cellsOf}
 use Rattle.stacks.specs.SideCases.{has-place}
 
 -- ---- sums
 
 -- a length at or past n is not among the first n
-pub sum-past : (n j m : ℕ) (ls : List ℕ) → n ≤ j → sumOf (set ls j m) n ≡ sumOf ls n
+sum-past : (n j m : ℕ) (ls : List ℕ) → n ≤ j → sumOf (set ls j m) n ≡ sumOf ls n
 unfolding sumOf
 sum-past zero j m ls h = refl
 sum-past (suc n) j m ls h = ap₂ (λ (a b : ℕ). a + b) (sum-past n j m ls (omega arith)) (getD-set-other ls j n m 0 (omega arith))
 
-pub sum-top : (n m : ℕ) (ls : List ℕ) → n < length ls → sumOf (set ls n m) (suc n) ≡ sumOf ls n + m
+sum-top : (n m : ℕ) (ls : List ℕ) → n < length ls → sumOf (set ls n m) (suc n) ≡ sumOf ls n + m
 unfolding sumOf
 sum-top n m ls h = ap₂ (λ (a b : ℕ). a + b) (sum-past n n m ls (omega arith)) (getD-set-same ls n m 0 h)
 
@@ -29,11 +30,17 @@ sum-suc : (n : ℕ) (ls : List ℕ) → sumOf ls (suc n) ≡ sumOf ls n + getD l
 unfolding sumOf
 sum-suc n ls = refl
 
-pub sum-more : (n d : ℕ) (ls : List ℕ) → sumOf ls n ≤ sumOf ls (n + d)
+sum-more : (n d : ℕ) (ls : List ℕ) → sumOf ls n ≤ sumOf ls (n + d)
 sum-more n zero ls = let e : n + 0 ≡ n = omega arith in omega (arith, ap (sumOf ls) e)
 sum-more n (suc d) ls =
     let e : n + suc d ≡ suc (n + d) = omega arith in
     omega (arith, ap (sumOf ls) e, sum-suc (n + d) ls, sum-more n d ls)
+
+-- a sum of some runs is no more than that of all
+pub sum-part : (ls : List ℕ) (i n : ℕ) → i ≤ n → sumOf ls i ≤ sumOf ls n
+sum-part ls i n h =
+    let e : i + (n - i) ≡ n = omega arith in
+    omega (arith, sum-more i (n - i) ls, ap (sumOf ls) e)
 
 -- the top run's length is part of the sum, in the code's form: index n − 1 where n is not 0
 pub sum-last : (n : ℕ) (ls : List ℕ) → (n ≡ 0 → ⊥) → sumOf ls n ≡ sumOf ls (n - 1) + getD ls (n - 1) 0
@@ -42,11 +49,32 @@ sum-last (suc n) ls h =
     let e : suc n - 1 ≡ n = omega arith in
     sum-suc n ls ∙ sym (ap₂ (λ (a b : ℕ). a + b) (ap (sumOf ls) e) (ap (λ (i : ℕ). getD ls i 0) e))
 
-pub sum-reset : (n m : ℕ) (ls : List ℕ) → (n ≡ 0 → ⊥) → n ≤ length ls → sumOf (set ls (n - 1) m) n ≡ sumOf ls (n - 1) + m
+sum-reset : (n m : ℕ) (ls : List ℕ) → (n ≡ 0 → ⊥) → n ≤ length ls → sumOf (set ls (n - 1) m) n ≡ sumOf ls (n - 1) + m
 sum-reset zero m ls z h = absurd (z refl)
 sum-reset (suc n) m ls z h =
     let e : suc n - 1 ≡ n = omega arith in
     ap (λ (i : ℕ). sumOf (set ls i m) (suc n)) e ∙ sum-top n m ls h ∙ sym (ap (λ (i : ℕ). sumOf ls i + m) e)
+
+-- ---- the loop that adds the lengths up
+
+pub sum-over : (i n most sum : ℕ) (ls : List ℕ) → sum ≡ sumOf ls i → i < n → sum ≤ most → most - sum < getD ls i 0 → most + 1 ≡ min (sumOf ls n) (most + 1)
+sum-over i n most sum ls e h b o = omega (arith, sum-part ls (suc i) n (omega arith), sum-suc i ls)
+
+pub sum-next : (i sum : ℕ) (ls : List ℕ) → sum ≡ sumOf ls i → sum + getD ls i 0 ≡ sumOf ls (i + 1)
+sum-next i sum ls e =
+    let d : i + 1 ≡ suc i = omega arith in
+    omega (arith, ap (sumOf ls) d, sum-suc i ls)
+
+pub sum-none : (ls : List ℕ) → 0 ≡ sumOf ls 0
+unfolding sumOf
+sum-none ls = refl
+
+pub sum-all : (i n most sum : ℕ) (ls : List ℕ) → sum ≡ sumOf ls i → sum ≤ most → i ≤ n → n ≤ i → sum ≡ min (sumOf ls n) (most + 1)
+sum-all i n most sum ls e b l h =
+    let d : i ≡ n = omega arith in
+    omega (arith, ap (sumOf ls) d)
+
+-- ---- the run ahead is part of a side
 
 pub ahead-within : (a : ℕ) (x : Side) → aheadOf a x ≤ cellsOf x
 unfolding aheadOf
@@ -68,6 +96,12 @@ pub record SideOk (places most : ℕ) (x : Side) : Type 0 where
 pub record SameLengths (x y : Side) : Type 0 where
   pub symbols : length (y .symbols) ≡ length (x .symbols)
   pub lengths : length (y .lengths) ≡ length (x .lengths)
+
+pub same-then : {x y z : Side} → SameLengths x y → SameLengths y z → SameLengths x z
+same-then a b = record { symbols = b .symbols ∙ a .symbols; lengths = b .lengths ∙ a .lengths }
+
+pub same-places : {x y : Side} → SameLengths x y → placesOf (y .symbols) (y .lengths) ≡ placesOf (x .symbols) (x .lengths)
+same-places s i = min (s .symbols i) (s .lengths i)
 
 -- ---- a push of n cells
 
@@ -110,6 +144,33 @@ push-same s n x =
     (λ z. record { symbols = refl; lengths = length-set (x .lengths) (x .count - 1) (getD (x .lengths) (x .count - 1) 0 + n) }))
     (λ e. record { symbols = length-set (x .symbols) (x .count) s; lengths = length-set (x .lengths) (x .count) n })
 
+-- a run more, where another symbol was on top
+pub push-count : (s n : ℕ) (x : Side) → pushOf s n x .count ≡ pick (eqb s (topOf x)) (x .count) (x .count + 1)
+unfolding pushOf grownOf
+push-count s n x =
+    by-test (eqb s (topOf x))
+    (λ e.
+    ap (λ (y : Side). y .count) (pick-true (eqb s (topOf x)) _ _ e) ∙ pick-cases (eqb (x .count) 0) _ _ (λ (y : Side). y .count ≡ x .count) (λ z. refl) (λ z. refl) ∙ sym (pick-true (eqb s (topOf x)) (x .count) (x .count + 1) e))
+    (λ e. ap (λ (y : Side). y .count) (pick-false (eqb s (topOf x)) _ _ e) ∙ sym (pick-false (eqb s (topOf x)) (x .count) (x .count + 1) e))
+
+under-new : (ss : List ℕ) (n s : ℕ) → n < length ss → symbolUnder (set ss n s) (n + 1) ≡ s
+unfolding symbolUnder
+under-new ss n s h =
+    let e : n + 1 - 1 ≡ n = omega arith in
+    pick-false (eqb (n + 1) 0) 0 _ (ne-eqb (n + 1) 0 (λ z. omega arith)) ∙ ap (λ (j : ℕ). getD (set ss n s) j 0) e ∙ getD-set-same ss n s 0 h
+
+-- what was pushed is on top
+pub push-top : (p b s n : ℕ) (x : Side) → SideOk p b x → lacks p s x ≡ false → topOf (pushOf s n x) ≡ s
+unfolding pushOf grownOf
+push-top p b s n x h l =
+    pick-cases (eqb s (topOf x)) _ _ (λ (y : Side). topOf y ≡ s)
+    (λ e.
+    pick-cases (eqb (x .count) 0) _ _ (λ (y : Side). topOf y ≡ s) (λ z. sym (eqb-true s (topOf x) e)) (λ z. sym (eqb-true s (topOf x) e)))
+    (λ e. added (has-place p s (x .count) (topOf x) (x .symbols) (x .lengths) refl (eqb-false s (topOf x) e) l))
+  where
+    added : x .count < p → symbolUnder (set (x .symbols) (x .count) s) (x .count + 1) ≡ s
+    added q = under-new (x .symbols) (x .count) s (omega (arith, q, h .symbols-in))
+
 -- ---- n cells taken
 
 resized-ok : (p b m : ℕ) (x : Side) → SideOk p b x → (x .count ≡ 0 → ⊥) → m ≤ getD (x .lengths) (x .count - 1) 0
@@ -144,27 +205,6 @@ unfolding takeOf
 take-same n x =
     pick-cases (eqb (x .count) 0) _ _ (SameLengths x) (λ e. record { symbols = refl; lengths = refl })
     (λ e. record { symbols = refl; lengths = length-set (x .lengths) (x .count - 1) (getD (x .lengths) (x .count - 1) 0 - n) })
-
--- ---- the loop that adds the lengths up
-
-pub sum-over : (i n most sum : ℕ) (ls : List ℕ) → sum ≡ sumOf ls i → i < n → sum ≤ most → most - sum < getD ls i 0 → most + 1 ≡ min (sumOf ls n) (most + 1)
-sum-over i n most sum ls e h b o =
-    let d : suc i + (n - suc i) ≡ n = omega arith in
-    omega (arith, ap (sumOf ls) d, sum-more (suc i) (n - suc i) ls, sum-suc i ls)
-
-pub sum-next : (i sum : ℕ) (ls : List ℕ) → sum ≡ sumOf ls i → sum + getD ls i 0 ≡ sumOf ls (i + 1)
-sum-next i sum ls e =
-    let d : i + 1 ≡ suc i = omega arith in
-    omega (arith, ap (sumOf ls) d, sum-suc i ls)
-
-pub sum-none : (ls : List ℕ) → 0 ≡ sumOf ls 0
-unfolding sumOf
-sum-none ls = refl
-
-pub sum-all : (i n most sum : ℕ) (ls : List ℕ) → sum ≡ sumOf ls i → sum ≤ most → i ≤ n → n ≤ i → sum ≡ min (sumOf ls n) (most + 1)
-sum-all i n most sum ls e b l h =
-    let d : i ≡ n = omega arith in
-    omega (arith, ap (sumOf ls) d)
 
 -- no run is added
 fewer : (n : ℕ) (x : Side) → takeOf n x .count ≤ x .count

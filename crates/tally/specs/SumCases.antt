@@ -43,7 +43,7 @@ module _ (k p most : ℕ) (x : Side) where
   side-in t = leb-true (cellsOf x) most (both-split (both-split t .1) .1)
 
   -- what a measure says of the side
-  pub measured-over : (r : ℕ) → r ≡ measured k p most x → most < r → sideFits k p most x ≡ false
+  measured-over : (r : ℕ) → r ≡ measured k p most x → most < r → sideFits k p most x ≡ false
   measured-over r e h = by-test (sideFits k p most x)
       (λ t. absurd (omega (arith, e ∙ pick-true (sideFits k p most x) (cellsOf x) (most + 1) t, side-in t)))
       (λ f. f)

@@ -2,12 +2,11 @@
 use mathlib.Core.Path.{_≡_, refl, sym, _∙_, ap, subst}
 use mathlib.Core.Bool.{Bool, true, false}
 use mathlib.Core.List.{List, [], _∷_}
-use Prim.Native.Nat.{ℕ, zero, suc, _+_, _-_, _≤_, _<_, min}
+use Prim.Native.Nat.{ℕ, zero, suc, _+_, _-_, _≤_, _<_}
 use native.Mathlib.Omega.{arith}
-use borrow.Author.Tests.{le-leb, lt-leb, eq-eqb, ne-eqb, eqb-true, eqb-false}
+use borrow.Author.Tests.{le-leb, lt-leb, eq-eqb, ne-eqb, eqb-true}
 use lib.Dec.{eqb, leb}
-use lib.ListN.{length, getD, set}
-use lib.Seq.{getD-set-same}
+use lib.ListN.{length, getD}
 use Rattle.laws.specs.Choice.{pick, both}
 use Rattle.laws.specs.Tests.{by-test, pick-cases, pick-true, pick-false}
 use Rattle.outcome.specs.declared.Refusal.{Refusal}
@@ -17,9 +16,8 @@ use Rattle.machine.specs.declared.Checked.{Checked}
 use Rattle.machine.specs.declared.Checked.the-variants.{Accepted, Refused}
 use Rattle.machine.specs.Check.{tableCheck}
 use Rattle.machine.specs.Word.{wordCheck}
-use Rattle.stacks.specs.Sides.{Side, side, placesOf, symbolUnder, topOf, grownOf, pushOf, lacks, sumOf}
-use Rattle.stacks.specs.SideCases.{has-place}
-use Rattle.stacks.specs.SideFacts.{SideOk, SameLengths, push-ok, push-same}
+use Rattle.stacks.specs.Sides.{Side, side, placesOf, symbolUnder, topOf, pushOf, lacks, sumOf}
+use Rattle.stacks.specs.SideFacts.{SideOk, SameLengths, same-then, same-places, push-ok, push-same, push-count, push-top}
 use Rattle.tally.specs.Words.{laidOf, wordOf, runsOf, freshSizes, freshCheck}
 
 abbrev pub moreOf : (count top s : ℕ) → ℕ
@@ -93,32 +91,6 @@ laid-turn w i x h =
     f : suc (i - 2) - 1 ≡ i - 2
     f = omega arith
 
-under-new : (ss : List ℕ) (n s : ℕ) → n < length ss → symbolUnder (set ss n s) (n + 1) ≡ s
-unfolding symbolUnder
-under-new ss n s h =
-    let e : n + 1 - 1 ≡ n = omega arith in
-    pick-false (eqb (n + 1) 0) 0 _ (ne-eqb (n + 1) 0 (λ z. omega arith)) ∙ ap (λ (j : ℕ). getD (set ss n s) j 0) e ∙ getD-set-same ss n s 0 h
-
--- what was pushed is on top
-pub top-push : (p b s n : ℕ) (x : Side) → SideOk p b x → lacks p s x ≡ false → topOf (pushOf s n x) ≡ s
-unfolding pushOf grownOf
-top-push p b s n x h l =
-    pick-cases (eqb s (topOf x)) _ _ (λ (y : Side). topOf y ≡ s)
-    (λ e.
-    pick-cases (eqb (x .count) 0) _ _ (λ (y : Side). topOf y ≡ s) (λ z. sym (eqb-true s (topOf x) e)) (λ z. sym (eqb-true s (topOf x) e)))
-    (λ e. added (has-place p s (x .count) (topOf x) (x .symbols) (x .lengths) refl (eqb-false s (topOf x) e) l))
-  where
-    added : x .count < p → symbolUnder (set (x .symbols) (x .count) s) (x .count + 1) ≡ s
-    added q = under-new (x .symbols) (x .count) s (omega (arith, q, h .symbols-in))
-
-pub count-push : (s n : ℕ) (x : Side) → pushOf s n x .count ≡ moreOf (x .count) (topOf x) s
-unfolding pushOf grownOf
-count-push s n x =
-    by-test (eqb s (topOf x))
-    (λ e.
-    ap (λ (y : Side). y .count) (pick-true (eqb s (topOf x)) _ _ e) ∙ pick-cases (eqb (x .count) 0) _ _ (λ (y : Side). y .count ≡ x .count) (λ z. refl) (λ z. refl) ∙ sym (pick-true (eqb s (topOf x)) (x .count) (x .count + 1) e))
-    (λ e. ap (λ (y : Side). y .count) (pick-false (eqb s (topOf x)) _ _ e) ∙ sym (pick-false (eqb s (topOf x)) (x .count) (x .count + 1) e))
-
 -- i symbols of the word are left, the first of which is not pushed
 pub record Laying (w : List ℕ) (p : ℕ) (x₀ x : Side) (i : ℕ) : Type 0 where
   pub within : i ≤ length w
@@ -141,7 +113,7 @@ laying-start w ss ls h = record {
 
 module _ (w : List ℕ) (p : ℕ) (x₀ x : Side) (i : ℕ) (g : Laying w p x₀ x i) (h : 1 < i) where
   -- the push has a place
-  pub laying-place : lacks p (getD w (i - 1) 0) x ≡ false
+  laying-place : lacks p (getD w (i - 1) 0) x ≡ false
   unfolding lacks
   laying-place =
       pick-cases (eqb (getD w (i - 1) 0) (topOf x)) false (leb p (x .count)) (λ (b : Bool). b ≡ false) (λ e. refl)
@@ -160,15 +132,15 @@ module _ (w : List ℕ) (p : ℕ) (x₀ x : Side) (i : ℕ) (g : Laying w p x₀
       pushed = record {
         within = omega (arith, g .within);
         ok = subst (λ (b : ℕ). SideOk p b (pushOf (getD w (i - 1) 0) 1 x)) less (push-ok p (length w - i) (getD w (i - 1) 0) 1 x (g .ok) laying-place);
-        places = g .places ∙ (λ j. min (sym (same .symbols) j) (sym (same .lengths) j));
+        places = g .places ∙ sym (same-places same);
         runs = omega (arith, g .runs, runs-turn w i (topOf x) (x .count) h, again);
-        sizes = record { symbols = same .symbols ∙ g .sizes .symbols; lengths = same .lengths ∙ g .sizes .lengths };
+        sizes = same-then (g .sizes) same;
         laid = laid-turn w i x h ∙ g .laid;
       }
         where
           again : runsOf w (i - 1 - 1) (topOf (pushOf (getD w (i - 1) 0) 1 x)) (pushOf (getD w (i - 1) 0) 1 x .count)
               ≡ runsOf w (i - 1 - 1) (getD w (i - 1) 0) (moreOf (x .count) (topOf x) (getD w (i - 1) 0))
-          again j = runsOf w (i - 1 - 1) (top-push p (length w - i) (getD w (i - 1) 0) 1 x (g .ok) laying-place j) (count-push (getD w (i - 1) 0) 1 x j)
+          again j = runsOf w (i - 1 - 1) (push-top p (length w - i) (getD w (i - 1) 0) 1 x (g .ok) laying-place j) (push-count (getD w (i - 1) 0) 1 x j)
 
 -- what the push asks for
 pub laying-asks : (w ss ls : List ℕ) (p n i : ℕ) (x₀ : Side) → Laying w p x₀ (side ss ls n) i → 1 < i → length w ≤ 1048576
