@@ -1,10 +1,8 @@
 -- A macro step, a lemma for each return. Assumes nothing.
-use mathlib.Core.Path.{_≡_, refl, sym, _∙_, ap}
+use mathlib.Core.Path.{_≡_, sym, _∙_, ap}
 use mathlib.Core.Bool.{Bool, true, false, not}
-use mathlib.Core.List.{List}
-use Prim.Native.Nat.{ℕ, _+_, _-_, _≤_, _<_, min}
+use Prim.Native.Nat.{ℕ, _+_, _-_, _≤_, min}
 use native.Mathlib.Omega.{arith}
-use lib.ListN.{length}
 use lib.Dec.{eqb}
 use borrow.Author.Tests.{eq-eqb, ne-eqb, not-true, not-false}
 use Rattle.laws.specs.Choice.{pick, both}
@@ -12,11 +10,10 @@ use Rattle.laws.specs.Tests.{pick-true, pick-false}
 use Rattle.symbol.specs.declared.State.{State}
 use Rattle.symbol.specs.declared.Dir.{Dir}
 use Rattle.symbol.specs.declared.Dir.the-variants.{L, R, N}
-use Rattle.outcome.specs.declared.NonHaltProof.{NonHaltProof}
 use Rattle.outcome.specs.declared.NonHaltProof.the-variants.{StayLoop, ChainToInfinity}
-use Rattle.stacks.specs.Sides.{Side, side, placesOf, topOf, aheadOf, pushOf, lacks, takeOf, sumOf, cellsOf}
+use Rattle.stacks.specs.Sides.{Side, topOf, aheadOf, pushOf, lacks, takeOf}
 use Rattle.spans.specs.declared.inner.leaps.Step.{Step}
-use Rattle.spans.specs.Leaps.{walksOn, loopsFor, proofOf, reachOf, carryOf, Went, gone, goneBy, goOf, Made, moved, leftGone, rightGone, makeTo, makeOf, headFor, MakeOk}
+use Rattle.spans.specs.Leaps.{walksOn, loopsFor, proofOf, reachOf, carryOf, Went, gone, goneBy, goOf, moved, leftGone, rightGone, makeTo, makeOf, headFor}
 
 -- ---- a proved loop
 

@@ -1,12 +1,12 @@
 -- A macro step with a place, and one without. Assumes nothing.
-use mathlib.Core.Path.{_≡_, refl, sym, _∙_, ap}
+use mathlib.Core.Path.{_≡_, refl, ap}
 use mathlib.Core.Bool.{Bool, true, false}
-use Prim.Native.Nat.{ℕ, _+_, min}
+use Prim.Native.Nat.{ℕ}
 use Rattle.laws.specs.Choice.{pick}
 use Rattle.laws.specs.Tests.{clash, pick-true, pick-false}
 use Rattle.symbol.specs.declared.Dir.{Dir}
 use Rattle.symbol.specs.declared.Dir.the-variants.{L, R, N}
-use Rattle.stacks.specs.Sides.{Side, aheadOf, lacks}
+use Rattle.stacks.specs.Sides.{Side, lacks}
 use Rattle.spans.specs.declared.inner.leaps.Step.{Step}
 use Rattle.spans.specs.Leaps.{chainFor, fullFor, reachOf, gone, goneBy, goOf, Made, moved, leftGone, rightGone, makeTo}
 

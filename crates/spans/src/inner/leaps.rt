@@ -10,7 +10,7 @@ ghost use mathlib.Core.Bool.{false};
 ghost use Prim.Native.Nat.{_+_, _-_, _≤_, _<_, min, max};
 ghost use lib.ListN.{length};
 ghost use Rattle.laws.specs.Choice.{pick};
-ghost use Rattle.stacks.specs.Sides.{side, placesOf, aheadOf, lacks, sumOf};
+ghost use Rattle.stacks.specs.Sides.{side, placesOf, lacks, sumOf};
 ghost use Rattle.spans.specs.Leaps.{walksOn, loopsFor, proofOf, reachOf, gone, goneBy, goOf, moved, makeOf, headFor, MakeOk};
 
 // An entry of one tape that a macro step makes: whether it keeps the state, and whether it is a proved loop.
