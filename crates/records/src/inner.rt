@@ -14,9 +14,11 @@ fn run_at<'a>(symbols: &'a [u8], lengths: &'a [u64], i: usize) -> Run
     requires { ⌜ (i < length (now symbols)) × (i < length (now lengths)) ⌝ }
     ensures { λ r. ⌜ r ≡ runAt (now (symbols .entry)) (now (lengths .entry)) i ⌝ }
 {
+    let symbol = symbols[i];
+    let len = lengths[i];
     Run {
-        symbol: Symbol(symbols[i]),
-        len: lengths[i],
+        symbol: Symbol(symbol),
+        len,
     }
 }
 
