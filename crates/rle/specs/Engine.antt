@@ -1,9 +1,9 @@
 -- The run-length engine over its lent places, as the code goes: what a configuration is, what comes next, a macro step, the run. Definitions only.
-use mathlib.Core.Bool.{Bool, false}
+use mathlib.Core.Bool.{Bool}
 use mathlib.Core.List.{List}
 use Prim.Native.Nat.{ℕ, zero, suc, _+_, _-_}
 use lib.Dec.{eqb}
-use Rattle.laws.specs.Choice.{pick, both}
+use Rattle.laws.specs.Choice.{pick}
 use Rattle.symbol.specs.declared.State.{State}
 use Rattle.symbol.specs.declared.Dir.{Dir}
 use Rattle.symbol.specs.declared.Dir.the-variants.{L, R, N}
@@ -19,6 +19,7 @@ use Rattle.sim.specs.Engine.{Task, entryOf, matches}
 use Rattle.stacks.specs.Sides.{Side, side, placesOf}
 use Rattle.tally.specs.Tally.{fuelThen, Tally, tallied}
 use Rattle.rle.specs.declared.ChainSim.{ChainSim}
+use Rattle.spans.specs.Leaps.{walksOn}
 pub use Rattle.spans.specs.Leaps.{Carried, carried}
 unfoldable pub use Rattle.spans.specs.Leaps.{chainFor, fullFor, carryOf}
 
@@ -61,7 +62,7 @@ pub data Sure : Type 0 where
 
 -- a loop that is proved: the entry keeps the state, and stays and rewrites what it read, or walks from a blank into blanks
 abbrev pub walkOf : State → Dir → (cur runs : ℕ) → Sure
-walkOf q d cur n = pick (both (eqb cur 0) (eqb n 0)) (Loops (ChainToInfinity q d)) Open
+walkOf q d cur n = pick (walksOn cur n) (Loops (ChainToInfinity q d)) Open
 
 unfoldable pub patternOf : State → Dir → (write cur lefts rights : ℕ) → Sure
 patternOf q L w cur l r = walkOf q L cur l
@@ -79,10 +80,14 @@ repeatsOf (Loops p) q a cur fuel l r = fuel
 abbrev pub leap : Action → ℕ → Leap
 leap a n = record { write = a .write0 .0; dir = a .dir0; next = a .next; repeats = n }
 
+-- the push of such a step has no place
+abbrev pub noPlace : Dir → (write : ℕ) → Conf → Bool
+noPlace d w σ = fullFor d w (placesOf (σ .ls) (σ .ll)) (placesOf (σ .rs) (σ .rl)) (leftOf σ) (rightOf σ)
+
 -- with fuel and an entry that is not refused by the rule: space, then the macro step
 unfoldable pub spaceOf : Sure → Action → ℕ → Conf → Plan
 spaceOf p a fuel σ =
-    pick (fullFor (a .dir0) (a .write0 .0) (placesOf (σ .ls) (σ .ll)) (placesOf (σ .rs) (σ .rl)) (leftOf σ) (rightOf σ))
+    pick (noPlace (a .dir0) (a .write0 .0) σ)
     (Stop (Full (σ .sim .steps)))
     (Go (leap a (repeatsOf p (σ .sim .state) a (σ .sim .tape .cur) fuel (leftOf σ) (rightOf σ))))
 

@@ -1,4 +1,4 @@
--- The checks of an engine's value: one fact for each return, and what they give a run where they pass. Assumes nothing.
+-- The checks of an engine's value: one fact for each return. Assumes nothing.
 use mathlib.Core.Path.{_≡_, sym, _∙_, ap}
 use mathlib.Core.Bool.{Bool, true, false}
 use mathlib.Core.List.{List}
@@ -38,47 +38,43 @@ reach-right v l r h k f = same ∙ sym (rw (le-leb (9223372036854775808 + l) (v 
         (λ t. lt-leb (v .tape .head) (9223372036854775808 + (v .steps + 1048576 - r)) (omega (arith, leb-false (v .tape .head + r) (9223372036854775808 + v .steps + 1048576) t)) ∙ sym t)
 
 module _ (m : Machine) (v : ChainSim) (ls ll rs rl : List ℕ) where
-  abbrev here : Conf
-  here = conf v ls ll rs rl
+  abbrev at : Conf
+  at = conf v ls ll rs rl
 
-  pub fits-counts : (b : Bool) → b ≡ countsFit m v → b ≡ false → false ≡ chainFits m here
+  pub fits-counts : (b : Bool) → b ≡ countsFit m v → b ≡ false → false ≡ chainFits m at
   unfolding chainFits both
   fits-counts b p e = rw (← p, e)
 
   module _ (b : Bool) (p : b ≡ countsFit m v) (e : b ≡ true) where
-    pub fits-head : (c : Bool) → c ≡ headFits v → c ≡ false → false ≡ chainFits m here
+    pub fits-head : (c : Bool) → c ≡ headFits v → c ≡ false → false ≡ chainFits m at
     unfolding chainFits both
     fits-head c q f = rw (← p, e, ← q, f)
 
-    module _ (c : Bool) (q : c ≡ headFits v) (f : c ≡ true) (lp : ℕ) (lq : lp ≡ placesOf ls ll) (l : ℕ) (lm : l ≡ measured (m .symbols) lp (v .steps + 1048576) (leftOf here)) where
-      lefts : l ≡ measured (m .symbols) (placesOf ls ll) (v .steps + 1048576) (leftOf here)
-      lefts = lm ∙ ap (λ (p : ℕ). measured (m .symbols) p (v .steps + 1048576) (leftOf here)) lq
+    module _ (c : Bool) (q : c ≡ headFits v) (f : c ≡ true) (lp : ℕ) (lq : lp ≡ placesOf ls ll) (l : ℕ) (lm : l ≡ measured (m .symbols) lp (v .steps + 1048576) (leftOf at)) where
+      lefts : l ≡ measured (m .symbols) (placesOf ls ll) (v .steps + 1048576) (leftOf at)
+      lefts = lm ∙ ap (λ (p : ℕ). measured (m .symbols) p (v .steps + 1048576) (leftOf at)) lq
 
-      pub fits-left : v .steps + 1048576 < l → false ≡ chainFits m here
+      pub fits-left : v .steps + 1048576 < l → false ≡ chainFits m at
       unfolding chainFits both
-      fits-left h = rw (← p, e, ← q, f) (sides-left (m .symbols) (placesOf ls ll) (placesOf rs rl) (v .steps) (leftOf here) (rightOf here) _ l lefts h)
+      fits-left h = rw (← p, e, ← q, f) (sides-left (m .symbols) (placesOf ls ll) (placesOf rs rl) (v .steps) (leftOf at) (rightOf at) _ l lefts h)
 
-      module _ (lh : l ≤ v .steps + 1048576) (rp : ℕ) (rq : rp ≡ placesOf rs rl) (r : ℕ) (rm : r ≡ measured (m .symbols) rp (v .steps + 1048576) (rightOf here)) where
-        rights : r ≡ measured (m .symbols) (placesOf rs rl) (v .steps + 1048576) (rightOf here)
-        rights = rm ∙ ap (λ (p : ℕ). measured (m .symbols) p (v .steps + 1048576) (rightOf here)) rq
+      module _ (lh : l ≤ v .steps + 1048576) (rp : ℕ) (rq : rp ≡ placesOf rs rl) (r : ℕ) (rm : r ≡ measured (m .symbols) rp (v .steps + 1048576) (rightOf at)) where
+        rights : r ≡ measured (m .symbols) (placesOf rs rl) (v .steps + 1048576) (rightOf at)
+        rights = rm ∙ ap (λ (p : ℕ). measured (m .symbols) p (v .steps + 1048576) (rightOf at)) rq
 
-        pub fits-right : v .steps + 1048576 < r → false ≡ chainFits m here
+        pub fits-right : v .steps + 1048576 < r → false ≡ chainFits m at
         unfolding chainFits both
-        fits-right h = rw (← p, e, ← q, f) (sides-right (m .symbols) (placesOf ls ll) (placesOf rs rl) (v .steps) (leftOf here) (rightOf here) _ l lefts lh r rights h)
+        fits-right h = rw (← p, e, ← q, f) (sides-right (m .symbols) (placesOf ls ll) (placesOf rs rl) (v .steps) (leftOf at) (rightOf at) _ l lefts lh r rights h)
 
-        pub fits-reach : r ≤ v .steps + 1048576 → (x : Bool) → x ≡ reachFits v l r → x ≡ chainFits m here
+        pub fits-reach : r ≤ v .steps + 1048576 → (x : Bool) → x ≡ reachFits v l r → x ≡ chainFits m at
         unfolding chainFits both
         fits-reach h x xp =
-            let y : l ≡ cellsOf (leftOf here) = measured-fits (m .symbols) (placesOf ls ll) (v .steps + 1048576) (leftOf here) l lefts lh .1 in
-            let z : r ≡ cellsOf (rightOf here) = measured-fits (m .symbols) (placesOf rs rl) (v .steps + 1048576) (rightOf here) r rights h .1 in
+            let y : l ≡ cellsOf (leftOf at) = measured-fits (m .symbols) (placesOf ls ll) (v .steps + 1048576) (leftOf at) l lefts lh .1 in
+            let z : r ≡ cellsOf (rightOf at) = measured-fits (m .symbols) (placesOf rs rl) (v .steps + 1048576) (rightOf at) r rights h .1 in
             xp ∙ (λ i. reachFits v (y i) (z i))
-            ∙ rw (← p, e, ← q, f) (sides-near (m .symbols) (placesOf ls ll) (placesOf rs rl) (v .steps) (leftOf here) (rightOf here) _ l lefts lh r rights h)
+            ∙ rw (← p, e, ← q, f) (sides-near (m .symbols) (placesOf ls ll) (placesOf rs rl) (v .steps) (leftOf at) (rightOf at) _ l lefts lh r rights h)
 
--- ---- the checks
-
-module _ (m : Machine) (v : ChainSim) (ls ll rs rl : List ℕ) where
-  abbrev at : Conf
-  at = conf v ls ll rs rl
+  -- ---- the checks
 
   pub value-tapes : (m .tapes ≡ 1 → ⊥) → Refused Why.SeveralTapes ≡ valueCheck m at
   unfolding valueCheck pick

@@ -7,7 +7,6 @@ use native.Mathlib.Omega.{arith}
 use borrow.Author.Tests.{leb-true, eqb-true}
 use lib.ListN.{length, getD}
 use Rattle.laws.specs.Tests.{both-split}
-use Rattle.symbol.specs.Kinds.{stateOf}
 use Rattle.outcome.specs.declared.Outcome.{Outcome}
 use Rattle.outcome.specs.declared.Refusal.{Refusal}
 use Rattle.machine.specs.declared.Machine.{Machine}
@@ -28,7 +27,7 @@ use Rattle.rle.specs.declared.Fresh.the-variants as New
 use Rattle.rle.specs.Engine.{Conf, end, runOf}
 use Rattle.rle.specs.Turns.{SidesOk, CountsOk, RunOk}
 use Rattle.rle.specs.Fits.{zeroAt, sideFits, headFits, countsFit, chainFits, placesFit, valueCheck, engineCheck, runCheck}
-use Rattle.rle.specs.Operations.{given, runAnswer, runsOf, wordOf, freshSizes, freshCheck, Made, made, newAnswer}
+use Rattle.rle.specs.Operations.{given, runAnswer, runsOf, wordOf, freshSizes, freshCheck, startSim, Made, made, newAnswer}
 
 -- ---- a value that passed
 
@@ -63,9 +62,9 @@ side-says k most ss ls n e =
     let a = both-split e in
     record { live = leb-true _ _ (a .0); symbols-in = omega arith; lengths-in = omega arith; cells-in = leb-true _ _ (both-split (a .1) .1) }
 
-pub fits-sides : (m : Machine) (σ : Conf) → chainFits m σ ≡ true → SidesOk σ
+pub sides-ok : (m : Machine) (σ : Conf) → chainFits m σ ≡ true → SidesOk σ
 unfolding chainFits
-fits-sides m σ e =
+sides-ok m σ e =
     let a = both-split (both-split e .1) in
     let b = both-split (a .1) in
     record {
@@ -73,13 +72,13 @@ fits-sides m σ e =
       right = side-says (m .symbols) (σ .sim .steps + 1048576) (σ .rs) (σ .rl) (σ .sim .tape .right) (both-split (b .1) .0);
     }
 
-pub fits-steps : (m : Machine) (σ : Conf) → chainFits m σ ≡ true → σ .sim .steps ≤ 4611686018427387904
+pub steps-ok : (m : Machine) (σ : Conf) → chainFits m σ ≡ true → σ .sim .steps ≤ 4611686018427387904
 unfolding chainFits countsFit
-fits-steps m σ e = leb-true (σ .sim .steps) 4611686018427387904 (both-split (both-split (both-split e .0) .1) .0)
+steps-ok m σ e = leb-true (σ .sim .steps) 4611686018427387904 (both-split (both-split (both-split e .0) .1) .0)
 
-pub fits-counts : (m : Machine) (σ : Conf) (fuel : ℕ) → chainFits m σ ≡ true → σ .sim .steps + fuel ≤ 4611686018427387904 → CountsOk (σ .sim) fuel
+pub counts-ok : (m : Machine) (σ : Conf) (fuel : ℕ) → chainFits m σ ≡ true → σ .sim .steps + fuel ≤ 4611686018427387904 → CountsOk (σ .sim) fuel
 unfolding chainFits countsFit headFits
-fits-counts m σ fuel e h =
+counts-ok m σ fuel e h =
     let c = both-split (both-split (both-split (both-split e .0) .1) .1) in
     let d = both-split (both-split (both-split e .1) .0) in
     let f = both-split (d .1) in
@@ -102,8 +101,8 @@ run-ok m s fuel σ r stride e a k l =
     let p = run-says m s fuel σ (sym e ∙ a) in
     record {
       table = record { symbols-in = ranges m s (p .0 .table) .symbols-high; stride-is = k; stride-in = l };
-      sides = fits-sides m σ (p .0 .fits);
-      counts = fits-counts m σ fuel (p .0 .fits) (p .1);
+      sides = sides-ok m σ (p .0 .fits);
+      counts = counts-ok m σ fuel (p .0 .fits) (p .1);
     }
 
 -- ---- the answers
@@ -123,20 +122,27 @@ pub record FreshPassed (m : Machine) (s w : List ℕ) (l r : ℕ) : Type 0 where
   pub table : tableCheck m s ≡ Accepted
   pub tapes : m .tapes ≡ 1
   pub word : wordCheck (m .symbols) w ≡ Accepted
-  pub sizes : freshSizes w l r ≡ true
+  pub lefts : l ≤ 1048576
+  pub rights : r ≤ 1048576
+  -- the word's runs have places
+  pub room : runsOf w (length w - 1) 0 0 ≤ r
 
 pub fresh-says : (m : Machine) (s w : List ℕ) (l r : ℕ) → freshCheck m s w l r ≡ Accepted → FreshPassed m s w l r
-unfolding freshCheck
+unfolding freshCheck freshSizes
 fresh-says m s w l r e =
     let a = on-says _ _ e in
     let b = demand-says _ _ _ (a .1) in
     let c = on-says _ _ (b .1) in
-    record { table = a .0; tapes = eqb-true _ _ (b .0); word = c .0; sizes = demand-says _ _ _ (c .1) .0 }
-
--- the word's runs have places
-pub fresh-places : (w : List ℕ) (l r : ℕ) → freshSizes w l r ≡ true → runsOf w (length w - 1) 0 0 ≤ r
-unfolding freshSizes
-fresh-places w l r e = leb-true _ _ (both-split (both-split e .1) .1)
+    let d = both-split (demand-says _ _ _ (c .1) .0) in
+    let f = both-split (d .1) in
+    record {
+      table = a .0;
+      tapes = eqb-true _ _ (b .0);
+      word = c .0;
+      lefts = leb-true _ _ (d .0);
+      rights = leb-true _ _ (f .0);
+      room = leb-true _ _ (f .1);
+    }
 
 pub fresh-start : (m : Machine) (s w : List ℕ) (l r : ℕ) (c : Checked) → c ≡ freshCheck m s w l r → c ≡ Accepted → m .start < 65536
 fresh-start m s w l r c e a =
@@ -144,17 +150,7 @@ fresh-start m s w l r c e a =
     omega (arith, g .start-in, g .states-high)
 
 abbrev madeAt : Machine → Side → (cur : ℕ) → Made
-madeAt m x cur = made
-    (New.Made
-    (record {
-      state = stateOf (m .start);
-      steps = 0;
-      macros = 0;
-      tape = record { left = 0; cur = cur; right = x .count; head = zeroAt };
-      lowest = zeroAt;
-      highest = zeroAt;
-    }))
-    (x .symbols) (x .lengths)
+madeAt m x cur = made (New.Made (startSim m cur (x .count))) (x .symbols) (x .lengths)
 
 module _ (m : Machine) (s w ls ll rs rl : List ℕ) (lp rp : ℕ) (lq : lp ≡ placesOf ls ll) (rq : rp ≡ placesOf rs rl) (r : Checked) (checked : r ≡ freshCheck m s w lp rp) where
   here : r ≡ freshCheck m s w (placesOf ls ll) (placesOf rs rl)
@@ -168,7 +164,7 @@ module _ (m : Machine) (s w ls ll rs rl : List ℕ) (lp rp : ℕ) (lq : lp ≡ p
     pub new-lays : (length w ≤ 1048576) × (runsOf w (length w - 1) 0 0 ≤ placesOf rs rl)
     new-lays =
         let p : FreshPassed m s w (placesOf ls ll) (placesOf rs rl) = fresh-says m s w (placesOf ls ll) (placesOf rs rl) (sym here ∙ passed) in
-        (word-says (m .symbols) w (p .word) .0, fresh-places w (placesOf ls ll) (placesOf rs rl) (p .sizes))
+        (word-says (m .symbols) w (p .word) .0, p .room)
 
     pub new-made : (x : Side) (cur : ℕ) → x ≡ wordOf w (side rs rl 0) → cur ≡ getD w 0 0 → madeAt m x cur ≡ newAnswer m s w ls ll rs rl
     unfolding newAnswer

@@ -38,15 +38,19 @@ runAnswer m s rule fuel σ = runOn (runCheck m s fuel σ) σ (runOf (task m s tr
 
 -- ---- a fresh engine
 
-abbrev pub freshSim : Machine → List ℕ → ℕ → ChainSim
-freshSim m w rights = record {
+-- with the symbol under the head, and how many runs the right side has
+abbrev pub startSim : Machine → (cur rights : ℕ) → ChainSim
+startSim m cur rights = record {
   state = stateOf (m .start);
   steps = 0;
   macros = 0;
-  tape = record { left = 0; cur = getD w 0 0; right = rights; head = zeroAt };
+  tape = record { left = 0; cur = cur; right = rights; head = zeroAt };
   lowest = zeroAt;
   highest = zeroAt;
 }
+
+abbrev pub freshSim : Machine → List ℕ → ℕ → ChainSim
+freshSim m w rights = startSim m (getD w 0 0) rights
 
 -- the answer, with the right side's places; the left side's are not looked at beyond their number
 pub record Made : Type 0 where

@@ -1,8 +1,8 @@
 -- The questions' answers, a lemma for each return. Assumes nothing.
-use mathlib.Core.Path.{_≡_, refl, sym, _∙_, ap}
+use mathlib.Core.Path.{_≡_, sym, _∙_, ap}
 use mathlib.Core.Bool.{Bool, true, false}
 use mathlib.Core.List.{List}
-use Prim.Native.Nat.{ℕ, zero, suc, _+_, _-_, _≤_, _<_, min}
+use Prim.Native.Nat.{ℕ, _+_, _-_, _≤_, _<_, min}
 use native.Mathlib.Omega.{arith}
 use borrow.Author.Tests.{leb-true, eq-eqb, ne-eqb}
 use lib.Dec.{eqb}
@@ -27,7 +27,7 @@ use Rattle.rle.specs.declared.ChainSim.{ChainSim}
 use Rattle.rle.specs.Engine.{Conf, conf, leftOf, rightOf}
 use Rattle.rle.specs.Turns.{AskOk}
 use Rattle.rle.specs.Fits.{zeroAt, slack, reachFits, chainFits, engineCheck}
-use Rattle.rle.specs.OperationCases.{Passed, engine-says, fits-sides, fits-counts, fits-steps}
+use Rattle.rle.specs.OperationCases.{Passed, engine-says, sides-ok, counts-ok, steps-ok}
 use Rattle.spans.specs.Asks.{cellOn, windowAll, countOn}
 use Rattle.rle.specs.Questions.{raisedCell, windowFrom, lowestOf, highestOf, blankTape, spanOf, countOf, getAnswer, extentAnswer, countAnswer, windowInto}
 
@@ -54,16 +54,12 @@ some-right : (σ : Conf) → blankTape σ ≡ false → σ .sim .tape .cur ≡ 0
 unfolding blankTape
 some-right σ h c l r = clash (both-true (eq-eqb _ 0 c) (both-true (eq-eqb _ 0 l) (eq-eqb _ 0 r))) h
 
-above-zero : (n : ℕ) → (n ≡ 0 → ⊥) → 0 < n
-above-zero zero h = absurd (h refl)
-above-zero (suc n) h = omega arith
-
 module _ (σ : Conf) (ok : AskOk σ) (some : blankTape σ ≡ false) where
   -- what is measured of a side is all of it
   pub left-sum : (n : ℕ) → n ≡ min (cellsOf (leftOf σ)) (σ .sim .steps + 1048576 + 1) → (n ≡ cellsOf (leftOf σ)) × (n ≤ σ .sim .tape .head)
   left-sum n e = (omega (arith, e, ok .sides .left .cells-in), omega (arith, e, ok .sides .left .cells-in, ok .counts .steps-in, ok .left-far))
 
-  pub right-sum : (n : ℕ) → n ≡ min (cellsOf (rightOf σ)) (σ .sim .steps + 1048576 + 1) → n ≡ cellsOf (rightOf σ)
+  right-sum : (n : ℕ) → n ≡ min (cellsOf (rightOf σ)) (σ .sim .steps + 1048576 + 1) → n ≡ cellsOf (rightOf σ)
   right-sum n e = omega (arith, e, ok .sides .right .cells-in)
 
   pub lowest-left : (σ .sim .tape .left ≡ 0 → ⊥) → (n : ℕ) → n ≡ min (cellsOf (leftOf σ)) (σ .sim .steps + 1048576 + 1) → σ .sim .tape .head - n ≡ lowestOf σ
@@ -79,7 +75,7 @@ module _ (σ : Conf) (ok : AskOk σ) (some : blankTape σ ≡ false) where
   lowest-right h k n e = ap (λ (x : ℕ). σ .sim .tape .head + x) e ∙ sym (rw (eq-eqb (σ .sim .tape .left) 0 h, eq-eqb (σ .sim .tape .cur) 0 k))
 
   pub some-on-right : σ .sim .tape .left ≡ 0 → σ .sim .tape .cur ≡ 0 → 0 < σ .sim .tape .right
-  some-on-right h k = above-zero (σ .sim .tape .right) (some-right σ some k h)
+  some-on-right h k = omega (arith, some-right σ some k h)
 
   pub highest-right : (σ .sim .tape .right ≡ 0 → ⊥) → (n : ℕ) → n ≡ min (cellsOf (rightOf σ)) (σ .sim .steps + 1048576 + 1) → σ .sim .tape .head + n ≡ highestOf σ
   unfolding highestOf pick
@@ -94,7 +90,9 @@ module _ (σ : Conf) (ok : AskOk σ) (some : blankTape σ ≡ false) where
   highest-left h k n e = ap (λ (x : ℕ). σ .sim .tape .head - x) e ∙ sym (rw (eq-eqb (σ .sim .tape .right) 0 h, eq-eqb (σ .sim .tape .cur) 0 k))
 
   pub some-on-left : σ .sim .tape .right ≡ 0 → σ .sim .tape .cur ≡ 0 → 0 < σ .sim .tape .left
-  some-on-left h k = above-zero (σ .sim .tape .left) (λ l. some-right σ some k l h)
+  some-on-left h k =
+      let n : σ .sim .tape .left ≡ 0 → ⊥ = λ l. some-right σ some k l h in
+      omega arith
 
 pub span-empty : (σ : Conf) (b : Bool) → b ≡ blankTape σ → b ≡ true → Empty ≡ spanOf σ
 unfolding spanOf pick
@@ -133,8 +131,8 @@ module _ (m : Machine) (s : List ℕ) (σ : Conf) (r : Checked) (checked : r ≡
     asked-ok =
         let p : Passed m s σ = engine-says m s σ (sym checked ∙ passed) in
         record {
-          sides = fits-sides m σ (p .fits);
-          counts = fits-counts m σ 0 (p .fits) (omega (arith, fits-steps m σ (p .fits)));
+          sides = sides-ok m σ (p .fits);
+          counts = counts-ok m σ 0 (p .fits) (omega (arith, steps-ok m σ (p .fits)));
           left-far = leb-true (zeroAt + cellsOf (leftOf σ)) (σ .sim .tape .head + σ .sim .steps + slack) (both-split (reach p) .0);
           right-far = leb-true (σ .sim .tape .head + cellsOf (rightOf σ)) (zeroAt + σ .sim .steps + slack) (both-split (reach p) .1);
         }

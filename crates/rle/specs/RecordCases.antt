@@ -1,27 +1,26 @@
 -- What `left` and `right` answer and write: one fact for each return, and what the walks ask. Assumes nothing.
 use mathlib.Core.Path.{_≡_, refl}
-use mathlib.Core.Bool.{true}
 use mathlib.Core.List.{List}
 use Prim.Native.Nat.{ℕ, _≤_}
 use native.Mathlib.Omega.{arith}
 use borrow.Author.Tests.{leb-true, leb-false}
 use lib.Dec.{leb}
 use lib.ListN.{length}
-use Rattle.laws.specs.Tests.{both-split, by-test}
+use Rattle.laws.specs.Tests.{by-test}
 use Rattle.outcome.specs.declared.Refusal.{Refusal}
 use Rattle.outcome.specs.declared.Refusal.the-variants as Why
 use Rattle.machine.specs.declared.Machine.{Machine}
 use Rattle.machine.specs.declared.Checked.{Checked}
 use Rattle.machine.specs.declared.Checked.the-variants.{Accepted, Refused}
-use Rattle.stacks.specs.Sides.{Side, side, placesOf}
+use Rattle.stacks.specs.Sides.{side, placesOf}
 use Rattle.records.specs.declared.Run.{Run}
 use Rattle.records.specs.declared.Listed.{Listed}
 use Rattle.records.specs.declared.Listed.the-variants as List′
 use Rattle.records.specs.Records.{recordsOf, roomFor, writtenOf}
 use Rattle.records.specs.RecordFacts.{records-none, room-short, room-enough}
 use Rattle.rle.specs.Engine.{Conf, leftOf, rightOf}
-use Rattle.rle.specs.Fits.{sideFits, chainFits, engineCheck}
-use Rattle.rle.specs.OperationCases.{engine-says}
+use Rattle.rle.specs.Fits.{engineCheck}
+use Rattle.rle.specs.OperationCases.{engine-says, sides-ok}
 use Rattle.rle.specs.Records.{listedOn, sideAnswer, sideInto, leftAnswer, leftInto, rightAnswer, rightInto}
 
 -- ---- the returns of the check
@@ -67,18 +66,12 @@ module _ (ss ls : List ℕ) (count : ℕ) (out : List Run) where
 
 -- ---- the live runs of a value that passed have places
 
-live-in : (k places most : ℕ) (x : Side) → sideFits k places most x ≡ true → x .count ≤ places
-unfolding sideFits
-live-in k places most x e = leb-true (x .count) places (both-split e .0)
-
 module _ (m : Machine) (s : List ℕ) (σ : Conf) (passed : engineCheck m s σ ≡ Accepted) where
   left-live : leftOf σ .count ≤ placesOf (σ .ls) (σ .ll)
-  unfolding chainFits
-  left-live = live-in _ _ _ (leftOf σ) (both-split (both-split (both-split (engine-says m s σ passed .fits) .1) .1) .0)
+  left-live = sides-ok m σ (engine-says m s σ passed .fits) .left .live
 
   right-live : rightOf σ .count ≤ placesOf (σ .rs) (σ .rl)
-  unfolding chainFits
-  right-live = live-in _ _ _ (rightOf σ) (both-split (both-split (both-split (both-split (engine-says m s σ passed .fits) .1) .1) .1) .0)
+  right-live = sides-ok m σ (engine-says m s σ passed .fits) .right .live
 
 -- ---- what the walks ask
 

@@ -1,4 +1,4 @@
--- What the functions of a run may assume. Definitions only.
+-- What the functions of a run decide, and what they and the questions may assume. Definitions only.
 use mathlib.Core.Path.{_≡_}
 use mathlib.Core.Bool.{Bool}
 use Prim.Native.Nat.{ℕ, _+_, _≤_}

@@ -9,7 +9,7 @@ ghost use mathlib.Core.Path.{_≡_};
 ghost use Prim.Native.Nat.{_+_, _≤_, _<_};
 ghost use lib.ListN.{length};
 ghost use Rattle.laws.specs.Choice.{pick};
-ghost use Rattle.stacks.specs.Sides.{side, placesOf, cellsOf};
+ghost use Rattle.stacks.specs.Sides.{side, cellsOf};
 ghost use Rattle.rle.specs.Engine.{conf};
 ghost use Rattle.rle.specs.Fits.{sideFits, chainFits, valueCheck, engineCheck, runCheck};
 

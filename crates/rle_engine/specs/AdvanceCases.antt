@@ -14,7 +14,8 @@ use Rattle.rle.specs.Engine.{Conf, Leap, Plan, Stop, Go, planOf, leapOf, End, e
 use Rattle.rle.specs.Turns.{RunOk}
 use Rattle.rle.specs.Fits.{runCheck}
 use Rattle.rle.specs.OperationCases.{stride-ok, run-ok}
-use Rattle.rle.specs.RunCases.{Fine, decided, leap-ok}
+use Rattle.rle.specs.RunFacts.{Fine, decided}
+use Rattle.rle.specs.LeapFacts.{leap-ok}
 use Rattle.times.specs.Kind.{verdictOr, spent}
 use Rattle.times.specs.VerdictFacts.{spent-verdict, other-verdict}
 use Rattle.rle_engine.specs.Advance.{ranFrom, tested, advanceOf}

@@ -52,7 +52,6 @@ use Rattle.rle.specs.RecordCases.{right-fits, right-writes}
 use Rattle.machine.proofs.Machine as Ma
 use Rattle.machine.proofs.Machine.Laws as Ma′
 use Rattle.records.proofs.Run as T
-use Rattle.records.proofs.Run.Laws as T′
 use Rattle.records.proofs.Listed as E
 use Rattle.records.proofs.Listed.Laws as E′
 use Rattle.records.proofs.inner.fill as fill
