@@ -28,6 +28,7 @@ use Rattle.sim.specs.declared.Answer.the-variants as Ans
 use Rattle.sim.specs.Engine.{Task, task, entryOf, matches}
 use Rattle.stacks.specs.Sides.{aheadOf}
 use Rattle.rle.specs.Engine.{Conf, leftOf, rightOf, sureOf, chainFor, repeatsOf, leap, spaceOf, fuelOf, neverOf, planOn, planOf, leapOf, End, end, runOf, Sure, Open, Loops, Leap, Plan, Stop, Go}
+use Rattle.rle.specs.RunFacts.{run-ends, run-goes}
 use Rattle.rle.specs.Fits.{runCheck}
 use Rattle.rle.specs.Operations.{given, runOn, runAnswer}
 use Rattle.rle_refines.specs.Meaning.{configOf, Alike}
@@ -38,7 +39,6 @@ use Rattle.rle_refines.specs.LeapFacts.{aheadOn, entry-at}
 use Rattle.rle_refines.specs.PlanFacts.{Sees, unsure, stay, walk, sure-sees, Plans, plan-right}
 use Rattle.rle_refines.specs.MidFacts.{leapt-macros}
 use Rattle.rle_refines.specs.Refinement.{leap-went, refines-later}
-use Rattle.rle_refines.specs.RunFacts.{run-ends, run-goes}
 use Rattle.rle_refines.specs.SpaceFacts.{full-iff}
 use Rattle.rle_refines.specs.CutFacts.{one-run}
 use Rattle.rle_refines.specs.OperationFacts.{Passed, run-says, run-holds}
@@ -124,7 +124,7 @@ module _ (m : Machine) (s : List ℕ) (bytes : Bytes s) (fuel : ℕ) (σ : Conf)
       within = went-so .2;
       lasts = lasts-so;
       counted = leapt-macros j σ (j .dir);
-      runs-on = run-goes k table (passed .0 .single) fuel σ (passed .0 .fits) (passed .1) j planned;
+      runs-on = sym (run-goes k fuel σ j planned);
     }
 
   -- ---- the next step is full
@@ -138,7 +138,7 @@ module _ (m : Machine) (s : List ℕ) (bytes : Bytes s) (fuel : ℕ) (σ : Conf)
         by q (P.loops p t v) = let e = verdict-unique _ _ _ _ _ v unproved in let z : _≡_ {A = ℕ} 0 1 = cc in absurd (omega arith)
         by q (P.spent a e u z) = absurd (omega arith)
         by q (P.stops a e u l r) = absurd (clash r unruled)
-        by q (P.lacks-place a e u l r h) = run-ends (task m s true rule) table (passed .0 .single) fuel σ _ q
+        by q (P.lacks-place a e u l r h) = sym (run-ends (task m s true rule) fuel σ _ q)
         by q (P.leaps a n e u r h x) = absurd (not-full m (tableOf m s) σ (passed .0 .fits) a e h g)
 
     pub full-stands : FullHere m s σ → runAnswer m s rule fuel σ ≡ given σ (Ans.Done (Full (σ .sim .steps)))

@@ -42,7 +42,7 @@ strip (suc n) zero a f g e x y = absurd (y (ap (λ (h : Stream). h 0) e))
 strip (suc n) (suc m) a f g e x y = let s = strip n m a f g (ap tail e) x y in record { count = ap suc (s .count); rest = s .rest }
 
 module _ (k : ℕ) where
-  pub one-stack : (r q : Stack) → RunsFit k r → RunsFit k q → stream r ≡ stream q → r ≡ q
+  one-stack : (r q : Stack) → RunsFit k r → RunsFit k q → stream r ≡ stream q → r ≡ q
   one-stack empty q f g e = sym (empty-of-blank k q g (sym e))
   one-stack (over a n r) empty f g e = empty-of-blank k (over a n r) f e
   one-stack (over a n r) (over b m q) f g e = build (one-stack r q (f .3) (g .3) (x .rest))
@@ -81,7 +81,7 @@ height-is : (ss ls : List ℕ) (n : ℕ) → height (stackUpto ss ls n) ≡ n
 height-is ss ls zero = refl
 height-is ss ls (suc n) = ap suc (height-is ss ls n)
 
-pub held-stacks : (m : Machine) (σ : Conf) → ChainFits m σ → Stacked (m .symbols) (tapeOf σ) (stackOf (leftOf σ)) (stackOf (rightOf σ))
+held-stacks : (m : Machine) (σ : Conf) → ChainFits m σ → Stacked (m .symbols) (tapeOf σ) (stackOf (leftOf σ)) (stackOf (rightOf σ))
 held-stacks m σ f = record {
   lefts = f .lefts .runs;
   rights = f .rights .runs;
@@ -111,6 +111,10 @@ one-value m σ τ f g e =
     }
 
 -- ---- full
+
+-- with the places lent to σ
+abbrev pub FullIn : Machine → Table → Conf → Config → Type 0
+FullIn m d σ c = FullAt m d (placesOf (σ .ls) (σ .ll)) (placesOf (σ .rs) (σ .rl)) c
 
 module _ (places w : ℕ) (x : Side) where
   tops : topOf x ≡ top (stackOf x)
@@ -146,10 +150,10 @@ same-action x a b h k = cc
 
 -- the engine's test goes by the configuration and the places alone
 module _ (m : Machine) (d : Table) (σ : Conf) (f : ChainFits m σ) (a : Action) (e : entry d (configOf σ) ≡ Defined a) where
-  pub full-exact : (isFull σ a ≡ true) ↔ FullAt m d (placesOf (σ .ls) (σ .ll)) (placesOf (σ .rs) (σ .rl)) (configOf σ)
+  pub full-exact : (isFull σ a ≡ true) ↔ FullIn m d σ (configOf σ)
   full-exact = (to, back)
     where
-      to : isFull σ a ≡ true → FullAt m d (placesOf (σ .ls) (σ .ll)) (placesOf (σ .rs) (σ .rl)) (configOf σ)
+      to : isFull σ a ≡ true → FullIn m d σ (configOf σ)
       to t = record {
         act = a;
         has = e;
@@ -159,21 +163,19 @@ module _ (m : Machine) (d : Table) (σ : Conf) (f : ChainFits m σ) (a : Action)
         full = full-says σ (a .write0 .0) _ _ (a .dir0) t;
       }
 
-      back : FullAt m d (placesOf (σ .ls) (σ .ll)) (placesOf (σ .rs) (σ .rl)) (configOf σ) → isFull σ a ≡ true
+      back : FullIn m d σ (configOf σ) → isFull σ a ≡ true
       back g =
           let q : g .act ≡ a = same-action _ _ _ (g .has) e in
           let p = one-pair (m .symbols) (tapeOf σ) (g .left) (g .right) (stackOf (leftOf σ)) (stackOf (rightOf σ)) (g .stacked) (held-stacks m σ f) in
           full-holds σ (a .write0 .0) _ _ (a .dir0)
-          (subst (λ (b : Action). FullOn (b .dir0) (b .write0 .0) (placesOf (σ .ls) (σ .ll)) (placesOf (σ .rs) (σ .rl)) (stackOf (leftOf σ)) (stackOf (rightOf σ))) q
-          (subst (λ (r : Stack). FullOn (g .act .dir0) (g .act .write0 .0) (placesOf (σ .ls) (σ .ll)) (placesOf (σ .rs) (σ .rl)) (stackOf (leftOf σ)) r) (p .1)
-          (subst (λ (l : Stack). FullOn (g .act .dir0) (g .act .write0 .0) (placesOf (σ .ls) (σ .ll)) (placesOf (σ .rs) (σ .rl)) l (g .right)) (p .0) (g .full))))
+          (subst (λ n. n) (λ i. FullOn (q i .dir0) (q i .write0 .0) (placesOf (σ .ls) (σ .ll)) (placesOf (σ .rs) (σ .rl)) (p .0 i) (p .1 i)) (g .full))
 
-  pub not-full : isFull σ a ≡ false → ¬ (FullAt m d (placesOf (σ .ls) (σ .ll)) (placesOf (σ .rs) (σ .rl)) (configOf σ))
+  pub not-full : isFull σ a ≡ false → ¬ (FullIn m d σ (configOf σ))
   not-full t g = clash (full-exact .1 g) t
 
 -- and lists of the same lengths have the same places
 pub full-same : (m : Machine) (d : Table) (σ τ : Conf) → Kept m σ τ → (c : Config)
-    → FullAt m d (placesOf (σ .ls) (σ .ll)) (placesOf (σ .rs) (σ .rl)) c ↔ FullAt m d (placesOf (τ .ls) (τ .ll)) (placesOf (τ .rs) (τ .rl)) c
+    → FullIn m d σ c ↔ FullIn m d τ c
 full-same m d σ τ k c = (subst (λ n. n) same, subst (λ n. n) (sym same))
   where
     lefts : placesOf (σ .ls) (σ .ll) ≡ placesOf (τ .ls) (τ .ll)
@@ -182,5 +184,5 @@ full-same m d σ τ k c = (subst (λ n. n) same, subst (λ n. n) (sym same))
     rights : placesOf (σ .rs) (σ .rl) ≡ placesOf (τ .rs) (τ .rl)
     rights = omega (arith, k .same-rs, k .same-rl)
 
-    same : FullAt m d (placesOf (σ .ls) (σ .ll)) (placesOf (σ .rs) (σ .rl)) c ≡ FullAt m d (placesOf (τ .ls) (τ .ll)) (placesOf (τ .rs) (τ .rl)) c
+    same : FullIn m d σ c ≡ FullIn m d τ c
     same = λ i. FullAt m d (lefts i) (rights i) c

@@ -10,7 +10,7 @@ use Rattle.laws.specs.PositionFacts.{ints, diff-⊖}
 use Rattle.laws.specs.Tests.{pick-cases}
 use Rattle.symbol.specs.Places.{raisedOf}
 use Rattle.machine.specs.declared.Machine.{Machine}
-use Rattle.stacks.specs.Sides.{cellsOf}
+use Rattle.stacks.specs.Sides.{Side, cellsOf}
 use Rattle.rle.specs.Engine.{Conf, leftOf, rightOf}
 use Rattle.rle.specs.Questions.{raisedCell, cellOn}
 use Rattle.rle_refines.specs.Meaning.{stackOf, Stream, streamOf, distance, look, tapeOf, ChainFits}
@@ -18,6 +18,10 @@ use Rattle.rle_refines.specs.SideFacts.{total-is}
 use Rattle.rle_refines.specs.TapeFacts.{diff-distance, cell-left, cell-right}
 use Rattle.rle_refines.specs.LeapFacts.{read-held}
 use Rattle.rle_refines.specs.EndFacts.{cell-at, past-cells}
+
+-- past the live runs of a side all is blank
+pub side-past : (x : Side) (d : ℕ) → cellsOf x ≤ d → streamOf x d ≡ 0
+side-past x d l = past-cells (stackOf x) d (omega (arith, total-is (x .symbols) (x .lengths) (x .count)))
 
 -- position z is the head's, or d + 1 places to one side; what stands there
 pub data Seen (l : Stream) (c : ℕ) (r : Stream) (h : ℕ) (z : ℤ) : ℕ → Type 0 where
@@ -64,13 +68,6 @@ module _ (σ : Conf) where
     at-right d e =
         let q : z ≡ (head + suc d) ⊖ 2 ^ 63 = omega (ints, diff-⊖ (head + suc d) (2 ^ 63)) in
         ap (λ y. tapeOf σ .cell y) q ∙ cell-right left right cur head (σ .sim .lowest) (σ .sim .highest) d
-
-  -- past the live runs
-  pub left-past : (d : ℕ) → cellsOf (leftOf σ) ≤ d → left d ≡ 0
-  left-past d l = past-cells (stackOf (leftOf σ)) d (omega (arith, total-is (σ .ls) (σ .ll) (σ .sim .tape .left)))
-
-  pub right-past : (d : ℕ) → cellsOf (rightOf σ) ≤ d → right d ≡ 0
-  right-past d l = past-cells (stackOf (rightOf σ)) d (omega (arith, total-is (σ .rs) (σ .rl) (σ .sim .tape .right)))
 
   -- the furthest cell to the left is a position of 64 bits
   pub left-in : (m : Machine) → ChainFits m σ → cellsOf (leftOf σ) ≤ head

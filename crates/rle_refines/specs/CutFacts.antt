@@ -13,12 +13,10 @@ use Rattle.turing.specs.Tables.{TableOf}
 use Rattle.turing.specs.RunFacts.{not-defined}
 use Rattle.turing.specs.VerdictFacts.{verdict-unique}
 use Rattle.sim.specs.Engine.{Task}
-use Rattle.stacks.specs.Sides.{placesOf}
 use Rattle.rle.specs.Engine.{Conf, End, runOf}
 use Rattle.rle_refines.specs.Meaning.{configOf, ChainFits, Alike}
-use Rattle.rle_refines.specs.Full.{FullAt}
 use Rattle.rle_refines.specs.Statement.{tableIn, after, Judged, Unproved, hasRule, isFull, Went, Answers, verdict, halted, spent, stopped, full, Refines}
-use Rattle.rle_refines.specs.Canonical.{full-exact, full-same, one-value}
+use Rattle.rle_refines.specs.Canonical.{FullIn, full-exact, full-same, one-value}
 use Rattle.rle_refines.specs.Refinement.{refines-later, run-refines}
 
 -- ---- one answer
@@ -57,8 +55,7 @@ module _ (k : Task) (fuel made : ℕ) (e : Conf) where
 
 -- the answer goes by the configuration and the places
 module _ (k : Task) (fuel made : ℕ) (e τ : Conf) (fits : ChainFits (k .machine) e) (other : ChainFits (k .machine) τ) (same : configOf e ≡ configOf τ)
-    (places : FullAt (k .machine) (tableIn k) (placesOf (e .ls) (e .ll)) (placesOf (e .rs) (e .rl)) (configOf e)
-    → FullAt (k .machine) (tableIn k) (placesOf (τ .ls) (τ .ll)) (placesOf (τ .rs) (τ .rl)) (configOf e)) where
+    (places : FullIn (k .machine) (tableIn k) e (configOf e) → FullIn (k .machine) (tableIn k) τ (configOf e)) where
   answers-same : {o : Outcome} → Answers k fuel made e o → Answers k fuel made τ o
   answers-same (verdict o t v g) = verdict o t (subst (λ c. Judged k c o) same v) g
   answers-same (halted t h) = subst (Answers k fuel made τ) (ap haltedAt (sym same)) (halted t (subst (Halted (tableIn k)) same h))
@@ -68,7 +65,7 @@ module _ (k : Task) (fuel made : ℕ) (e τ : Conf) (fits : ChainFits (k .machin
   answers-same (full a l h u q g) =
       let there : entry (tableIn k) (configOf τ) ≡ Defined a = subst (λ c. entry (tableIn k) c ≡ Defined a) same h in
       let lack : isFull τ a ≡ true = full-exact (k .machine) (tableIn k) τ other a there .1
-      (subst (FullAt (k .machine) (tableIn k) (placesOf (τ .ls) (τ .ll)) (placesOf (τ .rs) (τ .rl))) same (places (full-exact (k .machine) (tableIn k) e fits a h .0 g))) in
+      (subst (FullIn (k .machine) (tableIn k) τ) same (places (full-exact (k .machine) (tableIn k) e fits a h .0 g))) in
       subst (Answers k fuel made τ) (ap (λ (c : Config). Full (c .steps)) (sym same))
       (full a l there (subst (Unproved k) same u) (subst (λ c. hasRule k c ≡ false) same q) lack)
 
@@ -88,7 +85,7 @@ module _ (k : Task) (fuel : ℕ) (σ : Conf) where
       by (spent t h q) = omega (arith, s .within)
       by (stopped a m h u q) = clash (subst (λ c. hasRule k c ≡ true) here q) (s .went .unmatched (r .made) l)
       by (full a m h u q g) = s .went .roomy (r .made) l
-          (subst (FullAt (k .machine) (tableIn k) (placesOf (σ .ls) (σ .ll)) (placesOf (σ .rs) (σ .rl))) here
+          (subst (FullIn (k .machine) (tableIn k) σ) here
           (full-same (k .machine) (tableIn k) σ (x .at) (r .went .kept) (configOf (x .at)) .1 (full-exact (k .machine) (tableIn k) (x .at) (r .went .kept .fits) a h .0 g)))
 
   module _ (x y : End) (r : Refines k fuel σ x) (s : Refines k fuel σ y) where

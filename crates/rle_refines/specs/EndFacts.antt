@@ -51,7 +51,7 @@ module _ (k : ℕ) where
 
 -- ---- the nearest cell that is not blank, and the furthest: how far they lie, the next cell at 1
 
-pub record Ends (f : Stream) (near far : ℕ) : Type 0 where
+pub record Bounds (f : Stream) (near far : ℕ) : Type 0 where
   pub some : 1 ≤ near
   pub within : near ≤ far
   pub near-written : ¬ (f (near - 1) ≡ 0)
@@ -65,8 +65,8 @@ module _ (k : ℕ) where
   some-cells (over s n r) f h = omega (arith, f .0)
 
   -- a blank run on top lies over another
-  stack-ends : (s n : ℕ) (r : Stack) → RunsFit k (over s n r) → Ends (stream (over s n r)) (pick (eqb s 0) (n + 1) 1) (n + total r)
-  stack-ends s n r f = pick-cases (eqb s 0) (n + 1) 1 (λ x. Ends (stream (over s n r)) x (n + total r))
+  stack-ends : (s n : ℕ) (r : Stack) → RunsFit k (over s n r) → Bounds (stream (over s n r)) (pick (eqb s 0) (n + 1) 1) (n + total r)
+  stack-ends s n r f = pick-cases (eqb s 0) (n + 1) 1 (λ x. Bounds (stream (over s n r)) x (n + total r))
       (λ t. record {
         some = omega arith;
         within = omega (arith, some-cells r (f .3) (λ e. f .2 (eqb-true s 0 t ∙ sym e)));
@@ -95,6 +95,6 @@ module _ (k : ℕ) where
       let e : suc n - 1 ≡ n = omega arith in
       (λ i. pick (eqb (top-is ss ls (suc n) i) 0) (getD ls (e i) 0 + 1) 1)
 
-  pub side-ends : (ss ls : List ℕ) (n : ℕ) → RunsFit k (stackUpto ss ls n) → ¬ (n ≡ 0) → Ends (stream (stackUpto ss ls n)) (nearOf (side ss ls n)) (sumOf ls n)
+  pub side-ends : (ss ls : List ℕ) (n : ℕ) → RunsFit k (stackUpto ss ls n) → ¬ (n ≡ 0) → Bounds (stream (stackUpto ss ls n)) (nearOf (side ss ls n)) (sumOf ls n)
   side-ends ss ls zero f h = absurd (h refl)
   side-ends ss ls (suc n) f h = rw (near-is ss ls n, ← total-is ss ls (suc n)) (stack-ends (getD ss n 0) (getD ls n 0) (stackUpto ss ls n) f)

@@ -17,13 +17,14 @@ use Rattle.laws.specs.Tests.{by-test, pick-cases, pick-true, pick-false}
 use Rattle.machine.specs.declared.Machine.{Machine}
 use Rattle.turing.specs.TableMachine.{wordCell, startTape, start}
 use Rattle.turing.specs.TapeFacts.{tape-≡}
-use Rattle.stacks.specs.Sides.{Side, side, placesOf, topOf, grownOf, pushOf, cellsOf, sumOf, symbolUnder}
+use Rattle.stacks.specs.Sides.{Side, side, placesOf, topOf, pushOf, cellsOf, sumOf, symbolUnder}
+use Rattle.stacks.specs.SideFacts.{SameLengths, same-then, same-places, push-same, push-count}
 use Rattle.rle.specs.Engine.{Conf, conf}
 use Rattle.rle.specs.Fits.{zeroAt}
 use Rattle.rle.specs.Operations.{laidOf, runsOf, freshSim}
 use Rattle.rle_refines.specs.Meaning.{stackOf, top, Stream, blanks, cons, stream, streamOf, distance, look, tapeAround, configOf, RunsFit, ChainFits}
 use Rattle.rle_refines.specs.StackFacts.{total, push, push-means, push-fits, push-total, top-push}
-use Rattle.rle_refines.specs.SideFacts.{top-is, total-is, Place, push-is, SideKept, side-both, side-same, push-kept}
+use Rattle.rle_refines.specs.SideFacts.{top-is, total-is, Live, Place, push-is, push-live}
 use Rattle.rle_refines.specs.TapeFacts.{diff-distance}
 
 -- ---- the runs that a word makes
@@ -34,16 +35,11 @@ unfolding runsOf
 runs-more w zero t c = omega arith
 runs-more w (suc n) t c = pick-cases (eqb (getD w (suc n) 0) t) _ _ (λ r. c ≤ r) (λ _. runs-more w n t c) (λ _. omega (arith, runs-more w n (getD w (suc n) 0) (c + 1)))
 
-push-count : (s n : ℕ) (x : Side) → pushOf s n x .count ≡ pick (eqb s (topOf x)) (x .count) (x .count + 1)
-unfolding pushOf grownOf
-push-count s n x = by-test (eqb s (topOf x))
-    (λ t. ap (λ (y : Side). y .count) (pick-true _ _ _ t) ∙ pick-cases (eqb (x .count) 0) _ _ (λ (y : Side). y .count ≡ x .count) (λ _. refl) (λ _. refl) ∙ sym (pick-true _ _ _ t))
-    (λ t. ap (λ (y : Side). y .count) (pick-false _ _ _ t) ∙ sym (pick-false _ _ _ t))
-
 -- ---- symbols n to 1 are still to be pushed
 
 pub record Laying (k : ℕ) (w : List ℕ) (n : ℕ) (x y : Side) : Type 0 where
-  pub kept : SideKept x y
+  pub sizes : SameLengths x y
+  pub live : Live y
   pub runs : RunsFit k (stackOf y)
   -- the word's symbols after number n, and blanks after these
   pub cells : streamOf y ≡ (λ d. getD w (suc (n + d)) 0)
@@ -63,10 +59,7 @@ module _ (k : ℕ) (w : List ℕ) (word : (i : ℕ) → getD w i 0 < k) (x : Sid
     free d = omega (arith, runs-more w n s (y .count + 1), l .room, pick-false (eqb s (topOf y)) (runsOf w n (topOf y) (y .count)) (runsOf w n s (y .count + 1)) (ne-eqb _ _ d))
 
     is : stackOf next ≡ push s 1 (stackOf y)
-    is = push-is s 1 y (l .kept .live) free
-
-    next-kept : SideKept y next
-    next-kept = push-kept y (l .kept .live) s 1 free
+    is = push-is s 1 y (l .live) free
 
     next-top : topOf next ≡ s
     next-top = top-is (next .symbols) (next .lengths) (next .count) ∙ ap top is ∙ top-push s 1 (stackOf y)
@@ -87,15 +80,13 @@ module _ (k : ℕ) (w : List ℕ) (word : (i : ℕ) → getD w i 0 < k) (x : Sid
 
     lay-next : Laying k w n x next
     lay-next = record {
-      kept = side-both (l .kept) next-kept;
+      sizes = same-then (l .sizes) (push-same s 1 y);
+      live = push-live s 1 y (l .live) free;
       runs = subst (RunsFit k) (sym is) (push-fits k s 1 (stackOf y) (omega arith) (word (suc n)) (l .runs));
       cells = next-cells;
       sum = omega (arith, l .sum, total-is (next .symbols) (next .lengths) (next .count), total-is (y .symbols) (y .lengths) (y .count), ap total is, push-total s 1 (stackOf y));
-      room = omega (arith, next-runs, l .room, lengths);
+      room = omega (arith, next-runs, l .room, same-places (push-same s 1 y));
     }
-      where
-        lengths : placesOf (next .symbols) (next .lengths) ≡ placesOf (y .symbols) (y .lengths)
-        lengths = omega (arith, next-kept .symbols, next-kept .lengths)
 
   pub laid : (n : ℕ) (y : Side) → Laying k w n x y → Laying k w 0 x (laidOf w n y)
   unfolding laidOf
@@ -103,10 +94,11 @@ module _ (k : ℕ) (w : List ℕ) (word : (i : ℕ) → getD w i 0 < k) (x : Sid
   laid (suc n) y l = laid n (pushOf (getD w (suc n) 0) 1 y) (lay-next n y l)
 
   -- nothing is pushed yet
-  pub lay-first : (rs rl : List ℕ) → x ≡ side rs rl 0 → runsOf w (length w - 1) 0 0 ≤ placesOf rs rl → Laying k w (length w - 1) x (side rs rl 0)
+  lay-first : (rs rl : List ℕ) → x ≡ side rs rl 0 → runsOf w (length w - 1) 0 0 ≤ placesOf rs rl → Laying k w (length w - 1) x (side rs rl 0)
   unfolding sumOf symbolUnder pick
   lay-first rs rl e room = record {
-    kept = rw e (side-same (side rs rl 0) (omega arith));
+    sizes = rw e (record { symbols = refl; lengths = refl });
+    live = omega arith;
     runs = tt;
     cells = fun-ext (λ d. sym (List·getD-eq-default w 0 (omega arith)));
     sum = omega arith;
@@ -126,8 +118,8 @@ module _ (m : Machine) (w ls ll rs rl : List ℕ) (word : (i : ℕ) → getD w i
   done : Laying (m .symbols) w 0 (side rs rl 0) right
   done = laid (m .symbols) w word (side rs rl 0) (length w - 1) (side rs rl 0) (lay-first (m .symbols) w word (side rs rl 0) rs rl refl room)
 
-  pub fresh-kept : SideKept (side rs rl 0) right
-  fresh-kept = done .kept
+  pub fresh-sizes : SameLengths (side rs rl 0) right
+  fresh-sizes = done .sizes
 
   pub fresh-holds : configOf engine ≡ start (m .start) w
   fresh-holds = λ i. record { state = m .start; steps = 0; tape0 = tape i; tape1 = startTape []; tape2 = startTape [] }
@@ -158,7 +150,7 @@ module _ (m : Machine) (w ls ll rs rl : List ℕ) (word : (i : ℕ) → getD w i
     low-near = omega arith;
     high-near = omega arith;
     lefts = record { live = omega arith; runs = tt; sum = omega arith };
-    rights = record { live = done .kept .live; runs = done .runs; sum = omega (arith, done .sum) };
+    rights = record { live = done .live; runs = done .runs; sum = omega (arith, done .sum) };
     left-far = omega arith;
     right-far = omega (arith, done .sum);
   }

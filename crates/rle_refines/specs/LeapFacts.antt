@@ -12,7 +12,9 @@ use Rattle.tables.specs.WellFormed.{ActionOf}
 use Rattle.turing.specs.TableMachine.{Table, Config, readT, entry, run, Sideways}
 use Rattle.turing.specs.Tables.{TableOf}
 use Rattle.stacks.specs.Sides.{Side, placesOf, lacks}
-use Rattle.rle.specs.Engine.{Conf, leftOf, rightOf, Carried, carryOf, fullFor, leap, leapTo, leapOf, Leap}
+use Rattle.rle.specs.Engine.{Conf, leftOf, rightOf, Carried, carryOf, fullFor, noPlace, leap, leapTo, leapOf, Leap}
+use Rattle.rle.specs.Turns.{SameSizes}
+use Rattle.rle.specs.LeapFacts.{leap-sizes}
 use Rattle.rle_refines.specs.Meaning.{stackOf, Stream, tail, prepend, stream, streamOf, tapeAround, tapeOf, configOf, SideFits, ChainFits}
 use Rattle.rle_refines.specs.Statement.{isFull, Kept}
 use Rattle.rle_refines.specs.StackFacts.{take, Reach}
@@ -67,7 +69,7 @@ module _ (σ : Conf) where
   unfolding leapTo
   leapt-still j = refl
 
-  room-behind : (x : Dir) → Sideways x → (w : ℕ) → fullFor x w (placesOf (σ .ls) (σ .ll)) (placesOf (σ .rs) (σ .rl)) (leftOf σ) (rightOf σ) ≡ false
+  room-behind : (x : Dir) → Sideways x → (w : ℕ) → noPlace x w σ ≡ false
       → lacks (placesOf (behindOf x σ .symbols) (behindOf x σ .lengths)) w (behindOf x σ) ≡ false
   unfolding fullFor
   room-behind L s w e = e
@@ -95,7 +97,7 @@ module _ (m : Machine) (σ : Conf) (f : ChainFits m σ) where
   sides-in R = (f .lefts, f .rights)
   sides-in N = (f .lefts, f .rights)
 
-  module _ (w n : ℕ) (some : 1 ≤ n) (w-in : w < m .symbols) (x : Dir) (s : Sideways x) (room : fullFor x w (placesOf (σ .ls) (σ .ll)) (placesOf (σ .rs) (σ .rl)) (leftOf σ) (rightOf σ) ≡ false) where
+  module _ (w n : ℕ) (some : 1 ≤ n) (w-in : w < m .symbols) (x : Dir) (s : Sideways x) (room : noPlace x w σ ≡ false) where
     pub carried : Carries (m .symbols) w n (σ .sim .steps + n + 2 ^ 20) (behindOf x σ) (aheadOn x σ) (carryOf w n (behindOf x σ) (aheadOn x σ))
     carried = carry-holds (m .symbols) w n (σ .sim .steps + 2 ^ 20) (σ .sim .steps + n + 2 ^ 20) (behindOf x σ) (aheadOn x σ) some (omega arith) w-in
         (sides-in x .0) (sides-in x .1) (room-behind σ x s w room)
@@ -156,73 +158,57 @@ module _ (m : Machine) (d : Table) (table : TableOf m d) (single : m .tapes ≡ 
 
     pub leap-keeps : Kept m σ (leapOf (leap a (suc k)) σ)
     unfolding leapTo
-    leap-keeps = by (a .dir0) refl
+    leap-keeps =
+        let z : SameSizes σ (leapOf (leap a (suc k)) σ) = leap-sizes (leap a (suc k)) σ (a .dir0) in
+        record { fits = by (a .dir0) refl; same-ls = z .ls; same-ll = z .ll; same-rs = z .rs; same-rl = z .rl }
       where
         later : (x : Side) → SideFits (m .symbols) (σ .sim .steps + 2 ^ 20) x → SideFits (m .symbols) (σ .sim .steps + suc k + 2 ^ 20) x
         later x g = record { live = g .live; runs = g .runs; sum = omega (arith, g .sum) }
 
-        by : (x : Dir) → a .dir0 ≡ x → Kept m σ (leapTo x (leap a (suc k)) σ)
+        by : (x : Dir) → a .dir0 ≡ x → ChainFits m (leapTo x (leap a (suc k)) σ)
         by L e =
             let c = carried m σ f (a .write0 .0) (suc k) (omega arith) (of-machine .write0-in) L tt (rw e at room) in
             record {
-              fits = record {
-                state-in = of-machine .next-in;
-                steps-in = small;
-                macros-in = omega (arith, f .macros-in);
-                read-in = c .read-in (omega (arith, f .read-in));
-                low-head = omega arith;
-                head-high = omega arith;
-                low-near = omega (arith, f .low-near, f .low-head, deep);
-                high-near = omega (arith, f .high-near, f .head-high);
-                lefts = c .ahead-fits;
-                rights = c .behind-fits;
-                left-far = omega (arith, f .left-far, c .ahead-sum, deep);
-                right-far = omega (arith, f .right-far, c .behind-sum, deep);
-              };
-              same-ls = c .ahead-kept .symbols;
-              same-ll = c .ahead-kept .lengths;
-              same-rs = c .behind-kept .symbols;
-              same-rl = c .behind-kept .lengths;
+              state-in = of-machine .next-in;
+              steps-in = small;
+              macros-in = omega (arith, f .macros-in);
+              read-in = c .read-in (omega (arith, f .read-in));
+              low-head = omega arith;
+              head-high = omega arith;
+              low-near = omega (arith, f .low-near, f .low-head, deep);
+              high-near = omega (arith, f .high-near, f .head-high);
+              lefts = c .ahead-fits;
+              rights = c .behind-fits;
+              left-far = omega (arith, f .left-far, c .ahead-sum, deep);
+              right-far = omega (arith, f .right-far, c .behind-sum, deep);
             }
         by R e =
             let c = carried m σ f (a .write0 .0) (suc k) (omega arith) (of-machine .write0-in) R tt (rw e at room) in
             record {
-              fits = record {
-                state-in = of-machine .next-in;
-                steps-in = small;
-                macros-in = omega (arith, f .macros-in);
-                read-in = c .read-in (omega (arith, f .read-in));
-                low-head = omega arith;
-                head-high = omega arith;
-                low-near = omega (arith, f .low-near, f .low-head);
-                high-near = omega (arith, f .high-near, f .head-high);
-                lefts = c .behind-fits;
-                rights = c .ahead-fits;
-                left-far = omega (arith, f .left-far, c .behind-sum);
-                right-far = omega (arith, f .right-far, c .ahead-sum);
-              };
-              same-ls = c .behind-kept .symbols;
-              same-ll = c .behind-kept .lengths;
-              same-rs = c .ahead-kept .symbols;
-              same-rl = c .ahead-kept .lengths;
+              state-in = of-machine .next-in;
+              steps-in = small;
+              macros-in = omega (arith, f .macros-in);
+              read-in = c .read-in (omega (arith, f .read-in));
+              low-head = omega arith;
+              head-high = omega arith;
+              low-near = omega (arith, f .low-near, f .low-head);
+              high-near = omega (arith, f .high-near, f .head-high);
+              lefts = c .behind-fits;
+              rights = c .ahead-fits;
+              left-far = omega (arith, f .left-far, c .behind-sum);
+              right-far = omega (arith, f .right-far, c .ahead-sum);
             }
         by N e = record {
-          fits = record {
-            state-in = of-machine .next-in;
-            steps-in = small;
-            macros-in = omega (arith, f .macros-in);
-            read-in = of-machine .write0-in;
-            low-head = omega arith;
-            head-high = omega arith;
-            low-near = omega (arith, f .low-near, f .low-head);
-            high-near = omega (arith, f .high-near, f .head-high);
-            lefts = later (leftOf σ) (f .lefts);
-            rights = later (rightOf σ) (f .rights);
-            left-far = omega (arith, f .left-far);
-            right-far = omega (arith, f .right-far);
-          };
-          same-ls = refl;
-          same-ll = refl;
-          same-rs = refl;
-          same-rl = refl;
+          state-in = of-machine .next-in;
+          steps-in = small;
+          macros-in = omega (arith, f .macros-in);
+          read-in = of-machine .write0-in;
+          low-head = omega arith;
+          head-high = omega arith;
+          low-near = omega (arith, f .low-near, f .low-head);
+          high-near = omega (arith, f .high-near, f .head-high);
+          lefts = later (leftOf σ) (f .lefts);
+          rights = later (rightOf σ) (f .rights);
+          left-far = omega (arith, f .left-far);
+          right-far = omega (arith, f .right-far);
         }

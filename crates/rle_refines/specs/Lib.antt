@@ -1,6 +1,7 @@
 pub mod Meaning
 pub mod Full
 pub mod Statement
+pub mod Operations
 pub mod StackFacts
 pub mod SideFacts
 pub mod TapeFacts
@@ -10,13 +11,12 @@ pub mod Canonical
 pub mod PlanFacts
 pub mod MidFacts
 pub mod Refinement
-pub mod FitFacts
 pub mod RunFacts
-pub mod FreshFacts
-pub mod Operations
-pub mod OperationFacts
 pub mod SpaceFacts
 pub mod CutFacts
+pub mod FitFacts
+pub mod FreshFacts
+pub mod OperationFacts
 pub mod EndFacts
 pub mod CellFacts
 pub mod SpanFacts

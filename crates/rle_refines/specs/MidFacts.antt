@@ -15,12 +15,11 @@ use Rattle.tables.specs.WellFormed.{ActionOf}
 use Rattle.turing.specs.TableMachine.{Config, readT, entry, run, Stays, Sideways, Walks, outOfFuelAt, goes}
 use Rattle.turing.specs.Tables.{TableOf}
 use Rattle.sim.specs.Engine.{Task, matches}
-use Rattle.stacks.specs.Sides.{placesOf, topOf, lacks}
-use Rattle.rle.specs.Engine.{Conf, leftOf, rightOf, carryOf, fullFor, leap, leapTo, leapOf, Leap}
+use Rattle.stacks.specs.Sides.{topOf, lacks}
+use Rattle.rle.specs.Engine.{Conf, leftOf, rightOf, carryOf, fullFor, noPlace, leap, leapTo, leapOf, Leap}
 use Rattle.rle_refines.specs.Meaning.{Stack, stackOf, Stream, blanks, tail, prepend, stream, streamOf, configOf, ChainFits}
 use Rattle.rle_refines.specs.Statement.{tableIn, after, Judged, Unproved, hasRule, isFull, FullAfter, Kept}
-use Rattle.rle_refines.specs.Full.{FullAt}
-use Rattle.rle_refines.specs.Canonical.{same-action, not-full, full-same}
+use Rattle.rle_refines.specs.Canonical.{same-action, FullIn, not-full, full-same}
 use Rattle.rle_refines.specs.StackFacts.{prepend-blank, take, Reach}
 use Rattle.rle_refines.specs.SideFacts.{Carries}
 use Rattle.rle_refines.specs.LeapFacts.{behindOf, aheadOn, by-way, read-held, entry-at, Over, over-reach, sides, leap-holds, leap-keeps}
@@ -50,7 +49,7 @@ all-blank f z e = fun-ext at
 -- ---- the parts of a macro step
 
 module _ (j : Leap) (σ : Conf) where
-  pub leapt-state : (x : Dir) → leapTo x j σ .sim .state ≡ j .next
+  leapt-state : (x : Dir) → leapTo x j σ .sim .state ≡ j .next
   unfolding leapTo
   leapt-state L = refl
   leapt-state R = refl
@@ -91,7 +90,7 @@ module _ (j : Leap) (σ : Conf) where
   leapt-still = refl
 
 -- where the symbol behind is the one to be written, there is no need of a place
-merges : (w : ℕ) (τ : Conf) (x : Dir) → (Sideways x → topOf (behindOf x τ) ≡ w) → fullFor x w (placesOf (τ .ls) (τ .ll)) (placesOf (τ .rs) (τ .rl)) (leftOf τ) (rightOf τ) ≡ false
+merges : (w : ℕ) (τ : Conf) (x : Dir) → (Sideways x → topOf (behindOf x τ) ≡ w) → noPlace x w τ ≡ false
 unfolding fullFor lacks
 merges w τ L e = pick-true (eqb w (topOf (rightOf τ))) _ _ (eq-eqb _ _ (sym (e tt)))
 merges w τ R e = pick-true (eqb w (topOf (leftOf τ))) _ _ (eq-eqb _ _ (sym (e tt)))
@@ -140,26 +139,26 @@ module _ (k : Task) (table : TableOf (k .machine) (tableIn k)) (single : k .mach
     keeps-state = r .keeps (suc j) l (omega arith)
 
     -- the same state, and the same symbol under the head
-    pub cut-state : cut j .sim .state ≡ σ .sim .state
+    cut-state : cut j .sim .state ≡ σ .sim .state
     cut-state = leapt-state (leap a (suc j)) σ (a .dir0) ∙ ap stateOf keeps-state
 
     first-left : (s : Sideways (a .dir0)) → stream (take j (stackOf (aheadOn (a .dir0) σ))) 0 ≡ σ .sim .tape .cur
     first-left s = next-cell (σ .sim .tape .cur) j (stackOf (aheadOn (a .dir0) σ)) (over-reach (a .dir0) s (a .write0 .0) j σ (r .way j before))
         (over-reach (a .dir0) s (a .write0 .0) (suc j) σ (r .way (suc j) l))
 
-    pub cut-read : cut j .sim .tape .cur ≡ σ .sim .tape .cur
+    cut-read : cut j .sim .tape .cur ≡ σ .sim .tape .cur
     cut-read = by-way (a .dir0)
         (λ s. leapt-read (leap a (suc j)) σ (a .dir0) s ∙ parts j before s .read ∙ ap (λ i. stream (take i (stackOf (aheadOn (a .dir0) σ))) 0) one-less ∙ first-left s)
         (λ n. ap (λ x. leapTo x (leap a (suc j)) σ .sim .tape .cur) n ∙ leapt-still (leap a (suc j)) σ ∙ subst (λ x. Over x (a .write0 .0) (suc j) σ) n (r .way (suc j) l) (omega arith))
 
-    pub cut-entry : entry (tableIn k) (configOf (cut j)) ≡ Defined a
+    cut-entry : entry (tableIn k) (configOf (cut j)) ≡ Defined a
     cut-entry = entry-at (tableIn k) (cut j) ∙ (λ i. tableIn k (cut-state i .0) (cut-read i) 0 0) ∙ reads
 
     -- inside a macro step the push merges
     cut-merges : isFull (cut j) a ≡ false
     cut-merges = merges (a .write0 .0) (cut j) (a .dir0) (λ s. ap topOf (leapt-behind (leap a (suc j)) σ (a .dir0) s) ∙ parts j before s .again)
 
-    cut-roomy : ¬ (FullAt (k .machine) (tableIn k) (placesOf (σ .ls) (σ .ll)) (placesOf (σ .rs) (σ .rl)) (configOf (cut j)))
+    cut-roomy : ¬ (FullIn (k .machine) (tableIn k) σ (configOf (cut j)))
     cut-roomy g =
         let c : Kept (k .machine) σ (cut j) = cut-kept j before in
         not-full (k .machine) (tableIn k) (cut j) (c .fits) a cut-entry cut-merges (full-same (k .machine) (tableIn k) σ (cut j) c (configOf (cut j)) .0 g)
@@ -175,7 +174,7 @@ module _ (k : Task) (table : TableOf (k .machine) (tableIn k)) (single : k .mach
         ∙ prepend-blank j
 
     module _ (u : Unproved k (configOf σ)) where
-      pub cut-unproved : Unproved k (configOf (cut j))
+      cut-unproved : Unproved k (configOf (cut j))
       cut-unproved t =
           let o = unproved-says k (configOf σ) a e (u t) in
           let g : ChainFits (k .machine) (cut j) = cut-kept j before .fits in
@@ -207,4 +206,4 @@ module _ (k : Task) (table : TableOf (k .machine) (tableIn k)) (single : k .mach
   way-unmatched h = all-along (λ c. hasRule k c ≡ false) h (λ j l. ap (matches (k .rule)) (cut-state j l) ∙ h)
 
   pub way-roomy : (j : ℕ) → j < n → ¬ (FullAfter k j σ)
-  way-roomy = all-along (λ c. ¬ (FullAt (k .machine) (tableIn k) (placesOf (σ .ls) (σ .ll)) (placesOf (σ .rs) (σ .rl)) c)) (not-full (k .machine) (tableIn k) σ f a e room) cut-roomy
+  way-roomy = all-along (λ c. ¬ (FullIn (k .machine) (tableIn k) σ c)) (not-full (k .machine) (tableIn k) σ f a e room) cut-roomy

@@ -4,10 +4,10 @@ use mathlib.Core.Bool.{true}
 use mathlib.Core.List.{List}
 use Prim.Native.Nat.{ℕ, _+_, _-_, _≤_, _<_, _^_}
 use native.Mathlib.Omega.{arith}
-use borrow.Author.Tests.{leb-true, eqb-true, le-leb, eq-eqb}
+use borrow.Author.Tests.{le-leb, eq-eqb}
 use lib.ListN.{length, getD}
 use Rattle.laws.specs.Choice.{pick}
-use Rattle.laws.specs.Tests.{both-split, both-true}
+use Rattle.laws.specs.Tests.{both-true}
 use Rattle.outcome.specs.declared.NonHaltProof.{NonHaltProof}
 use Rattle.outcome.specs.declared.Outcome.{Outcome}
 use Rattle.outcome.specs.declared.Outcome.the-variants.{NeverHalts}
@@ -15,8 +15,7 @@ use Rattle.machine.specs.declared.Machine.{Machine}
 use Rattle.machine.specs.declared.Checked.{Checked}
 use Rattle.machine.specs.declared.Checked.the-variants.{Accepted, Refused}
 use Rattle.machine.specs.Check.{tableCheck}
-use Rattle.machine.specs.CheckFacts.{demand-says, ranges}
-use Rattle.machine.specs.Word.{wordCheck}
+use Rattle.machine.specs.CheckFacts.{ranges}
 use Rattle.machine.specs.WordFacts.{word-says}
 use Rattle.tables.specs.WellFormed.{Bytes}
 use Rattle.turing.specs.TableMachine.{run, Halted}
@@ -24,20 +23,20 @@ use Rattle.turing.specs.Tables.{tableOf}
 use Rattle.sim.specs.declared.StopRule.{StopRule}
 use Rattle.sim.specs.declared.Answer.the-variants as Ans
 use Rattle.sim.specs.Engine.{task}
-use Rattle.sim.specs.Operations.{fuelFits}
-use Rattle.sim.specs.OperationCases.{on-says}
 use Rattle.stacks.specs.Sides.{Side, side, placesOf}
+use Rattle.stacks.specs.SideFacts.{SameLengths, same-places}
 use Rattle.rle.specs.declared.ChainSim.{ChainSim}
 use Rattle.rle.specs.declared.Fresh.the-variants as New
 use Rattle.rle.specs.Engine.{Conf, conf, End, end, runOf}
 use Rattle.rle.specs.Fits.{placesFit, valueCheck, engineCheck, runCheck}
-use Rattle.rle.specs.Operations.{Given, given, runOn, runAnswer, laidOf, runsOf, freshSizes, freshCheck, freshSim, Made, made, madeWith, freshOn, newAnswer}
+use Rattle.rle.specs.Operations.{Given, given, runOn, runAnswer, laidOf, freshCheck, freshSim, Made, made, madeWith, freshOn, newAnswer}
+use Rattle.rle.specs.OperationCases as Code
 use Rattle.rle_refines.specs.Meaning.{configOf, ChainFits}
 use Rattle.rle_refines.specs.Statement.{Refines, Kept}
 use Rattle.rle_refines.specs.Refinement.{chain-refines}
 use Rattle.rle_refines.specs.RunFacts.{never-halts}
 use Rattle.rle_refines.specs.FitFacts.{fits-holds, holds-fits}
-use Rattle.rle_refines.specs.FreshFacts.{fresh-kept, fresh-holds, fresh-fits, word-all}
+use Rattle.rle_refines.specs.FreshFacts.{fresh-sizes, fresh-holds, fresh-fits, word-all}
 use Rattle.rle_refines.specs.Operations.{RunHolds, NewHolds}
 
 -- ---- what a passed check says
@@ -49,31 +48,25 @@ pub record Passed (m : Machine) (s : List ℕ) (σ : Conf) : Type 0 where
   pub fits : ChainFits m σ
 
 module _ (m : Machine) (s : List ℕ) (σ : Conf) where
+  held : Code.Passed m s σ → Passed m s σ
+  held p = record { table = p .table; single = p .tapes; places = p .places; fits = fits-holds m σ (p .fits) }
+
   pub engine-says : engineCheck m s σ ≡ Accepted → Passed m s σ
-  unfolding engineCheck valueCheck
-  engine-says e =
-      let t = on-says _ _ e in
-      let a = demand-says _ _ _ (t .1) in
-      let b = demand-says _ _ _ (a .1) in
-      record { table = t .0; single = eqb-true _ _ (a .0); places = b .0; fits = fits-holds m σ (demand-says _ _ _ (b .1) .0) }
+  engine-says e = held (Code.engine-says m s σ e)
 
   pub engine-passes : Passed m s σ → engineCheck m s σ ≡ Accepted
   unfolding engineCheck valueCheck pick
   engine-passes p = rw (p .table, eq-eqb (m .tapes) 1 (p .single), p .places, holds-fits m σ (p .fits))
 
   pub run-says : (fuel : ℕ) → runCheck m s fuel σ ≡ Accepted → Passed m s σ × (σ .sim .steps + fuel ≤ 2 ^ 62)
-  unfolding runCheck fuelFits
   run-says fuel e =
-      let t = on-says _ _ e in
-      let f = both-split (demand-says _ _ _ (t .1) .0) in
-      let a : fuel ≤ 2 ^ 62 = leb-true _ _ (f .0) in
-      let b : σ .sim .steps ≤ 2 ^ 62 - fuel = leb-true _ _ (f .1) in
-      (engine-says (t .0), omega arith)
+      let p = Code.run-says m s fuel σ e in
+      (held (p .0), p .1)
 
 -- places of lists of the same lengths
-same-places : (σ τ : Conf) → placesOf (τ .ls) (τ .ll) ≡ placesOf (σ .ls) (σ .ll) → placesOf (τ .rs) (τ .rl) ≡ placesOf (σ .rs) (σ .rl) → placesFit σ ≡ true → placesFit τ ≡ true
+places-kept : (σ τ : Conf) → placesOf (τ .ls) (τ .ll) ≡ placesOf (σ .ls) (σ .ll) → placesOf (τ .rs) (τ .rl) ≡ placesOf (σ .rs) (σ .rl) → placesFit σ ≡ true → placesFit τ ≡ true
 unfolding placesFit
-same-places σ τ l r e = rw (l, r) e
+places-kept σ τ l r e = rw (l, r) e
 
 -- ---- the run
 
@@ -112,7 +105,7 @@ module _ (m : Machine) (s : List ℕ) (bytes : Bytes s) (rule : StopRule) (fuel 
         accepted = engine-passes m s τ (record {
           table = passed .0 .table;
           single = passed .0 .single;
-          places = same-places σ τ (omega (arith, k .same-ls, k .same-ll)) (omega (arith, k .same-rs, k .same-rl)) (passed .0 .places);
+          places = places-kept σ τ (omega (arith, k .same-ls, k .same-ll)) (omega (arith, k .same-rs, k .same-rl)) (passed .0 .places);
           fits = k .fits;
         });
       }
@@ -140,31 +133,6 @@ module _ (m : Machine) (s w ls ll rs rl : List ℕ) (v : ChainSim) (rs′ rl′ 
   unfolding newAnswer
   new-answered = accepted-fresh _ _ _ _ _ _ _ done
 
-  record FreshPassed : Type 0 where
-    table : tableCheck m s ≡ Accepted
-    single : m .tapes ≡ 1
-    word : wordCheck (m .symbols) w ≡ Accepted
-    lefts : placesOf ls ll ≤ 1048576
-    rights : placesOf rs rl ≤ 1048576
-    room : runsOf w (length w - 1) 0 0 ≤ placesOf rs rl
-
-  fresh-says : FreshPassed
-  unfolding freshCheck freshSizes
-  fresh-says =
-      let t = on-says _ _ (new-answered .0) in
-      let a = demand-says _ _ _ (t .1) in
-      let b = on-says _ _ (a .1) in
-      let c = both-split (demand-says _ _ _ (b .1) .0) in
-      let d = both-split (c .1) in
-      record {
-        table = t .0;
-        single = eqb-true _ _ (a .0);
-        word = b .0;
-        lefts = leb-true _ _ (c .0);
-        rights = leb-true _ _ (d .0);
-        room = leb-true _ _ (d .1);
-      }
-
   engine-is : engine ≡ conf v ls ll rs′ rl′
   engine-is =
       let q : freshSim m w (right .count) ≡ v = sim-is in
@@ -176,24 +144,24 @@ module _ (m : Machine) (s w ls ll rs rl : List ℕ) (v : ChainSim) (rs′ rl′ 
   new-engine : NewHolds m s w rs rl engine
   unfolding placesFit
   new-engine =
-      let g : FreshPassed = fresh-says in
+      let g : Code.FreshPassed m s w (placesOf ls ll) (placesOf rs rl) = Code.fresh-says m s w (placesOf ls ll) (placesOf rs rl) (new-answered .0) in
       let r = ranges m s (g .table) in
       let p = word-says (m .symbols) w (g .word) in
       let all : (i : ℕ) → getD w i 0 < m .symbols = word-all (m .symbols) w (r .symbols-low) (p .1) in
       let fits : ChainFits m engine = fresh-fits m w ls ll rs rl all (p .0) (r .start-in) (g .room) in
-      let kept = fresh-kept m w ls ll rs rl all (p .0) (r .start-in) (g .room) in
-      let few : placesOf (right .symbols) (right .lengths) ≤ 1048576 = omega (arith, kept .symbols, kept .lengths, g .rights) in
+      let same : SameLengths (side rs rl 0) right = fresh-sizes m w ls ll rs rl all (p .0) (r .start-in) (g .room) in
+      let few : placesOf (right .symbols) (right .lengths) ≤ 1048576 = omega (arith, same-places same, g .rights) in
       record {
         holds = fresh-holds m w ls ll rs rl all (p .0) (r .start-in) (g .room);
         fits = fits;
         accepted = engine-passes m s engine (record {
           table = g .table;
-          single = g .single;
+          single = g .tapes;
           places = both-true (le-leb _ _ (g .lefts)) (le-leb _ _ few);
           fits = fits;
         });
-        same-rs = kept .symbols;
-        same-rl = kept .lengths;
+        same-rs = same .symbols;
+        same-rl = same .lengths;
       }
 
   pub new-holds : NewHolds m s w rs rl (conf v ls ll rs′ rl′)

@@ -185,7 +185,7 @@ module _ (k : Task) (single : k .machine .tapes ≡ 1) (σ : Conf) (f : ChainFit
   over-blank N w j = absurd (w .sideways)
 
   -- "a macro step is one step; where the entry keeps the state and moves, it is the run ahead .. plus one, or the fuel if less; a proved loop covers all the fuel"
-  pub repeats-right : (p : Sure) → Sees k σ a p → Repeats σ a fuel (repeatsOf p (σ .sim .state) a (σ .sim .tape .cur) fuel (leftOf σ) (rightOf σ))
+  repeats-right : (p : Sure) → Sees k σ a p → Repeats σ a fuel (repeatsOf p (σ .sim .state) a (σ .sim .tape .cur) fuel (leftOf σ) (rightOf σ))
   unfolding repeatsOf
   repeats-right Open s = pick-cases (eqb (a .next .0) (σ .sim .state .0)) _ _ (Repeats σ a fuel) (λ t. chain-repeats (eqb-true _ _ t) (a .dir0) refl) (λ t. once)
   repeats-right (Loops p) (stay h) = record {

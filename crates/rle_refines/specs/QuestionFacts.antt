@@ -24,11 +24,11 @@ use Rattle.sim.specs.declared.questions.Got.the-variants as Got
 use Rattle.sim.specs.declared.questions.Extent.the-variants as Extent
 use Rattle.sim.specs.declared.questions.Counted.the-variants as Counted
 use Rattle.sim.specs.Questions.{askedOn}
-use Rattle.rle.specs.Engine.{Conf}
+use Rattle.rle.specs.Engine.{Conf, rightOf}
 use Rattle.rle.specs.Fits.{engineCheck}
 use Rattle.rle.specs.Questions.{raisedCell, windowCell, windowFrom, windowOn, windowAll, blankTape, spanOf, getAnswer, extentAnswer, countAnswer, windowInto}
 use Rattle.rle_refines.specs.Meaning.{tapeOf, ChainFits}
-use Rattle.rle_refines.specs.CellFacts.{here, leftward, rightward, Stands, seen, right-past, cell-is, raised-is}
+use Rattle.rle_refines.specs.CellFacts.{here, leftward, rightward, Stands, seen, side-past, cell-is, raised-is}
 use Rattle.rle_refines.specs.SpanFacts.{all-blank, lowest-is, highest-is}
 use Rattle.rle_refines.specs.CountFacts.{CountedOn, count-within}
 use Rattle.rle_refines.specs.OperationFacts.{engine-says}
@@ -54,7 +54,7 @@ module _ (m : Machine) (σ : Conf) (f : ChainFits m σ) (z : ℤ) (out : List �
       by : {x : ℕ} → Stands σ y x → x ≡ 0
       by (here e) = absurd (omega (arith, f .head-high, f .high-near, f .steps-in))
       by (leftward d e) = absurd (omega (arith, f .head-high, f .high-near, f .steps-in))
-      by (rightward d e) = right-past σ d (omega (arith, f .right-far, f .steps-in))
+      by (rightward d e) = side-past (rightOf σ) d (omega (arith, f .right-far, f .steps-in))
 
   -- place j holds the cell at z + j
   pub window-is : dn z ≤ 2 ^ 63 → (j : ℕ) → j < length out → getD (windowFrom σ (raisedOf z) out) j 0 ≡ tapeOf σ .cell (z +ℤ pos j)

@@ -14,12 +14,10 @@ use Rattle.turing.specs.Tables.{TableOf}
 use Rattle.turing.specs.RunFacts.{not-defined, run-add}
 use Rattle.turing.specs.TableFacts.{accepted-table}
 use Rattle.sim.specs.Engine.{Task, task}
-use Rattle.stacks.specs.Sides.{placesOf}
 use Rattle.rle.specs.Engine.{Conf, leap, leapOf, End, end, onPlan, runWithin, runOf, Leap, Plan, Stop}
 use Rattle.rle_refines.specs.Meaning.{configOf, ChainFits}
-use Rattle.rle_refines.specs.Full.{FullAt}
 use Rattle.rle_refines.specs.Statement.{tableIn, after, Unproved, hasRule, isFull, Kept, Went, Answers, verdict, halted, spent, stopped, full, Refines, ChainRefines}
-use Rattle.rle_refines.specs.Canonical.{full-same}
+use Rattle.rle_refines.specs.Canonical.{FullIn, full-same}
 use Rattle.rle_refines.specs.PlanFacts as P
 use Rattle.rle_refines.specs.PlanFacts.{Repeats, Plans, plan-right}
 use Rattle.rle_refines.specs.MidFacts.{leapt-steps, leapt-macros, cut-holds, cut-kept, way-entry, way-unproved, way-unmatched, way-roomy}
@@ -79,7 +77,7 @@ module _ (k : Task) (n made : ℕ) (σ τ e : Conf) (w : Went k n σ τ) (v : We
       by (yes x) = h i x
       by (no x) = let q : n + (i - n) ≡ i = omega arith in subst (λ c. P (after k c σ)) q (subst P (later (i - n)) (g (i - n) (omega arith)))
 
-  pub went-both : Went k (n + made) σ e
+  went-both : Went k (n + made) σ e
   went-both = record {
     holds = v .holds ∙ later made;
     counted = omega (arith, w .counted, v .counted);
@@ -88,11 +86,11 @@ module _ (k : Task) (n made : ℕ) (σ τ e : Conf) (w : Went k n σ τ) (v : We
     running = all-along (λ c. ¬ (Halted (tableIn k) c)) (w .running) (v .running);
     unproved = all-along (Unproved k) (w .unproved) (v .unproved);
     unmatched = all-along (λ c. hasRule k c ≡ false) (w .unmatched) (v .unmatched);
-    roomy = all-along (λ c. ¬ (FullAt (k .machine) (tableIn k) (placesOf (σ .ls) (σ .ll)) (placesOf (σ .rs) (σ .rl)) c)) (w .roomy)
+    roomy = all-along (λ c. ¬ (FullIn (k .machine) (tableIn k) σ c)) (w .roomy)
         (λ i l g. v .roomy i l (full-same (k .machine) (tableIn k) σ τ (w .kept) (after k i τ) .0 g));
   }
 
-pub answers-later : (k : Task) (n : ℕ) {fuel made : ℕ} {e : Conf} {o : Outcome} → Answers k fuel made e o → Answers k (n + fuel) (n + made) e o
+answers-later : (k : Task) (n : ℕ) {fuel made : ℕ} {e : Conf} {o : Outcome} → Answers k fuel made e o → Answers k (n + fuel) (n + made) e o
 answers-later k n (verdict o t v g) = verdict o t v (λ i h. ap (λ x. n + x) (g i h))
 answers-later k n (halted t h) = halted t h
 answers-later k n (spent t h q) = spent t h (ap (λ x. n + x) q)
@@ -124,7 +122,7 @@ module _ (k : Task) (table : TableOf (k .machine) (tableIn k)) (single : k .mach
   next-steps : next .sim .steps ≡ σ .sim .steps + suc j
   next-steps = leapt-steps (leap a (suc j)) σ (a .dir0)
 
-  pub next-small : next .sim .steps + (fuel - suc j) ≤ 2 ^ 62
+  next-small : next .sim .steps + (fuel - suc j) ≤ 2 ^ 62
   next-small = omega (arith, next-steps, within-fuel)
 
   pub leap-went : Went k (suc j) σ next
@@ -148,7 +146,7 @@ module _ (k : Task) (table : TableOf (k .machine) (tableIn k)) (single : k .mach
 
 module _ (k : Task) (table : TableOf (k .machine) (tableIn k)) (single : k .machine .tapes ≡ 1) where
   -- any number above the fuel bounds the macro steps
-  pub within-refines : (most fuel : ℕ) (σ : Conf) → ChainFits (k .machine) σ → σ .sim .steps + fuel ≤ 2 ^ 62 → fuel < most → Refines k fuel σ (runWithin k most fuel σ)
+  within-refines : (most fuel : ℕ) (σ : Conf) → ChainFits (k .machine) σ → σ .sim .steps + fuel ≤ 2 ^ 62 → fuel < most → Refines k fuel σ (runWithin k most fuel σ)
   unfolding runWithin
   within-refines zero fuel σ f small l = absurd (omega arith)
   within-refines (suc most) fuel σ f small l = by (λ j. within-refines most (fuel - j .repeats) (leapOf j σ)) (plan-right k table single fuel σ f)
@@ -168,27 +166,6 @@ module _ (k : Task) (table : TableOf (k .machine) (tableIn k)) (single : k .mach
   pub run-refines : (fuel : ℕ) (σ : Conf) → ChainFits (k .machine) σ → σ .sim .steps + fuel ≤ 2 ^ 62 → Refines k fuel σ (runOf k fuel σ)
   unfolding runOf
   run-refines fuel σ f small = within-refines (suc fuel) fuel σ f small (omega arith)
-
-  -- and whichever bounds them, the run is the same
-  pub within-same : (most other fuel : ℕ) (σ : Conf) → ChainFits (k .machine) σ → σ .sim .steps + fuel ≤ 2 ^ 62 → fuel < most → fuel < other
-      → runWithin k most fuel σ ≡ runWithin k other fuel σ
-  unfolding runWithin
-  within-same zero other fuel σ f small l g = absurd (omega arith)
-  within-same (suc most) zero fuel σ f small l g = absurd (omega arith)
-  within-same (suc most) (suc other) fuel σ f small l g = by (λ j. within-same most other (fuel - j .repeats) (leapOf j σ)) (plan-right k table single fuel σ f)
-    where
-      by : ((j : Leap) → ChainFits (k .machine) (leapOf j σ) → leapOf j σ .sim .steps + (fuel - j .repeats) ≤ 2 ^ 62 → fuel - j .repeats < most → fuel - j .repeats < other
-          → runWithin k most (fuel - j .repeats) (leapOf j σ) ≡ runWithin k other (fuel - j .repeats) (leapOf j σ))
-          → {p : Plan} → Plans k fuel σ p
-          → onPlan p (end σ) (λ j. runWithin k most (fuel - j .repeats) (leapOf j σ)) ≡ onPlan p (end σ) (λ j. runWithin k other (fuel - j .repeats) (leapOf j σ))
-      by on (P.no-entry h) = refl
-      by on (P.loops p t v) = refl
-      by on (P.spent a e u z) = refl
-      by on (P.stops a e u x r) = refl
-      by on (P.lacks-place a e u x r h) = refl
-      by on (P.leaps a zero e u x h r) = absurd (omega (arith, r .some))
-      by on (P.leaps a (suc j) e u x h r) = on (leap a (suc j)) (leap-went k table single σ f a e u x h fuel j r small .kept .fits) (next-small k table single σ f a e u x h fuel j r small)
-          (omega (arith, r .within)) (omega (arith, r .within))
 
 pub chain-refines : ChainRefines
 chain-refines m s bytes accepted single proves rule = run-refines (task m s proves rule) (accepted-table m s bytes accepted) single

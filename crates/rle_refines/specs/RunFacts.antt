@@ -1,9 +1,9 @@
--- What follows for a run: `never` is sound, a run without fuel gives the verdict, and a run is a macro step and then a run. Assumes nothing.
-use mathlib.Core.Path.{_≡_, refl, ap, _∙_, subst}
+-- What follows for a run: without fuel its answer is the verdict, and `never` is sound. Assumes nothing.
+use mathlib.Core.Path.{_≡_, refl, subst}
 use mathlib.Core.Logic.{_↔_}
 use mathlib.Core.Bool.{Bool, true}
 use mathlib.Core.List.{List}
-use Prim.Native.Nat.{ℕ, zero, suc, _+_, _-_, _≤_, _<_, _^_}
+use Prim.Native.Nat.{ℕ, _+_, _-_, _≤_, _<_, _^_}
 use native.Mathlib.Decide.{decLt}
 use native.Mathlib.Omega.{arith}
 use Rattle.outcome.specs.declared.NonHaltProof.{NonHaltProof}
@@ -22,47 +22,14 @@ use Rattle.turing.specs.NeverFacts.{never-sound-bare}
 use Rattle.turing.specs.TableFacts.{accepted-table}
 use Rattle.sim.specs.declared.StopRule.{StopRule}
 use Rattle.sim.specs.Engine.{Task, task}
-use Rattle.rle.specs.Engine.{Conf, leapOf, planOf, End, end, onPlan, runWithin, runOf, Leap, Plan, Stop, Go}
+use Rattle.rle.specs.Engine.{Conf, leapOf, End, end, onPlan, runWithin, runOf, Plan, Stop}
 use Rattle.rle_refines.specs.Meaning.{configOf, ChainFits}
-use Rattle.rle_refines.specs.Statement.{tableIn, Judged, Kept, Answers, verdict, Refines}
+use Rattle.rle_refines.specs.Statement.{tableIn, Judged, Answers, verdict, Refines}
 use Rattle.rle_refines.specs.PlanFacts as P
 use Rattle.rle_refines.specs.PlanFacts.{Plans, plan-right}
-use Rattle.rle_refines.specs.Refinement.{leap-went, next-small, within-same, chain-refines}
+use Rattle.rle_refines.specs.Refinement.{chain-refines}
 
 module _ (k : Task) (table : TableOf (k .machine) (tableIn k)) (single : k .machine .tapes ≡ 1) where
-  -- ---- a run is its plan, and the rest
-
-  pub run-ends : (fuel : ℕ) (σ : Conf) (o : Outcome) → planOf k fuel σ ≡ Stop o → runOf k fuel σ ≡ end σ o
-  unfolding runOf runWithin
-  run-ends fuel σ o e = ap (λ p. onPlan p (end σ) (λ j. runWithin k fuel (fuel - j .repeats) (leapOf j σ))) e
-
-  -- a macro step that is planned: some steps, not more than the fuel, and what fits is kept
-  pub record Turned (fuel : ℕ) (σ : Conf) (j : Leap) : Type 0 where
-    pub some : 1 ≤ j .repeats
-    pub within : j .repeats ≤ fuel
-    pub kept : Kept (k .machine) σ (leapOf j σ)
-    pub small : leapOf j σ .sim .steps + (fuel - j .repeats) ≤ 2 ^ 62
-
-  module _ (fuel : ℕ) (σ : Conf) (f : ChainFits (k .machine) σ) (small : σ .sim .steps + fuel ≤ 2 ^ 62) where
-    turned-by : (j : Leap) → Plans k fuel σ (Go j) → Turned fuel σ j
-    turned-by j (P.leaps a zero e u g h r) = absurd (omega (arith, r .some))
-    turned-by j (P.leaps a (suc n) e u g h r) = record {
-      some = r .some;
-      within = r .within;
-      kept = leap-went k table single σ f a e u g h fuel n r small .kept;
-      small = next-small k table single σ f a e u g h fuel n r small;
-    }
-
-    pub turned : (j : Leap) → planOf k fuel σ ≡ Go j → Turned fuel σ j
-    turned j e = turned-by j (subst (Plans k fuel σ) e (plan-right k table single fuel σ f))
-
-    pub run-goes : (j : Leap) → planOf k fuel σ ≡ Go j → runOf k fuel σ ≡ runOf k (fuel - j .repeats) (leapOf j σ)
-    unfolding runOf runWithin
-    run-goes j e =
-        let t = turned j e in
-        ap (λ p. onPlan p (end σ) (λ i. runWithin k fuel (fuel - i .repeats) (leapOf i σ))) e
-        ∙ within-same k table single fuel (suc (fuel - j .repeats)) (fuel - j .repeats) (leapOf j σ) (t .kept .fits) (t .small) (omega (arith, t .some, t .within)) (omega arith)
-
   -- ---- without fuel the run stands, and its answer is the verdict, and no other
 
   module _ (σ : Conf) (f : ChainFits (k .machine) σ) where

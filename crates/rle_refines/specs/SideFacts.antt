@@ -7,11 +7,12 @@ use native.Mathlib.Numerals.{add-one}
 use native.Mathlib.Omega.{arith}
 use borrow.Author.Tests.{eqb-true, eqb-false, eq-eqb, ne-eqb, leb-false}
 use lib.Dec.{eqb}
-use lib.ListN.{length, getD, set, length-set}
+use lib.ListN.{length, getD, set}
 use lib.Seq.{getD-set-same, getD-set-other}
 use Rattle.laws.specs.Choice.{pick}
 use Rattle.laws.specs.Tests.{by-test, pick-cases, pick-true, pick-false}
 use Rattle.stacks.specs.Sides.{Side, side, placesOf, symbolUnder, topOf, aheadOf, grownOf, pushOf, lacks, takeOf, sumOf, cellsOf}
+use Rattle.stacks.specs.SideFacts.{SameLengths, push-same, push-count, take-same, take-fewer}
 use Rattle.rle.specs.Engine.{Carried, carryOf}
 use Rattle.rle_refines.specs.Meaning.{Stack, over, stackUpto, stackOf, top, tail, prepend, stream, streamOf, RunsFit, SideFits}
 use Rattle.rle_refines.specs.StackFacts.{total, grow, push, trim, take, ahead, push-means, first-cell, other-cells, push-fits, take-fits, top-below, push-total, take-total, top-push}
@@ -38,6 +39,10 @@ pub ahead-is : (a : ℕ) (ss ls : List ℕ) (n : ℕ) → aheadOf a (side ss ls 
 unfolding aheadOf pick
 ahead-is a ss ls zero = refl
 ahead-is a ss ls (suc n) = not-zero n _ _ ∙ ap (λ j. pick (eqb (getD ss j 0) a) (getD ls j 0) 0) (one-less n)
+
+-- the live runs have places
+abbrev pub Live : Side → Type 0
+Live x = x .count ≤ placesOf (x .symbols) (x .lengths)
 
 -- a push needs no new run, or there is a place for it
 abbrev pub Place : ℕ → Side → Type 0
@@ -70,7 +75,7 @@ new-is : (s n : ℕ) (ss ls : List ℕ) (count : ℕ) → count < length ss → 
 new-is s n ss ls c h g = ap (stackUpto (set ss c s) (set ls c n)) (add-one c) ∙ set-top c n (set ss c s) ls g
     ∙ (λ i. over (getD-set-same ss c s 0 h i) n (past-symbols c c s ss ls (omega arith) i))
 
-pub push-is : (s n : ℕ) (x : Side) → x .count ≤ placesOf (x .symbols) (x .lengths) → Place s x → stackOf (pushOf s n x) ≡ push s n (stackOf x)
+pub push-is : (s n : ℕ) (x : Side) → Live x → Place s x → stackOf (pushOf s n x) ≡ push s n (stackOf x)
 unfolding pushOf push
 push-is s n x l p = by-test (eqb s (topOf x))
     (λ t. ap stackOf (pick-true (eqb s (topOf x)) _ _ t) ∙ grow-is n (x .symbols) (x .lengths) (x .count) (omega arith)
@@ -89,7 +94,7 @@ unfolding pick
 cut-is n zero ss ls h = past-lengths n n 0 ss ls (omega arith)
 cut-is n (suc m) ss ls h = ap (stackUpto ss (set ls n (suc m))) (not-zero m _ _) ∙ set-top n (suc m) ss ls h
 
-pub take-is : (n : ℕ) (ss ls : List ℕ) (count : ℕ) → count ≤ length ls → stackOf (takeOf n (side ss ls count)) ≡ take n (stackUpto ss ls count)
+take-is : (n : ℕ) (ss ls : List ℕ) (count : ℕ) → count ≤ length ls → stackOf (takeOf n (side ss ls count)) ≡ take n (stackUpto ss ls count)
 unfolding takeOf take pick
 take-is n ss ls zero h = refl
 take-is n ss ls (suc c) h =
@@ -97,38 +102,18 @@ take-is n ss ls (suc c) h =
     ∙ ap (λ j. stackUpto ss (set ls j (getD ls j 0 - n)) (pick (eqb (getD ls j 0 - n) 0) j (suc c))) (one-less c)
     ∙ cut-is c (getD ls c 0 - n) ss ls h
 
--- ---- the lengths of the lists are kept, and the live runs have places
+-- ---- the live runs still have places
 
-pub record SideKept (x y : Side) : Type 0 where
-  pub symbols : length (y .symbols) ≡ length (x .symbols)
-  pub lengths : length (y .lengths) ≡ length (x .lengths)
-  pub live : y .count ≤ placesOf (y .symbols) (y .lengths)
+pub push-live : (s n : ℕ) (x : Side) → Live x → Place s x → Live (pushOf s n x)
+push-live s n x l p =
+    let z : SameLengths x (pushOf s n x) = push-same s n x in
+    pick-cases (eqb s (topOf x)) (x .count) (x .count + 1) (λ c. pushOf s n x .count ≡ c → Live (pushOf s n x))
+    (λ _ e. omega arith) (λ t e. omega (arith, p (eqb-false _ _ t))) (push-count s n x)
 
-pub side-both : {x y z : Side} → SideKept x y → SideKept y z → SideKept x z
-side-both p q = record { symbols = q .symbols ∙ p .symbols; lengths = q .lengths ∙ p .lengths; live = q .live }
-
-module _ (x : Side) (live : x .count ≤ placesOf (x .symbols) (x .lengths)) where
-  pub side-same : SideKept x x
-  side-same = record { symbols = refl; lengths = refl; live = live }
-
-  -- where only the lengths of runs are written
-  less-kept : (j v count : ℕ) → count ≤ x .count → SideKept x (side (x .symbols) (set (x .lengths) j v) count)
-  less-kept j v c l = record { symbols = refl; lengths = length-set (x .lengths) j v; live = omega (arith, length-set (x .lengths) j v) }
-
-  pub push-kept : (s n : ℕ) → Place s x → SideKept x (pushOf s n x)
-  unfolding pushOf grownOf
-  push-kept s n p = pick-cases (eqb s (topOf x)) _ _ (SideKept x)
-      (λ _. pick-cases (eqb (x .count) 0) _ _ (SideKept x) (λ _. side-same) (λ _. less-kept _ _ (x .count) (omega arith)))
-      (λ t. record {
-        symbols = length-set (x .symbols) (x .count) s;
-        lengths = length-set (x .lengths) (x .count) n;
-        live = omega (arith, length-set (x .symbols) (x .count) s, length-set (x .lengths) (x .count) n, p (eqb-false _ _ t));
-      })
-
-  pub take-kept : (n : ℕ) → SideKept x (takeOf n x)
-  unfolding takeOf
-  take-kept n = pick-cases (eqb (x .count) 0) _ _ (SideKept x) (λ _. side-same)
-      (λ _. less-kept _ _ _ (pick-cases (eqb (getD (x .lengths) (x .count - 1) 0 - n) 0) (x .count - 1) (x .count) (λ c. c ≤ x .count) (λ _. omega arith) (λ _. omega arith)))
+take-live : (n : ℕ) (x : Side) → Live x → Live (takeOf n x)
+take-live n x l =
+    let z : SameLengths x (takeOf n x) = take-same n x in
+    omega (arith, take-fewer n x (takeOf n x) refl)
 
 -- ---- a macro step's two sides
 
@@ -136,11 +121,8 @@ module _ (x : Side) (live : x .count ≤ placesOf (x .symbols) (x .lengths)) whe
 pub record Carries (k w n later : ℕ) (b a : Side) (c : Carried) : Type 0 where
   pub behind-cells : streamOf (c .behind) ≡ prepend n w (streamOf b)
   pub read : c .cur ≡ stream (take (n - 1) (stackOf a)) 0
-  pub read-top : c .cur ≡ top (take (n - 1) (stackOf a))
   pub ahead-cells : streamOf (c .ahead) ≡ tail (stream (take (n - 1) (stackOf a)))
   pub read-in : 0 < k → c .cur < k
-  pub behind-kept : SideKept b (c .behind)
-  pub ahead-kept : SideKept a (c .ahead)
   pub behind-fits : SideFits k later (c .behind)
   pub ahead-fits : SideFits k later (c .ahead)
   pub behind-sum : cellsOf (c .behind) ≤ cellsOf b + n
@@ -162,11 +144,8 @@ module _ (k w n most later : ℕ) (b a : Side) (some : 1 ≤ n) (grown : most + 
   free : Place w b
   free = place w b room
 
-  rest-kept : SideKept a rest
-  rest-kept = take-kept a (fa .live) (n - 1)
-
-  last-kept : SideKept rest last
-  last-kept = take-kept rest (rest-kept .live) 1
+  rest-live : Live rest
+  rest-live = take-live (n - 1) a (fa .live)
 
   behind-is : stackOf (pushOf w n b) ≡ push w n (stackOf b)
   behind-is = push-is w n b (fb .live) free
@@ -175,7 +154,7 @@ module _ (k w n most later : ℕ) (b a : Side) (some : 1 ≤ n) (grown : most + 
   rest-is = take-is (n - 1) (a .symbols) (a .lengths) (a .count) (omega (arith, fa .live))
 
   last-is : stackOf last ≡ take 1 left-over
-  last-is = take-is 1 (rest .symbols) (rest .lengths) (rest .count) (omega (arith, rest-kept .live)) ∙ ap (take 1) rest-is
+  last-is = take-is 1 (rest .symbols) (rest .lengths) (rest .count) (omega (arith, rest-live)) ∙ ap (take 1) rest-is
 
   rest-fits : RunsFit k left-over
   rest-fits = take-fits k (n - 1) (stackOf a) (fa .runs)
@@ -197,18 +176,15 @@ module _ (k w n most later : ℕ) (b a : Side) (some : 1 ≤ n) (grown : most + 
   carry-holds = record {
     behind-cells = ap stream behind-is ∙ push-means w n (stackOf b);
     read = top-read ∙ sym (first-cell k left-over rest-fits);
-    read-top = top-read;
     ahead-cells = ap stream last-is ∙ sym (other-cells k left-over rest-fits);
     read-in = λ h. rw top-read (top-below k left-over h rest-fits);
-    behind-kept = push-kept b (fb .live) w n free;
-    ahead-kept = side-both rest-kept last-kept;
     behind-fits = record {
-      live = push-kept b (fb .live) w n free .live;
+      live = push-live w n b (fb .live) free;
       runs = subst (RunsFit k) (sym behind-is) (push-fits k w n (stackOf b) some w-in (fb .runs));
       sum = omega (arith, more, fb .sum);
     };
     ahead-fits = record {
-      live = last-kept .live;
+      live = take-live 1 rest rest-live;
       runs = subst (RunsFit k) (sym last-is) (take-fits k 1 left-over rest-fits);
       sum = omega (arith, fewer, fa .sum);
     };

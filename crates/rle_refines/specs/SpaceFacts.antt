@@ -14,12 +14,10 @@ use Rattle.turing.specs.TableMachine.{Halted}
 use Rattle.turing.specs.Tables.{TableOf}
 use Rattle.turing.specs.RunFacts.{not-defined, run-past}
 use Rattle.sim.specs.Engine.{Task, matches}
-use Rattle.stacks.specs.Sides.{placesOf}
 use Rattle.rle.specs.Engine.{Conf, End, runOf}
 use Rattle.rle_refines.specs.Meaning.{configOf, ChainFits}
-use Rattle.rle_refines.specs.Full.{FullAt}
 use Rattle.rle_refines.specs.Statement.{tableIn, after, FullAfter, FullWithin, Kept, Answers, verdict, halted, spent, stopped, full, Refines}
-use Rattle.rle_refines.specs.Canonical.{full-exact, full-same}
+use Rattle.rle_refines.specs.Canonical.{FullIn, full-exact, full-same}
 use Rattle.rle_refines.specs.Refinement.{run-refines}
 
 module _ (k : Task) (quiet : k .proves ≡ false) (unruled : (q : State) → matches (k .rule) q ≡ false) (fuel : ℕ) (σ : Conf) where
@@ -39,8 +37,8 @@ module _ (k : Task) (quiet : k .proves ≡ false) (unruled : (q : State) → mat
     kept = r .went .kept
 
     -- the step from where the run ended, with the places of the start
-    full-here : FullAt (k .machine) (tableIn k) (placesOf (τ .ls) (τ .ll)) (placesOf (τ .rs) (τ .rl)) (configOf (e .at)) → FullAfter k (r .made) σ
-    full-here g = subst (FullAt (k .machine) (tableIn k) (placesOf (σ .ls) (σ .ll)) (placesOf (σ .rs) (σ .rl))) (r .went .holds)
+    full-here : FullIn (k .machine) (tableIn k) τ (configOf (e .at)) → FullAfter k (r .made) σ
+    full-here g = subst (FullIn (k .machine) (tableIn k) σ) (r .went .holds)
         (full-same (k .machine) (tableIn k) σ τ kept (configOf τ) .1 g)
 
     -- a halted configuration stays, and no step from it is full

@@ -13,12 +13,12 @@ use Rattle.symbol.specs.declared.Dir.{Dir}
 use Rattle.symbol.specs.declared.Dir.the-variants.{L, R}
 use Rattle.machine.specs.declared.Machine.{Machine}
 use Rattle.turing.specs.TableMachine.{Beyond}
-use Rattle.stacks.specs.Sides.{cellsOf, nearOf}
+use Rattle.stacks.specs.Sides.{Side, cellsOf, nearOf}
 use Rattle.rle.specs.Engine.{Conf, leftOf, rightOf}
 use Rattle.rle.specs.Fits.{zeroAt}
 use Rattle.rle.specs.Questions.{lowestOf, highestOf, blankTape}
-use Rattle.rle_refines.specs.Meaning.{stackUpto, stream, tapeOf, ChainFits}
-use Rattle.rle_refines.specs.EndFacts.{Ends, side-ends}
+use Rattle.rle_refines.specs.Meaning.{stackUpto, stream, streamOf, tapeOf, ChainFits}
+use Rattle.rle_refines.specs.EndFacts.{Bounds, side-ends}
 use Rattle.rle_refines.specs.CellFacts.{here, leftward, rightward, left, right, cur, head, Stands, seen, at-head, at-left, at-right, left-in}
 
 -- the last cell that way that is not blank
@@ -26,17 +26,15 @@ pub record Last (x : Dir) (cell : ℤ → ℕ) (a : ℤ) : Type 0 where
   pub written : ¬ (cell a ≡ 0)
   pub beyond : (y : ℤ) → Beyond x a y → cell y ≡ 0
 
+-- a side without runs is blank
+no-runs : (x : Side) → x .count ≡ 0 → (d : ℕ) → streamOf x d ≡ 0
+no-runs x e d = ap (λ n. stream (stackUpto (x .symbols) (x .lengths) n) d) e
+
 module _ (m : Machine) (σ : Conf) (f : ChainFits m σ) where
-  left-none : σ .sim .tape .left ≡ 0 → (d : ℕ) → left σ d ≡ 0
-  left-none e d = ap (λ n. stream (stackUpto (σ .ls) (σ .ll) n) d) e
-
-  right-none : σ .sim .tape .right ≡ 0 → (d : ℕ) → right σ d ≡ 0
-  right-none e d = ap (λ n. stream (stackUpto (σ .rs) (σ .rl) n) d) e
-
-  left-ends : ¬ (σ .sim .tape .left ≡ 0) → Ends (left σ) (nearOf (leftOf σ)) (cellsOf (leftOf σ))
+  left-ends : ¬ (σ .sim .tape .left ≡ 0) → Bounds (left σ) (nearOf (leftOf σ)) (cellsOf (leftOf σ))
   left-ends n = side-ends (m .symbols) (σ .ls) (σ .ll) (σ .sim .tape .left) (f .lefts .runs) n
 
-  right-ends : ¬ (σ .sim .tape .right ≡ 0) → Ends (right σ) (nearOf (rightOf σ)) (cellsOf (rightOf σ))
+  right-ends : ¬ (σ .sim .tape .right ≡ 0) → Bounds (right σ) (nearOf (rightOf σ)) (cellsOf (rightOf σ))
   right-ends n = side-ends (m .symbols) (σ .rs) (σ .rl) (σ .sim .tape .right) (f .rights .runs) n
 
   pub all-blank : blankTape σ ≡ true → (y : ℤ) → tapeOf σ .cell y ≡ 0
@@ -45,8 +43,8 @@ module _ (m : Machine) (σ : Conf) (f : ChainFits m σ) where
     where
       by : {x : ℕ} → Stands σ y x → x ≡ 0
       by (here e) = eqb-true _ _ (both-split t .0)
-      by (leftward d e) = left-none (eqb-true _ _ (both-split (both-split t .1) .0)) d
-      by (rightward d e) = right-none (eqb-true _ _ (both-split (both-split t .1) .1)) d
+      by (leftward d e) = no-runs (leftOf σ) (eqb-true _ _ (both-split (both-split t .1) .0)) d
+      by (rightward d e) = no-runs (rightOf σ) (eqb-true _ _ (both-split (both-split t .1) .1)) d
 
   not-all : blankTape σ ≡ false → cur σ ≡ 0 → σ .sim .tape .left ≡ 0 → σ .sim .tape .right ≡ 0 → ⊥
   unfolding blankTape
@@ -57,14 +55,14 @@ module _ (m : Machine) (σ : Conf) (f : ChainFits m σ) where
     abbrev place : ℤ
     place = p ⊖ zeroAt
 
-    abbrev pub IsLast : Dir → Type 0
+    abbrev IsLast : Dir → Type 0
     IsLast x = Last x (tapeOf σ .cell) place
 
     -- what lies beyond, as seen from the head
     abbrev Off : Dir → Type 0
     Off x = (y : ℤ) (v : ℕ) → Beyond x place y → Stands σ y v → v ≡ 0
 
-    low-left : Ends (left σ) (nearOf (leftOf σ)) (cellsOf (leftOf σ)) → p + cellsOf (leftOf σ) ≡ head σ → IsLast L
+    low-left : Bounds (left σ) (nearOf (leftOf σ)) (cellsOf (leftOf σ)) → p + cellsOf (leftOf σ) ≡ head σ → IsLast L
     low-left x q = record {
       written = λ e. x .far-written (sym (at-left σ place (cellsOf (leftOf σ) - 1) (omega (arith, diff-⊖ p zeroAt, x .some, x .within))) ∙ e);
       beyond = λ y b. off y _ b (seen σ y);
@@ -83,10 +81,10 @@ module _ (m : Machine) (σ : Conf) (f : ChainFits m σ) where
       where
         off : Off L
         off y v b (here e) = absurd (omega (ints, b, diff-⊖ p zeroAt))
-        off y v b (leftward d e) = left-none n d
+        off y v b (leftward d e) = no-runs (leftOf σ) n d
         off y v b (rightward d e) = absurd (omega (ints, b, diff-⊖ p zeroAt))
 
-    low-right : σ .sim .tape .left ≡ 0 → cur σ ≡ 0 → Ends (right σ) (nearOf (rightOf σ)) (cellsOf (rightOf σ)) → p ≡ head σ + nearOf (rightOf σ) → IsLast L
+    low-right : σ .sim .tape .left ≡ 0 → cur σ ≡ 0 → Bounds (right σ) (nearOf (rightOf σ)) (cellsOf (rightOf σ)) → p ≡ head σ + nearOf (rightOf σ) → IsLast L
     low-right n c x q = record {
       written = λ e. x .near-written (sym (at-right σ place (nearOf (rightOf σ) - 1) (omega (arith, diff-⊖ p zeroAt, x .some))) ∙ e);
       beyond = λ y b. off y _ b (seen σ y);
@@ -94,10 +92,10 @@ module _ (m : Machine) (σ : Conf) (f : ChainFits m σ) where
       where
         off : Off L
         off y v b (here e) = c
-        off y v b (leftward d e) = left-none n d
+        off y v b (leftward d e) = no-runs (leftOf σ) n d
         off y v b (rightward d e) = x .before d (omega (ints, b, diff-⊖ p zeroAt))
 
-    high-right : Ends (right σ) (nearOf (rightOf σ)) (cellsOf (rightOf σ)) → p ≡ head σ + cellsOf (rightOf σ) → IsLast R
+    high-right : Bounds (right σ) (nearOf (rightOf σ)) (cellsOf (rightOf σ)) → p ≡ head σ + cellsOf (rightOf σ) → IsLast R
     high-right x q = record {
       written = λ e. x .far-written (sym (at-right σ place (cellsOf (rightOf σ) - 1) (omega (arith, diff-⊖ p zeroAt, x .some, x .within))) ∙ e);
       beyond = λ y b. off y _ b (seen σ y);
@@ -117,9 +115,9 @@ module _ (m : Machine) (σ : Conf) (f : ChainFits m σ) where
         off : Off R
         off y v b (here e) = absurd (omega (ints, b, diff-⊖ p zeroAt))
         off y v b (leftward d e) = absurd (omega (ints, b, diff-⊖ p zeroAt))
-        off y v b (rightward d e) = right-none n d
+        off y v b (rightward d e) = no-runs (rightOf σ) n d
 
-    high-left : σ .sim .tape .right ≡ 0 → cur σ ≡ 0 → Ends (left σ) (nearOf (leftOf σ)) (cellsOf (leftOf σ)) → p + nearOf (leftOf σ) ≡ head σ → IsLast R
+    high-left : σ .sim .tape .right ≡ 0 → cur σ ≡ 0 → Bounds (left σ) (nearOf (leftOf σ)) (cellsOf (leftOf σ)) → p + nearOf (leftOf σ) ≡ head σ → IsLast R
     high-left n c x q = record {
       written = λ e. x .near-written (sym (at-left σ place (nearOf (leftOf σ) - 1) (omega (arith, diff-⊖ p zeroAt, x .some))) ∙ e);
       beyond = λ y b. off y _ b (seen σ y);
@@ -128,7 +126,7 @@ module _ (m : Machine) (σ : Conf) (f : ChainFits m σ) where
         off : Off R
         off y v b (here e) = c
         off y v b (leftward d e) = x .before d (omega (ints, b, diff-⊖ p zeroAt))
-        off y v b (rightward d e) = right-none n d
+        off y v b (rightward d e) = no-runs (rightOf σ) n d
 
   pub lowest-is : blankTape σ ≡ false → IsLast (lowestOf σ) L
   unfolding lowestOf

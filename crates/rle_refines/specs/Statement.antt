@@ -18,7 +18,7 @@ use Rattle.turing.specs.Tables.{tableOf}
 use Rattle.sim.specs.declared.StopRule.{StopRule}
 use Rattle.sim.specs.Engine.{Task, task, matches}
 use Rattle.stacks.specs.Sides.{placesOf}
-use Rattle.rle.specs.Engine.{Conf, leftOf, rightOf, End, fullFor, runOf}
+use Rattle.rle.specs.Engine.{Conf, noPlace, End, runOf}
 use Rattle.rle_refines.specs.Meaning.{configOf, ChainFits}
 use Rattle.rle_refines.specs.Full.{FullAt}
 
@@ -45,7 +45,7 @@ hasRule k c = matches (k .rule) (stateOf (c .state))
 
 -- "Full exactly when the step's push needs a new run on a side whose live runs fill its lent places."
 abbrev pub isFull : Conf → Action → Bool
-isFull σ a = fullFor (a .dir0) (a .write0 .0) (placesOf (σ .ls) (σ .ll)) (placesOf (σ .rs) (σ .rl)) (leftOf σ) (rightOf σ)
+isFull σ a = noPlace (a .dir0) (a .write0 .0) σ
 
 -- the same of the table machine's step from the configuration after j steps, with the places lent
 abbrev pub FullAfter : Task → ℕ → Conf → Type 0

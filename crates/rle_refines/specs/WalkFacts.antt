@@ -20,7 +20,7 @@ use Rattle.rle_refines.specs.TapeFacts.{facing, onward, arrived, read-ar
 abbrev pub at : (state steps : ℕ) → Tape → Config
 at q s t = record { state = q; steps = s; tape0 = t; tape1 = blankTape; tape2 = blankTape }
 
-pub read-facing : (d : Dir) (b a : Stream) (c h lo hi : ℕ) → readT (facing d b c a h lo hi) ≡ c
+read-facing : (d : Dir) (b a : Stream) (c h lo hi : ℕ) → readT (facing d b c a h lo hi) ≡ c
 read-facing L b a c h lo hi = read-around a b c h lo hi
 read-facing R b a c h lo hi = read-around b a c h lo hi
 read-facing N b a c h lo hi = read-around b a c h lo hi
