@@ -84,7 +84,7 @@ pub data AllRight : List Case → Type 1 where
   _also_ : {A : Type 0} {a b : A} {rest : List Case} → a ≡ b → AllRight rest → AllRight (case a b ∷ rest)
 
 pub starred-cases : AllRight starred
-unfolding runAnswer runCheck fuelCheck valueCheck tableCheck sizeCheck entriesCheck entryOk allIn firstFail pick both sizesFit simFits tapeFits fuelFits newAnswer freshCheck freshSizes wordCheck symbolsCheck freshOf blanked laid fillFrom bareSim handBack runOf runWith lookWith lookOn entryOf entryAt actionAt judgeOf loopOf staysAll stays blankBeyond readOf roomsOf roomFor leaves extra stepOf actOf moveOf grownBy movedUp shiftOf matches Chains.runAnswer Chains.newAnswer Chains.freshCheck Chains.freshSizes Chains.runsOf Chains.laidOf Fits.runCheck Fits.engineCheck Fits.valueCheck Fits.placesFit Fits.chainFits Fits.countsFit Fits.headFits Fits.reachFits Fits.sideFits Chain.runOf Chain.runWithin Chain.planOf Chain.planOn Chain.neverOf Chain.fuelOf Chain.spaceOf Chain.fullFor Chain.repeatsOf Chain.chainFor Chain.sureOf Chain.patternOf Chain.leapTo Chain.carryOf symbolUnder aheadOf grownOf pushOf lacks takeOf runFits runsFit sumOf
+unfolding runAnswer runCheck fuelCheck valueCheck tableCheck sizeCheck entriesCheck entryOk allIn firstFail pick both sizesFit simFits tapeFits fuelFits newAnswer freshCheck freshSizes wordCheck symbolsCheck freshOf blanked laid fillFrom bareSim handBack runOf runWith lookWith lookOn entryOf entryAt actionAt judgeOf loopOf staysAll stays blankBeyond readOf roomsOf roomFor leaves extra stepOf actOf moveOf grownBy movedUp shiftOf matches Chains.runAnswer Chains.newAnswer Chains.freshCheck Chains.freshSizes Chains.runsOf Chains.laidOf Fits.runCheck Fits.engineCheck Fits.valueCheck Fits.placesFit Fits.chainFits Fits.countsFit Fits.headFits Fits.reachFits Fits.sideFits Chain.runOf Chain.runWithin Chain.planOf Chain.turnOf Chain.turnOn Chain.provedOf Chain.fueledOf Chain.loopsFor Chain.proofOf Chain.fullFor Chain.chainFor Chain.leapTo Chain.carryOf symbolUnder aheadOf grownOf pushOf lacks takeOf runFits runsFit sumOf
 starred-cases =
     refl also refl also refl also refl also refl also refl also refl also refl also refl also refl also refl also
     refl also refl also refl also refl also refl also refl also refl also refl also refl also refl also refl also done

@@ -7,6 +7,7 @@ use Prim.Native.Nat.{ℕ, zero, suc, _+_, _≤_, _<_, _^_, min}
 use native.Mathlib.Omega.{arith}
 use borrow.Author.Tests.{eqb-true, eqb-false}
 use lib.Dec.{eqb}
+use Rattle.laws.specs.Choice.{pick}
 use Rattle.laws.specs.Tests.{pick-cases, clash}
 use Rattle.symbol.specs.declared.Dir.{Dir}
 use Rattle.symbol.specs.declared.Dir.the-variants.{L, R, N}
@@ -27,7 +28,8 @@ use Rattle.sim.specs.declared.StopRule.the-variants.{Never}
 use Rattle.sim.specs.declared.Answer.the-variants as Ans
 use Rattle.sim.specs.Engine.{Task, task, entryOf, matches}
 use Rattle.stacks.specs.Sides.{aheadOf}
-use Rattle.rle.specs.Engine.{Conf, leftOf, rightOf, sureOf, chainFor, repeatsOf, leap, spaceOf, fuelOf, neverOf, planOn, planOf, leapOf, End, end, runOf, Sure, Open, Loops, Leap, Plan, Stop, Go}
+use Rattle.rle.specs.declared.inner.Turn.{Turn}
+use Rattle.rle.specs.Engine.{Conf, leftOf, rightOf, chainFor, loopsOf, stepOf, fueledOf, provedOf, turnOn, turnOf, timesOf, leapBy, planBy, planOf, leapOf, End, end, runOf, Leap, Plan, Stop, Go}
 use Rattle.rle.specs.RunFacts.{run-ends, run-goes}
 use Rattle.rle.specs.Fits.{runCheck}
 use Rattle.rle.specs.Operations.{given, runOn, runAnswer}
@@ -36,7 +38,8 @@ use Rattle.rle_refines.specs.Statement.{FullWithin, Went, Answers, verdict, hal
 use Rattle.rle_refines.specs.Canonical.{full-exact, not-full}
 use Rattle.rle_refines.specs.PlanFacts as P
 use Rattle.rle_refines.specs.LeapFacts.{aheadOn, entry-at}
-use Rattle.rle_refines.specs.PlanFacts.{Sees, unsure, stay, walk, sure-sees, Plans, plan-right}
+use Rattle.rle_refines.specs.PatternFacts.{Sees, unsure, stay, walk, loop-sees}
+use Rattle.rle_refines.specs.PlanFacts.{Plans, plan-right}
 use Rattle.rle_refines.specs.MidFacts.{leapt-macros}
 use Rattle.rle_refines.specs.Refinement.{leap-went, refines-later}
 use Rattle.rle_refines.specs.SpaceFacts.{full-iff}
@@ -54,22 +57,26 @@ not-full-verdict t d c o (goes a h s w) n e = let z : _≡_ {A = ℕ} 0 1 = cc i
 -- ---- a plan that goes on is the entry's, so often
 
 module _ (a : Action) (fuel : ℕ) (σ : Conf) (j : Leap) where
-  abbrev times : Sure → ℕ
-  times p = repeatsOf p (σ .sim .state) a (σ .sim .tape .cur) fuel (leftOf σ) (rightOf σ)
+  abbrev times : (loops : Bool) → ℕ
+  times b = timesOf (stepOf b a (σ .sim .state)) fuel σ
+
+  -- a turn that goes on has so many repeats
+  abbrev SoOften : ℕ → Turn → Type 0
+  SoOften n t = planBy t fuel σ ≡ Go j → j .repeats ≡ n
 
   not-stop : (o : Outcome) (n : ℕ) → Stop o ≡ Go j → j .repeats ≡ n
   not-stop o n e = let z : _≡_ {A = ℕ} 0 1 = cc in absurd (omega arith)
 
-  fuel-goes : (p : Sure) (rule : StopRule) → fuelOf p rule a fuel σ ≡ Go j → j .repeats ≡ times p
-  unfolding fuelOf spaceOf
-  fuel-goes p rule = pick-cases _ _ _ (λ x. x ≡ Go j → j .repeats ≡ times p) (λ _ e. not-stop _ _ e)
-      (λ _. pick-cases _ _ _ (λ x. x ≡ Go j → j .repeats ≡ times p) (λ _ e. not-stop _ _ e)
-      (λ _. pick-cases _ _ _ (λ x. x ≡ Go j → j .repeats ≡ times p) (λ _ e. not-stop _ _ e) (λ _ e. let q : leap a (times p) ≡ j = cc in ap (λ (i : Leap). i .repeats) (sym q))))
+  fuel-goes : (b : Bool) (rule : StopRule) → SoOften (times b) (fueledOf b rule a fuel (σ .sim))
+  unfolding fueledOf
+  fuel-goes b rule = pick-cases _ _ _ (SoOften (times b)) (λ _ e. not-stop _ _ e)
+      (λ _. pick-cases _ _ _ (SoOften (times b)) (λ _ e. not-stop _ _ e)
+      (λ _. pick-cases _ _ _ (λ x. x ≡ Go j → j .repeats ≡ times b) (λ _ e. not-stop _ _ e)
+      (λ _ e. let q : leapBy (stepOf b a (σ .sim .state)) (times b) ≡ j = cc in ap (λ (i : Leap). i .repeats) (sym q))))
 
-  never-goes : (proves : Bool) (p : Sure) (rule : StopRule) → neverOf proves p rule a fuel σ ≡ Go j → j .repeats ≡ times p
-  unfolding neverOf
-  never-goes proves Open rule = fuel-goes Open rule
-  never-goes proves (Loops p) rule = pick-cases proves _ _ (λ x. x ≡ Go j → j .repeats ≡ times (Loops p)) (λ _ e. not-stop _ _ e) (λ _ e. fuel-goes (Loops p) rule e)
+  proved-goes : (proves b : Bool) (rule : StopRule) → SoOften (times b) (provedOf proves b rule a fuel (σ .sim))
+  unfolding provedOf
+  proved-goes proves b rule = pick-cases _ _ _ (SoOften (times b)) (λ _ e. not-stop _ _ e) (λ _. fuel-goes b rule)
 
 module _ (m : Machine) (s : List ℕ) (bytes : Bytes s) (fuel : ℕ) (σ : Conf) (accepted : runCheck m s fuel σ ≡ Accepted) where
   passed : Passed m s σ × (σ .sim .steps + fuel ≤ 2 ^ 62)
@@ -92,18 +99,18 @@ module _ (m : Machine) (s : List ℕ) (bytes : Bytes s) (fuel : ℕ) (σ : Conf)
     went-so = by-plan j (subst (Plans k fuel σ) planned (plan-right k table (passed .0 .single) fuel σ (passed .0 .fits)))
 
     module _ (a : Action) (has : entry (tableOf m s) (configOf σ) ≡ Defined a) where
-      abbrev sure : Sure
-      sure = sureOf (σ .sim .state) a (σ .sim .tape .cur) (σ .sim .tape .left) (σ .sim .tape .right)
+      abbrev loops : Bool
+      loops = loopsOf (σ .sim .state) a (σ .sim .tape .cur) (σ .sim .tape .left) (σ .sim .tape .right)
 
-      so-often : j .repeats ≡ times a fuel σ j sure
-      unfolding planOf planOn tableOf entryOf
+      so-often : j .repeats ≡ times a fuel σ j loops
+      unfolding planOf turnOf turnOn tableOf entryOf
       so-often =
           let q : entryOf m s (σ .sim .state) (σ .sim .tape .cur) 0 0 ≡ Defined a = sym (entry-at (tableOf m s) σ) ∙ has in
-          never-goes a fuel σ j proves sure rule (ap (λ x. planOn x proves rule fuel σ) (sym q) ∙ planned)
+          proved-goes a fuel σ j proves loops rule (ap (λ x. planBy (turnOn x proves rule fuel (σ .sim)) fuel σ) (sym q) ∙ planned)
 
-      lasts : (p : Sure) → Sees k σ a p → Lasts m s fuel σ a (times a fuel σ j p)
-      unfolding repeatsOf chainFor
-      lasts Open (unsure h g) = pick-cases (eqb (a .next .0) (σ .sim .state .0)) _ _ (Lasts m s fuel σ a)
+      lasts : {b : Bool} → Sees k σ a b → Lasts m s fuel σ a (times a fuel σ j b)
+      unfolding pick chainFor
+      lasts (unsure h g) = pick-cases (eqb (a .next .0) (σ .sim .state .0)) _ _ (Lasts m s fuel σ a)
           (λ t. by (eqb-true _ _ t) (a .dir0) refl)
           (λ t. one (goes a has h g) (λ r. eqb-false _ _ t (r .0)))
         where
@@ -111,11 +118,11 @@ module _ (m : Machine) (s : List ℕ) (bytes : Bytes s) (fuel : ℕ) (σ : Conf)
           by q L e = subst (λ x. Lasts m s fuel σ a (min (aheadOf (σ .sim .tape .cur) (aheadOn x σ) + 1) fuel)) e (ahead (goes a has h g) (q, subst Sideways (sym e) tt))
           by q R e = subst (λ x. Lasts m s fuel σ a (min (aheadOf (σ .sim .tape .cur) (aheadOn x σ) + 1) fuel)) e (ahead (goes a has h g) (q, subst Sideways (sym e) tt))
           by q N e = one (goes a has h g) (λ r. subst Sideways e (r .1))
-      lasts (Loops p) (stay h) = loop _ (stays a has h)
-      lasts (Loops p) (walk x w) = loop _ (walks a x has w)
+      lasts (stay h) = loop _ (stays a has h)
+      lasts (walk x w) = loop _ (walks a x has w)
 
       lasts-so : Lasts m s fuel σ a (j .repeats)
-      lasts-so = subst (Lasts m s fuel σ a) (sym so-often) (lasts sure (sure-sees k (passed .0 .single) σ (passed .0 .fits) a (table _ _ _ _ a has)))
+      lasts-so = subst (Lasts m s fuel σ a) (sym so-often) (lasts (loop-sees k (passed .0 .single) σ (passed .0 .fits) a (table _ _ _ _ a has)))
 
     pub macro-step : MacroStep k fuel σ j
     macro-step = record {

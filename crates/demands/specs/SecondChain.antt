@@ -37,7 +37,7 @@ use Rattle.sim_refines.specs.Counts.{Counts}
 use Rattle.rle_refines.specs.Meaning.{tapeOf, configOf, Alike}
 use Rattle.rle_refines.specs.Statement.{FullWithin}
 use Rattle.rle_refines.specs.Operations.{RunHolds}
-use Rattle.rle_refines.specs.PlanFacts.{empty-exact}
+use Rattle.rle_refines.specs.PatternFacts.{empty-exact}
 use Rattle.rle_refines.specs.OperationFacts.{engine-says, run-holds, run-never-halts, new-holds}
 use Rattle.rle_refines.specs.QuestionFacts.{get-is, extent-is, window-into}
 use Rattle.demands.specs.ChainClaims.{GoesOn, MacroStep, FullHere}

@@ -3,12 +3,10 @@ use mathlib.Core.Bool.{Bool}
 use mathlib.Core.List.{List}
 use Prim.Native.Nat.{ℕ, zero, suc, _+_, _-_}
 use lib.Dec.{eqb}
-use Rattle.laws.specs.Choice.{pick}
+use Rattle.laws.specs.Choice.{pick, both}
 use Rattle.symbol.specs.declared.State.{State}
 use Rattle.symbol.specs.declared.Dir.{Dir}
 use Rattle.symbol.specs.declared.Dir.the-variants.{L, R, N}
-use Rattle.outcome.specs.declared.NonHaltProof.{NonHaltProof}
-use Rattle.outcome.specs.declared.NonHaltProof.the-variants.{StayLoop, ChainToInfinity}
 use Rattle.outcome.specs.declared.Outcome.{Outcome}
 use Rattle.outcome.specs.declared.Outcome.the-variants.{Halted, OutOfFuel, NeverHalts, Full}
 use Rattle.machine.specs.declared.Action.{Action}
@@ -18,10 +16,13 @@ use Rattle.sim.specs.declared.StopRule.{StopRule}
 use Rattle.sim.specs.Engine.{Task, entryOf, matches}
 use Rattle.stacks.specs.Sides.{Side, side, placesOf}
 use Rattle.tally.specs.Tally.{fuelThen, Tally, tallied}
+use Rattle.spans.specs.declared.inner.leaps.Step.{Step}
 use Rattle.rle.specs.declared.ChainSim.{ChainSim}
-use Rattle.spans.specs.Leaps.{walksOn}
+use Rattle.rle.specs.declared.inner.Turn.{Turn}
+use Rattle.rle.specs.declared.inner.Turn.the-variants.{Ends, Takes}
+use Rattle.spans.specs.Leaps.{timesFor}
 pub use Rattle.spans.specs.Leaps.{Carried, carried}
-unfoldable pub use Rattle.spans.specs.Leaps.{chainFor, fullFor, carryOf}
+unfoldable pub use Rattle.spans.specs.Leaps.{loopsFor, proofOf, chainFor, fullFor, carryOf}
 
 -- ---- the engine's value with its four slices: symbols and lengths of the left side, then of the right
 
@@ -55,59 +56,50 @@ pub data Plan : Type 0 where
   Stop : Outcome → Plan
   Go : Leap → Plan
 
--- whether an entry is a proved loop
-pub data Sure : Type 0 where
-  Open : Sure
-  Loops : NonHaltProof → Sure
+-- an entry that is a proved loop keeps the state, and stays and rewrites what it read, or walks from a blank into blanks
+abbrev pub loopsOf : State → Action → (cur lefts rights : ℕ) → Bool
+loopsOf q a cur l r = both (eqb (a .next .0) (q .0)) (loopsFor (a .dir0) (a .write0 .0) cur l r)
 
--- a loop that is proved: the entry keeps the state, and stays and rewrites what it read, or walks from a blank into blanks
-abbrev pub walkOf : State → Dir → (cur runs : ℕ) → Sure
-walkOf q d cur n = pick (walksOn cur n) (Loops (ChainToInfinity q d)) Open
+abbrev pub stepOf : (loops : Bool) → Action → State → Step
+stepOf loops a q = record { write = a .write0 .0; dir = a .dir0; next = a .next; keeps = eqb (a .next .0) (q .0); loops = loops }
 
-unfoldable pub patternOf : State → Dir → (write cur lefts rights : ℕ) → Sure
-patternOf q L w cur l r = walkOf q L cur l
-patternOf q R w cur l r = walkOf q R cur r
-patternOf q N w cur l r = pick (eqb w cur) (Loops (StayLoop q)) Open
+-- before it is asked whether there is space, the run's end or the entry to make: fuel, then the stop rule
+unfoldable pub fueledOf : (loops : Bool) → StopRule → Action → ℕ → ChainSim → Turn
+fueledOf loops rule a fuel v =
+    fuelThen Ends fuel (v .steps) (matches rule (v .state)) (Takes (stepOf loops a (v .state)))
 
-unfoldable pub sureOf : State → Action → (cur lefts rights : ℕ) → Sure
-sureOf q a cur l r = pick (eqb (a .next .0) (q .0)) (patternOf q (a .dir0) (a .write0 .0) cur l r) Open
+-- before these a proved loop, where the never test is made
+unfoldable pub provedOf : (proves loops : Bool) → StopRule → Action → ℕ → ChainSim → Turn
+provedOf proves loops rule a fuel v =
+    pick (both loops proves) (Ends (NeverHalts (v .steps) (proofOf (v .state) (a .dir0)))) (fueledOf loops rule a fuel v)
 
--- "A macro step is one step; where the entry keeps the state and moves, ..; a proved loop covers all the fuel."
-unfoldable pub repeatsOf : Sure → State → Action → (cur fuel : ℕ) → (left right : Side) → ℕ
-repeatsOf Open q a cur fuel l r = pick (eqb (a .next .0) (q .0)) (chainFor (a .dir0) cur fuel l r) 1
-repeatsOf (Loops p) q a cur fuel l r = fuel
+-- and before all no entry
+unfoldable pub turnOn : Entry → (proves : Bool) → StopRule → ℕ → ChainSim → Turn
+turnOn Undefined proves rule fuel v = Ends (Halted (v .steps) (v .state))
+turnOn (Defined a) proves rule fuel v =
+    provedOf proves (loopsOf (v .state) a (v .tape .cur) (v .tape .left) (v .tape .right)) rule a fuel v
 
-abbrev pub leap : Action → ℕ → Leap
-leap a n = record { write = a .write0 .0; dir = a .dir0; next = a .next; repeats = n }
+unfoldable pub turnOf : Task → ℕ → ChainSim → Turn
+turnOf k fuel v =
+    turnOn (entryOf (k .machine) (k .table) (v .state) (v .tape .cur) 0 0) (k .proves) (k .rule) fuel v
 
 -- the push of such a step has no place
 abbrev pub noPlace : Dir → (write : ℕ) → Conf → Bool
 noPlace d w σ = fullFor d w (placesOf (σ .ls) (σ .ll)) (placesOf (σ .rs) (σ .rl)) (leftOf σ) (rightOf σ)
 
--- with fuel and an entry that is not refused by the rule: space, then the macro step
-unfoldable pub spaceOf : Sure → Action → ℕ → Conf → Plan
-spaceOf p a fuel σ =
-    pick (noPlace (a .dir0) (a .write0 .0) σ)
-    (Stop (Full (σ .sim .steps)))
-    (Go (leap a (repeatsOf p (σ .sim .state) a (σ .sim .tape .cur) fuel (leftOf σ) (rightOf σ))))
+abbrev pub timesOf : Step → ℕ → Conf → ℕ
+timesOf s fuel σ = timesFor (s .dir) (s .loops) (s .keeps) (σ .sim .tape .cur) fuel (leftOf σ) (rightOf σ)
 
-unfoldable pub fuelOf : Sure → StopRule → Action → ℕ → Conf → Plan
-fuelOf p rule a fuel σ =
-    fuelThen Stop fuel (σ .sim .steps) (matches rule (σ .sim .state)) (spaceOf p a fuel σ)
+abbrev pub leapBy : Step → ℕ → Leap
+leapBy s n = record { write = s .write; dir = s .dir; next = s .next; repeats = n }
 
-unfoldable pub neverOf : (proves : Bool) → Sure → StopRule → Action → ℕ → Conf → Plan
-neverOf proves Open rule a fuel σ = fuelOf Open rule a fuel σ
-neverOf proves (Loops p) rule a fuel σ =
-    pick proves (Stop (NeverHalts (σ .sim .steps) p)) (fuelOf (Loops p) rule a fuel σ)
-
-unfoldable pub planOn : Entry → (proves : Bool) → StopRule → ℕ → Conf → Plan
-planOn Undefined proves rule fuel σ = Stop (Halted (σ .sim .steps) (σ .sim .state))
-planOn (Defined a) proves rule fuel σ =
-    neverOf proves (sureOf (σ .sim .state) a (σ .sim .tape .cur) (σ .sim .tape .left) (σ .sim .tape .right)) rule a fuel σ
+-- then space, and the macro step
+abbrev pub planBy : Turn → ℕ → Conf → Plan
+planBy (Ends o) fuel σ = Stop o
+planBy (Takes s) fuel σ = pick (noPlace (s .dir) (s .write) σ) (Stop (Full (σ .sim .steps))) (Go (leapBy s (timesOf s fuel σ)))
 
 unfoldable pub planOf : Task → ℕ → Conf → Plan
-planOf k fuel σ =
-    planOn (entryOf (k .machine) (k .table) (σ .sim .state) (σ .sim .tape .cur) 0 0) (k .proves) (k .rule) fuel σ
+planOf k fuel σ = planBy (turnOf k fuel (σ .sim)) fuel σ
 
 -- ---- a macro step
 

@@ -20,8 +20,8 @@ use Rattle.rle.specs.declared.inner.Turn.{Turn}
 use Rattle.rle.specs.declared.inner.Turn.the-variants.{Ends, Takes}
 use Rattle.tally.specs.Tally.{Tally, tallied}
 use Rattle.tally.specs.TallyCases.{then-spent, then-stops, then-goes, tally-made}
-use Rattle.rle.specs.Engine.{tallyOf, simWith}
-use Rattle.rle.specs.Turns.{loopsOf, stepOf, fueledOf, provedOf, turnOn, turnOf, landedBy}
+use Rattle.rle.specs.Engine.{loopsOf, stepOf, fueledOf, provedOf, turnOn, turnOf, tallyOf, simWith}
+use Rattle.rle.specs.Turns.{landedBy}
 
 -- ---- a proved loop
 

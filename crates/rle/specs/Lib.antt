@@ -7,7 +7,6 @@ pub mod Turns
 pub mod EngineCases
 pub mod RunFacts
 pub mod LeapFacts
-pub mod TurnFacts
 pub mod RunCases
 pub mod FitsCases
 pub mod OperationCases

@@ -16,11 +16,10 @@ use Rattle.spans.specs.LeapFacts.{movedBy, moved-times, make-full, make-goes}
 use Rattle.rle.specs.declared.ChainSim.{ChainSim}
 use Rattle.rle.specs.declared.inner.Turn.{Turn}
 use Rattle.rle.specs.declared.inner.Turn.the-variants.{Ends, Takes}
-use Rattle.rle.specs.Engine.{Conf, conf, leftOf, rightOf, Go, planOf, leapTo, leapOf, end, runOf}
-use Rattle.rle.specs.Turns.{CountsOk, RunOk, SameSizes, Going, turnOf, landedBy}
-use Rattle.rle.specs.RunFacts.{Fine, decided, run-ends, run-goes}
+use Rattle.rle.specs.Engine.{Conf, conf, leftOf, rightOf, Go, turnOf, noPlace, timesOf, leapBy, planBy, planOf, leapTo, leapOf, end, runOf}
+use Rattle.rle.specs.Turns.{CountsOk, RunOk, SameSizes, Going, landedBy}
+use Rattle.rle.specs.RunFacts.{IfTakes, turn-fuel, Fine, decided, run-ends, run-goes}
 use Rattle.rle.specs.LeapFacts.{leap-sizes, leap-ok}
-use Rattle.rle.specs.TurnFacts.{leapBy, timesOf, fullAt, spaceFor, planBy, turn-plans, IfTakes, turn-fuel}
 
 -- ---- the value and the sides after a macro step that was made
 
@@ -41,7 +40,8 @@ going-start k stride lp rp σ fuel h l r = record { ok = h; lefts = l; rights = 
 
 module _ (k : Task) (stride lp rp : ℕ) (σ₀ : Conf) (fuel : ℕ) (σ : Conf) (left : ℕ) (g : Going k stride lp rp σ₀ fuel σ left) (t : Turn) (tp : t ≡ turnOf k left (σ .sim)) where
   plan-by : planOf k left σ ≡ planBy t left σ
-  plan-by = turn-plans left σ k ∙ ap (λ (x : Turn). planBy x left σ) (sym tp)
+  unfolding planOf
+  plan-by = ap (λ (x : Turn). planBy x left σ) (sym tp)
 
   pub going-ends : (o : Outcome) → t ≡ Ends o → end σ o ≡ runOf k fuel σ₀
   going-ends o e = run-ends k left σ o (plan-by ∙ ap (λ (x : Turn). planBy x left σ) e) ∙ g .same
@@ -58,24 +58,24 @@ module _ (k : Task) (stride lp rp : ℕ) (σ₀ : Conf) (fuel : ℕ) (σ : Conf)
       some-fuel = subst (IfTakes left) (sym tp ∙ e) (turn-fuel k left (σ .sim));
     }
 
-    plan-space : planOf k left σ ≡ spaceFor s left σ
+    plan-space : planOf k left σ ≡ planBy (Takes s) left σ
     plan-space = plan-by ∙ ap (λ (x : Turn). planBy x left σ) e
 
     module _ (w : Made) (wp : w ≡ makeOf s (σ .sim .tape .cur) lp rp left (leftOf σ) (rightOf σ)) where
       here : w ≡ makeOf s (σ .sim .tape .cur) (placesOf (σ .ls) (σ .ll)) (placesOf (σ .rs) (σ .rl)) left (leftOf σ) (rightOf σ)
       here = wp ∙ (λ i. makeOf s (σ .sim .tape .cur) (g .lefts i) (g .rights i) left (leftOf σ) (rightOf σ))
 
-      module _ (f : fullAt s σ ≡ true) where
+      module _ (f : noPlace (s .dir) (s .write) σ ≡ true) where
         full-made : w ≡ moved (leftOf σ) (σ .sim .tape .cur) (rightOf σ) 0
         full-made = here ∙ make-full s (σ .sim .tape .cur) (placesOf (σ .ls) (σ .ll)) (placesOf (σ .rs) (σ .rl)) left (leftOf σ) (rightOf σ) (s .dir) f
 
         full-ends : end (conf (σ .sim) (w .left .symbols) (w .left .lengths) (w .right .symbols) (w .right .lengths)) (Full (σ .sim .steps)) ≡ runOf k fuel σ₀
         full-ends =
             ap (λ (w : Made). end (conf (σ .sim) (w .left .symbols) (w .left .lengths) (w .right .symbols) (w .right .lengths)) (Full (σ .sim .steps))) full-made
-            ∙ run-ends k left σ (Full (σ .sim .steps)) (plan-space ∙ pick-true (fullAt s σ) _ _ f)
+            ∙ run-ends k left σ (Full (σ .sim .steps)) (plan-space ∙ pick-true (noPlace (s .dir) (s .write) σ) _ _ f)
             ∙ g .same
 
-      module _ (f : fullAt s σ ≡ false) where
+      module _ (f : noPlace (s .dir) (s .write) σ ≡ false) where
         goes-made : w ≡ movedBy (s .dir) (s .write) (timesOf s left σ) (leftOf σ) (rightOf σ)
         goes-made = here ∙ make-goes s (σ .sim .tape .cur) (placesOf (σ .ls) (σ .ll)) (placesOf (σ .rs) (σ .rl)) left (leftOf σ) (rightOf σ) (s .dir) f
 
@@ -83,7 +83,7 @@ module _ (k : Task) (stride lp rp : ℕ) (σ₀ : Conf) (fuel : ℕ) (σ : Conf)
         times = ap (λ (w : Made). w .repeats) goes-made ∙ moved-times (s .dir) (s .write) (timesOf s left σ) (leftOf σ) (rightOf σ)
 
         planned : planOf k left σ ≡ Go (leapBy s (w .repeats))
-        planned = plan-space ∙ pick-false (fullAt s σ) _ _ f ∙ ap (λ (n : ℕ). Go (leapBy s n)) (sym times)
+        planned = plan-space ∙ pick-false (noPlace (s .dir) (s .write) σ) _ _ f ∙ ap (λ (n : ℕ). Go (leapBy s n)) (sym times)
 
         fine : Fine left σ (leapBy s (w .repeats))
         fine = decided k left σ (leapBy s (w .repeats)) planned
@@ -97,11 +97,11 @@ module _ (k : Task) (stride lp rp : ℕ) (σ₀ : Conf) (fuel : ℕ) (σ : Conf)
             ∙ ap (λ (n : ℕ). leapTo (s .dir) (leapBy s n) σ) (sym times)
 
       pub going-full : w .repeats ≡ 0 → end (conf (σ .sim) (w .left .symbols) (w .left .lengths) (w .right .symbols) (w .right .lengths)) (Full (σ .sim .steps)) ≡ runOf k fuel σ₀
-      going-full z = by-test (fullAt s σ) full-ends (λ f. absurd (omega (arith, fine f .some-steps)))
+      going-full z = by-test (noPlace (s .dir) (s .write) σ) full-ends (λ f. absurd (omega (arith, fine f .some-steps)))
 
       module _ (nz : w .repeats ≡ 0 → ⊥) where
-        roomy : fullAt s σ ≡ false
-        roomy = by-test (fullAt s σ) (λ f. absurd (nz (ap (λ (w : Made). w .repeats) (full-made f)))) (λ f. f)
+        roomy : noPlace (s .dir) (s .write) σ ≡ false
+        roomy = by-test (noPlace (s .dir) (s .write) σ) (λ f. absurd (nz (ap (λ (w : Made). w .repeats) (full-made f)))) (λ f. f)
 
         pub going-fine : Fine left σ (leapBy s (w .repeats))
         going-fine = fine roomy

@@ -5,8 +5,8 @@ use Prim.Native.Nat.{ℕ, zero, suc, _-_, _≤_, _<_}
 use native.Mathlib.Omega.{arith}
 use lib.Dec.{eqb}
 use borrow.Author.Tests.{eqb-false}
+use Rattle.laws.specs.Choice.{both}
 use Rattle.laws.specs.Tests.{pick-cases}
-use Rattle.symbol.specs.declared.State.{State}
 use Rattle.symbol.specs.declared.Dir.{Dir}
 use Rattle.symbol.specs.declared.Dir.the-variants.{L, R, N}
 use Rattle.outcome.specs.declared.Outcome.{Outcome}
@@ -16,7 +16,33 @@ use Rattle.machine.specs.declared.Entry.the-variants.{Undefined, Defined}
 use Rattle.sim.specs.declared.StopRule.{StopRule}
 use Rattle.sim.specs.Engine.{Task, entryOf, matches}
 use Rattle.stacks.specs.Sides.{Side}
-use Rattle.rle.specs.Engine.{Conf, leftOf, rightOf, Leap, Plan, Stop, Go, Sure, Open, Loops, sureOf, chainFor, repeatsOf, noPlace, spaceOf, fuelOf, neverOf, planOn, planOf, leapOf, end, onPlan, runWithin, runOf}
+use Rattle.spans.specs.declared.inner.leaps.Step.{Step}
+use Rattle.rle.specs.declared.ChainSim.{ChainSim}
+use Rattle.rle.specs.declared.inner.Turn.{Turn}
+use Rattle.rle.specs.declared.inner.Turn.the-variants.{Ends, Takes}
+use Rattle.rle.specs.Engine.{Conf, leftOf, rightOf, Leap, Plan, Stop, Go, loopsOf, fueledOf, provedOf, turnOn, turnOf, noPlace, chainFor, timesOf, planBy, planOf, leapOf, end, onPlan, runWithin, runOf}
+
+-- ---- an entry is made only with fuel
+
+abbrev pub IfTakes : ℕ → Turn → Type 0
+IfTakes fuel (Ends o) = Unit {0}
+IfTakes fuel (Takes s) = 1 ≤ fuel
+
+fueled-fuel : (loops : Bool) (rule : StopRule) (a : Action) (fuel : ℕ) (v : ChainSim) → IfTakes fuel (fueledOf loops rule a fuel v)
+unfolding fueledOf
+fueled-fuel loops rule a fuel v =
+    pick-cases (eqb fuel 0) _ _ (IfTakes fuel) (λ e. tt)
+    (λ e. pick-cases (matches rule (v .state)) _ _ (IfTakes fuel) (λ m. tt) (λ m. omega (arith, eqb-false fuel 0 e)))
+
+takes-fuel : (e : Entry) (proves : Bool) (rule : StopRule) (fuel : ℕ) (v : ChainSim) → IfTakes fuel (turnOn e proves rule fuel v)
+unfolding turnOn provedOf
+takes-fuel Undefined proves rule fuel v = tt
+takes-fuel (Defined a) proves rule fuel v = pick-cases (both (loopsOf (v .state) a (v .tape .cur) (v .tape .left) (v .tape .right)) proves) _ _ (IfTakes fuel) (λ e. tt)
+    (λ e. fueled-fuel (loopsOf (v .state) a (v .tape .cur) (v .tape .left) (v .tape .right)) rule a fuel v)
+
+pub turn-fuel : (k : Task) (fuel : ℕ) (v : ChainSim) → IfTakes fuel (turnOf k fuel v)
+unfolding turnOf
+turn-fuel k fuel v = takes-fuel (entryOf (k .machine) (k .table) (v .state) (v .tape .cur) 0 0) (k .proves) (k .rule) fuel v
 
 -- ---- a macro step that is planned
 
@@ -39,41 +65,22 @@ chain-some L cur fuel l r h = (omega arith, omega arith)
 chain-some R cur fuel l r h = (omega arith, omega arith)
 chain-some N cur fuel l r h = (omega arith, h)
 
-repeats-some : (p : Sure) (q : State) (a : Action) (cur fuel : ℕ) (l r : Side) → 1 ≤ fuel → Some fuel (repeatsOf p q a cur fuel l r)
-unfolding repeatsOf
-repeats-some Open q a cur fuel l r h =
-    pick-cases (eqb (a .next .0) (q .0)) _ _ (Some fuel) (λ e. chain-some (a .dir0) cur fuel l r h) (λ e. (omega arith, h))
-repeats-some (Loops x) q a cur fuel l r h = (h, omega arith)
+times-some : (s : Step) (fuel : ℕ) (σ : Conf) → 1 ≤ fuel → Some fuel (timesOf s fuel σ)
+times-some s fuel σ h =
+    pick-cases (s .loops) _ _ (Some fuel) (λ e. (h, omega arith))
+    (λ e. pick-cases (s .keeps) _ _ (Some fuel) (λ g. chain-some (s .dir) (σ .sim .tape .cur) fuel (leftOf σ) (rightOf σ) h) (λ g. (omega arith, h)))
 
-space-fine : (p : Sure) (a : Action) (fuel : ℕ) (σ : Conf) → 1 ≤ fuel → IfGoes fuel σ (spaceOf p a fuel σ)
-unfolding spaceOf
-space-fine p a fuel σ h =
-    pick-cases (noPlace (a .dir0) (a .write0 .0) σ) _ _ (IfGoes fuel σ)
-    (λ e. tt)
+by-fine : (t : Turn) (fuel : ℕ) (σ : Conf) → IfTakes fuel t → IfGoes fuel σ (planBy t fuel σ)
+by-fine (Ends o) fuel σ h = tt
+by-fine (Takes s) fuel σ h =
+    pick-cases (noPlace (s .dir) (s .write) σ) _ _ (IfGoes fuel σ) (λ e. tt)
     (λ e.
-    let n : Some fuel (repeatsOf p (σ .sim .state) a (σ .sim .tape .cur) fuel (leftOf σ) (rightOf σ)) = repeats-some p (σ .sim .state) a (σ .sim .tape .cur) fuel (leftOf σ) (rightOf σ) h in
+    let n : Some fuel (timesOf s fuel σ) = times-some s fuel σ h in
     record { some-steps = n .0; no-more = n .1; place = e })
-
-fuel-fine : (p : Sure) (rule : StopRule) (a : Action) (fuel : ℕ) (σ : Conf) → IfGoes fuel σ (fuelOf p rule a fuel σ)
-unfolding fuelOf
-fuel-fine p rule a fuel σ =
-    pick-cases (eqb fuel 0) _ _ (IfGoes fuel σ) (λ e. tt)
-    (λ e. pick-cases (matches rule (σ .sim .state)) _ _ (IfGoes fuel σ) (λ m. tt) (λ m. space-fine p a fuel σ (omega (arith, eqb-false fuel 0 e))))
-
-never-fine : (proves : Bool) (p : Sure) (rule : StopRule) (a : Action) (fuel : ℕ) (σ : Conf) → IfGoes fuel σ (neverOf proves p rule a fuel σ)
-unfolding neverOf
-never-fine proves Open rule a fuel σ = fuel-fine Open rule a fuel σ
-never-fine proves (Loops x) rule a fuel σ = pick-cases proves _ _ (IfGoes fuel σ) (λ e. tt) (λ e. fuel-fine (Loops x) rule a fuel σ)
-
-on-fine : (e : Entry) (proves : Bool) (rule : StopRule) (fuel : ℕ) (σ : Conf) → IfGoes fuel σ (planOn e proves rule fuel σ)
-unfolding planOn
-on-fine Undefined proves rule fuel σ = tt
-on-fine (Defined a) proves rule fuel σ =
-    never-fine proves (sureOf (σ .sim .state) a (σ .sim .tape .cur) (σ .sim .tape .left) (σ .sim .tape .right)) rule a fuel σ
 
 plan-fine : (k : Task) (fuel : ℕ) (σ : Conf) → IfGoes fuel σ (planOf k fuel σ)
 unfolding planOf
-plan-fine k fuel σ = on-fine (entryOf (k .machine) (k .table) (σ .sim .state) (σ .sim .tape .cur) 0 0) (k .proves) (k .rule) fuel σ
+plan-fine k fuel σ = by-fine (turnOf k fuel (σ .sim)) fuel σ (turn-fuel k fuel (σ .sim))
 
 pub decided : (k : Task) (fuel : ℕ) (σ : Conf) (j : Leap) → planOf k fuel σ ≡ Go j → Fine fuel σ j
 decided k fuel σ j e = subst (IfGoes fuel σ) e (plan-fine k fuel σ)

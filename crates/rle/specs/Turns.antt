@@ -1,28 +1,17 @@
--- What the functions of a run decide, and what they and the questions may assume. Definitions only.
+-- What the functions of a run and of the questions may assume. Definitions only.
 use mathlib.Core.Path.{_≡_}
-use mathlib.Core.Bool.{Bool}
 use Prim.Native.Nat.{ℕ, _+_, _≤_}
-use lib.Dec.{eqb}
 use lib.ListN.{length}
-use Rattle.laws.specs.Choice.{pick, both}
 use Rattle.symbol.specs.declared.State.{State}
 use Rattle.symbol.specs.declared.Dir.{Dir}
-use Rattle.outcome.specs.declared.Outcome.the-variants.{Halted, NeverHalts}
 use Rattle.machine.specs.declared.Machine.{Machine}
-use Rattle.machine.specs.declared.Action.{Action}
-use Rattle.machine.specs.declared.Entry.{Entry}
-use Rattle.machine.specs.declared.Entry.the-variants.{Undefined, Defined}
 use Rattle.machine.specs.Layout.{strideOf}
 use Rattle.stacks.specs.Sides.{placesOf, cellsOf}
 use Rattle.stacks.specs.SideFacts.{SideOk}
 use Rattle.rle.specs.declared.ChainSim.{ChainSim}
-use Rattle.rle.specs.declared.inner.Turn.{Turn}
-use Rattle.rle.specs.declared.inner.Turn.the-variants.{Ends, Takes}
-use Rattle.sim.specs.declared.StopRule.{StopRule}
-use Rattle.sim.specs.Engine.{Task, entryOf, matches}
-use Rattle.spans.specs.declared.inner.leaps.Step.{Step}
-use Rattle.spans.specs.Leaps.{loopsFor, proofOf, headFor}
-use Rattle.tally.specs.Tally.{fuelThen, tallied}
+use Rattle.sim.specs.Engine.{Task}
+use Rattle.spans.specs.Leaps.{headFor}
+use Rattle.tally.specs.Tally.{tallied}
 use Rattle.rle.specs.Engine.{Conf, leftOf, rightOf, tallyOf, simWith, runOf}
 
 -- the machine's numbers, as an entry's number is made of them
@@ -47,30 +36,6 @@ pub record RunOk (m : Machine) (stride : ℕ) (σ : Conf) (fuel : ℕ) : Type 0 
   pub table : TableOk m stride
   pub sides : SidesOk σ
   pub counts : CountsOk (σ .sim) fuel
-
--- what comes next before it is asked whether there is space: "halted, never, fuel", the stop rule, or the entry to make
-abbrev pub loopsOf : State → Action → (cur lefts rights : ℕ) → Bool
-loopsOf q a cur l r = both (eqb (a .next .0) (q .0)) (loopsFor (a .dir0) (a .write0 .0) cur l r)
-
-abbrev pub stepOf : (loops : Bool) → Action → State → Step
-stepOf loops a q = record { write = a .write0 .0; dir = a .dir0; next = a .next; keeps = eqb (a .next .0) (q .0); loops = loops }
-
-unfoldable pub fueledOf : (loops : Bool) → StopRule → Action → ℕ → ChainSim → Turn
-fueledOf loops rule a fuel v =
-    fuelThen Ends fuel (v .steps) (matches rule (v .state)) (Takes (stepOf loops a (v .state)))
-
-unfoldable pub provedOf : (proves loops : Bool) → StopRule → Action → ℕ → ChainSim → Turn
-provedOf proves loops rule a fuel v =
-    pick (both loops proves) (Ends (NeverHalts (v .steps) (proofOf (v .state) (a .dir0)))) (fueledOf loops rule a fuel v)
-
-unfoldable pub turnOn : Entry → (proves : Bool) → StopRule → ℕ → ChainSim → Turn
-turnOn Undefined proves rule fuel v = Ends (Halted (v .steps) (v .state))
-turnOn (Defined a) proves rule fuel v =
-    provedOf proves (loopsOf (v .state) a (v .tape .cur) (v .tape .left) (v .tape .right)) rule a fuel v
-
-unfoldable pub turnOf : Task → ℕ → ChainSim → Turn
-turnOf k fuel v =
-    turnOn (entryOf (k .machine) (k .table) (v .state) (v .tape .cur) 0 0) (k .proves) (k .rule) fuel v
 
 -- the value after a macro step of n steps that left the sides so
 abbrev pub landedBy : Dir → (next : State) → ChainSim → (left cur right n : ℕ) → ChainSim

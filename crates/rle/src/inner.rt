@@ -16,8 +16,8 @@ use symbol::State;
 ghost use mathlib.Core.Path.{_≡_};
 ghost use Rattle.laws.specs.Choice.{both};
 ghost use Rattle.sim.specs.Engine.{task, entryOf};
-ghost use Rattle.rle.specs.Engine.{conf, end, runOf};
-ghost use Rattle.rle.specs.Turns.{TableOk, CountsOk, RunOk, loopsOf, fueledOf, turnOf, landedBy};
+ghost use Rattle.rle.specs.Engine.{conf, loopsOf, fueledOf, turnOf, end, runOf};
+ghost use Rattle.rle.specs.Turns.{TableOk, CountsOk, RunOk, landedBy};
 
 // What comes next in a run, before it is asked whether there is space: its end, or an entry to make.
 pub enum Turn {

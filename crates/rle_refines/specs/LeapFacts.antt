@@ -12,7 +12,7 @@ use Rattle.tables.specs.WellFormed.{ActionOf}
 use Rattle.turing.specs.TableMachine.{Table, Config, readT, entry, run, Sideways}
 use Rattle.turing.specs.Tables.{TableOf}
 use Rattle.stacks.specs.Sides.{Side, placesOf, lacks}
-use Rattle.rle.specs.Engine.{Conf, leftOf, rightOf, Carried, carryOf, fullFor, noPlace, leap, leapTo, leapOf, Leap}
+use Rattle.rle.specs.Engine.{Conf, leftOf, rightOf, Carried, carryOf, fullFor, noPlace, leapTo, leapOf, Leap}
 use Rattle.rle.specs.Turns.{SameSizes}
 use Rattle.rle.specs.LeapFacts.{leap-sizes}
 use Rattle.rle_refines.specs.Meaning.{stackOf, Stream, tail, prepend, stream, streamOf, tapeAround, tapeOf, configOf, SideFits, ChainFits}
@@ -21,6 +21,10 @@ use Rattle.rle_refines.specs.StackFacts.{take, Reach}
 use Rattle.rle_refines.specs.SideFacts.{Carries, carry-holds}
 use Rattle.rle_refines.specs.TapeFacts.{facing, onward, arrived, read-around}
 use Rattle.rle_refines.specs.WalkFacts.{at, walk, stand}
+
+-- an entry of one tape, made n times in a row
+abbrev pub leap : Action → (n : ℕ) → Leap
+leap a n = record { write = a .write0 .0; dir = a .dir0; next = a .next; repeats = n }
 
 -- ---- the side behind a move, and the one ahead
 

@@ -14,10 +14,11 @@ use Rattle.turing.specs.Tables.{TableOf}
 use Rattle.turing.specs.RunFacts.{not-defined, run-add}
 use Rattle.turing.specs.TableFacts.{accepted-table}
 use Rattle.sim.specs.Engine.{Task, task}
-use Rattle.rle.specs.Engine.{Conf, leap, leapOf, End, end, onPlan, runWithin, runOf, Leap, Plan, Stop}
+use Rattle.rle.specs.Engine.{Conf, leapOf, End, end, onPlan, runWithin, runOf, Leap, Plan, Stop}
 use Rattle.rle_refines.specs.Meaning.{configOf, ChainFits}
 use Rattle.rle_refines.specs.Statement.{tableIn, after, Unproved, hasRule, isFull, Kept, Went, Answers, verdict, halted, spent, stopped, full, Refines, ChainRefines}
 use Rattle.rle_refines.specs.Canonical.{FullIn, full-same}
+use Rattle.rle_refines.specs.LeapFacts.{leap}
 use Rattle.rle_refines.specs.PlanFacts as P
 use Rattle.rle_refines.specs.PlanFacts.{Repeats, Plans, plan-right}
 use Rattle.rle_refines.specs.MidFacts.{leapt-steps, leapt-macros, cut-holds, cut-kept, way-entry, way-unproved, way-unmatched, way-roomy}

@@ -8,7 +8,7 @@ use Rattle.symbol.specs.declared.Dir.{Dir}
 use Rattle.symbol.specs.declared.Dir.the-variants.{L, R, N}
 use Rattle.stacks.specs.Sides.{Side, lacks}
 use Rattle.spans.specs.declared.inner.leaps.Step.{Step}
-use Rattle.spans.specs.Leaps.{chainFor, fullFor, reachOf, gone, goneBy, goOf, Made, moved, leftGone, rightGone, makeTo}
+use Rattle.spans.specs.Leaps.{chainFor, timesFor, fullFor, reachOf, gone, goneBy, goOf, Made, moved, leftGone, rightGone, makeTo}
 
 -- n steps that way
 abbrev pub movedBy : Dir → (write n : ℕ) → (left right : Side) → Made
@@ -20,10 +20,6 @@ pub moved-times : (d : Dir) (w n : ℕ) (l r : Side) → movedBy d w n l r .repe
 moved-times L w n l r = refl
 moved-times R w n l r = refl
 moved-times N w n l r = refl
-
--- "A macro step is one step; where the entry keeps the state and moves, ..; a proved loop covers all the fuel."
-abbrev pub timesFor : Dir → (loops keeps : Bool) → (cur fuel : ℕ) → (left right : Side) → ℕ
-timesFor d loops keeps cur fuel l r = pick loops fuel (pick keeps (chainFor d cur fuel l r) 1)
 
 once : (loops keeps : Bool) (fuel : ℕ) → pick loops fuel 1 ≡ pick loops fuel (pick keeps 1 1)
 unfolding pick

@@ -37,6 +37,10 @@ chainFor L cur fuel l r = min (aheadOf cur l + 1) fuel
 chainFor R cur fuel l r = min (aheadOf cur r + 1) fuel
 chainFor N cur fuel l r = 1
 
+-- "A macro step is one step; where the entry keeps the state and moves, ..; a proved loop covers all the fuel."
+abbrev pub timesFor : Dir → (loops keeps : Bool) → (cur fuel : ℕ) → (left right : Side) → ℕ
+timesFor d loops keeps cur fuel l r = pick loops fuel (pick keeps (chainFor d cur fuel l r) 1)
+
 -- "Full exactly when the step's push needs a new run on a side whose live runs fill its lent places."
 unfoldable pub fullFor : Dir → (write leftPlaces rightPlaces : ℕ) → (left right : Side) → Bool
 fullFor L w lp rp l r = lacks rp w r
