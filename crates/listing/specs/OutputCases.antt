@@ -73,10 +73,10 @@ module _ (m : Machine) (s c0 c1 c2 store t : List ℕ) (sim : Simulator) (f : Be
     unfolding answerOn
     new-turned why n z p w = rw (none-is why z) (wrote-turned why n p w)
 
-    pub new-rows : (v : Timeline) (o₁ : List ℕ) (r₁ k : ℕ) → f ≡ Line.Made v → (r₁ ≡ 0 + 39) × (o₁ ≡ paste o 0 namesLine 39) → 39 ≤ length o
-        → Wrote o₁ r₁ (rowLines (rowsOf m s (W v c0 c1 c2 t) calls)) o′ r × (r ≤ k) → Wrote o 0 (answerOn m s store calls e) o′ r
+    pub new-rows : (v : Timeline) (o₁ : List ℕ) (r₁ : ℕ) → f ≡ Line.Made v → (r₁ ≡ 0 + 39) × (o₁ ≡ paste o 0 namesLine 39) → 39 ≤ length o
+        → Wrote o₁ r₁ (rowLines (rowsOf m s (W v c0 c1 c2 t) calls)) o′ r → Wrote o 0 (answerOn m s store calls e) o′ r
     unfolding answerOn output
-    new-rows v o₁ r₁ k z p h w = rw (made-is v z) (wrote-then (wrote-put o 0 namesLine o₁ r₁ namesLine refl p (omega arith)) (w .0))
+    new-rows v o₁ r₁ z p h w = rw (made-is v z) (wrote-then (wrote-put o 0 namesLine o₁ r₁ namesLine refl p (omega arith)) w)
 
 -- ---- the fresh engine
 

@@ -26,7 +26,7 @@ use Rattle.text.specs.Numbers.{digits, number, onNum, below}
 use Rattle.text.specs.Show.{showOn, show, showℤ}
 use Rattle.forms.specs.Forms.{onSome, machineOk, machineLine, move, entryLine, symbolsOf, wordOf, callLine, place, given, define}
 use Rattle.reader.specs.Listing.{nothing, line, atEnd, onNext, readFrom, listing}
-use Rattle.rows.specs.Rows.{rowOf, rowsOf, refusedLine, rowLine, rowLines, output}
+use Rattle.rows.specs.Rows.{rowOf, rowsOn, refusedLine, rowLine, rowLines, output}
 use Rattle.listing.specs.Output.{blankCells, blankStore, turned, answerOn, answerWith, answerOf, answerFor, answerTo}
 
 pub record Examples : Type 0 where
@@ -38,5 +38,5 @@ pub record Examples : Type 0 where
       ≡ bytes "answer steps state head low high score\nnever 0 0 0 0 0 0\nnever 20 0 20 0 20 20\nnever 19 0 19 0 19 19\nrefused 13\n"
 
 pub examples : Examples
-unfolding get16 get32 get64 put16 put32 put64 pick both allIn firstFail countFails fillFrom _⊖_ actionAt entryAt entryOk entriesCheck sizeCheck tableCheck symbolsCheck wordCheck extra blanked laid movedUp freshOf readOf leaves roomFor grownBy shiftOf moveOf actOf tapeFits blankBeyond countOf lookWith roomsOf stepOf matches runOf runWith stays staysAll loopOf judgeOf lookOn entryOf bareSim handBack simFits valueCheck engineCheck fuelCheck runCheck newAnswer sizesFit fuelFits freshSizes freshCheck slotOf putSlot moveSlot thinBy newOk timesOk ended thinned recorded recordDue advanceTo goOn goBack stay goTo callCheck call newCheck new newOn callOn ranFrom advanceOf putTape putHeld putIf putSim packOf tapeAt simIn holdsOne fillIf filled unpackOf onto pieces sameList digits number onNum below showOn show showℤ onSome machineOk machineLine move entryLine symbolsOf wordOf callLine place given define nothing line atEnd onNext readFrom listing rowOf rowsOf refusedLine rowLine rowLines output blankCells blankStore turned answerOn answerWith answerOf answerFor answerTo
+unfolding get16 get32 get64 put16 put32 put64 pick both allIn firstFail countFails fillFrom _⊖_ actionAt entryAt entryOk entriesCheck sizeCheck tableCheck symbolsCheck wordCheck extra blanked laid movedUp freshOf readOf leaves roomFor grownBy shiftOf moveOf actOf tapeFits blankBeyond countOf lookWith roomsOf stepOf matches runOf runWith stays staysAll loopOf judgeOf lookOn entryOf bareSim handBack simFits valueCheck engineCheck fuelCheck runCheck newAnswer sizesFit fuelFits freshSizes freshCheck slotOf putSlot moveSlot thinBy newOk timesOk ended thinned recorded recordDue advanceTo goOn goBack stay goTo callCheck call newCheck new newOn callOn ranFrom advanceOf putTape putHeld putIf putSim packOf tapeAt simIn holdsOne fillIf filled unpackOf onto pieces sameList digits number onNum below showOn show showℤ onSome machineOk machineLine move entryLine symbolsOf wordOf callLine place given define nothing line atEnd onNext readFrom listing rowOf rowsOn refusedLine rowLine rowLines output blankCells blankStore turned answerOn answerWith answerOf answerFor answerTo
 examples = record { whole = refl; walker = refl }

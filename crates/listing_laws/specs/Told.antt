@@ -20,7 +20,7 @@ use Rattle.sim_laws.specs.Family.{plainFamily}
 use Rattle.sim_laws.specs.Instance.{plain-instances}
 use Rattle.reader.specs.Listing.{Sofar, listing, asked}
 use Rattle.reader.specs.Asked.{Kept, asked-kept, tableOf}
-use Rattle.rows.specs.Rows.{Row, row, rowOf, rowsOf, output}
+use Rattle.rows.specs.Rows.{Row, row, rowOf, rowsOf, rowsOn, output}
 use Rattle.listing.specs.Output.{answerTo, blankCells, blankStore}
 use Rattle.listing_laws.specs.Begins.{asked-begins, asked-rows}
 use Rattle.listing_laws.specs.TableBytes.{kept-bytes}
@@ -33,7 +33,7 @@ rowAt m s v c = rowOf (callOn plainKind m s v c .0) (callOn plainKind m s v c .1
 rows-at : (m : Machine) (s : List ℕ) (v : WorldOf plainKind) (before rest : List Call) (c : Call)
     → rowsOf m s v (before ++ (c ∷ rest))
     ≡ rowsOf m s v before ++ (rowAt m s (afterOn plainFamily m s v before) c ∷ rowsOf m s (callOn plainKind m s (afterOn plainFamily m s v before) c .1) rest)
-unfolding rowsOf
+unfolding rowsOn
 rows-at m s v [] rest c = refl
 rows-at m s v (b ∷ before) rest c = ap (λ rs. rowAt m s v b ∷ rs) (rows-at m s (callOn plainKind m s v b .1) before rest c)
 

@@ -1,7 +1,6 @@
 -- What the code that prints rows passes on: one row, and the rows of calls one after another. Assumes nothing.
 use Prim.Native.Nat.{ℕ, zero, suc, _+_, _*_, _≤_, _<_}
 use mathlib.Core.Path.{_≡_, refl, sym, ap, _∙_}
-use mathlib.Core.Bool.{true}
 use mathlib.Core.List.{List, [], _∷_, _++_, append-assoc, append-nil}
 use native.Mathlib.Omega.{arith}
 use native.Mathlib.Numerals.{add-one}
@@ -33,7 +32,7 @@ use Rattle.text.specs.Steps.{Wrote}
 use Rattle.text.specs.PrintCases.{wrote-long, wrote-then, wrote-put}
 use Rattle.forms.specs.Answers.{callFor, callsOf}
 use Rattle.forms.specs.FormCases.{length-callsOf}
-use Rattle.rows.specs.Rows.{rowOf, rowsOf, said, refusedLine, rowLine, rowLines, replyOf}
+use Rattle.rows.specs.Rows.{Row, rowOf, rowsOf, rowsOn, lentIn, said, refusedLine, rowLine, rowLines, replyOf}
 use Rattle.rows.specs.Kept.{call-kept, tape-ok}
 
 -- ---- which call was made
@@ -147,16 +146,17 @@ printing-end {all = all} p = wrote-same all (p .wrote) (sym (append-nil (p .done
 abbrev callAt : List ℕ → ℕ → Call
 callAt c i = callFor (getD c (2 * i) 0) (getD c (2 * i + 1) 0)
 
--- the lines of the calls from call i on
-abbrev linesFrom : Machine → (s calls : List ℕ) (n i : ℕ) → WorldOf plainKind → List ℕ
-linesFrom m s calls n i w = rowLines (rowsOf m s w (drop i (callsOf n calls)))
+-- the calls from call i on: their rows, and what the last one hands back
+abbrev rowsFrom : Machine → (s calls : List ℕ) (n i : ℕ) → WorldOf plainKind → List Row × WorldOf plainKind
+rowsFrom m s calls n i w = rowsOn m s w (drop i (callsOf n calls))
 
 pub record RowsInv (m : Machine) (s calls : List ℕ) (n : ℕ) (o : List ℕ) (at : ℕ) (w₀ w : WorldOf plainKind) (o′ : List ℕ) (r i : ℕ) : Type 0 where
   pub inside : i ≤ n
   pub room : r ≤ at + 136 * i
   pub long : length o′ ≡ length o
   pub fits : engineCheck m s (w .engine) ≡ Accepted
-  pub printing : Printing o at (rowLines (rowsOf m s w₀ (callsOf n calls))) (rowLines (rowsOf m s w (drop i (callsOf n calls)))) o′ r
+  pub printing : Printing o at (rowLines (rowsOf m s w₀ (callsOf n calls))) (rowLines (rowsFrom m s calls n i w .0)) o′ r
+  pub last : rowsFrom m s calls n i w .1 ≡ rowsOn m s w₀ (callsOf n calls) .1
 
 replied-is : (a : Answer) (w : WorldOf plainKind) (g : Reply Outcome × WorldOf plainKind) → replied a w ≡ g → (replyOf a ≡ g .0) × (w ≡ g .1)
 replied-is (Ans.Done o) w g e = (ap (λ y. y .0) e, ap (λ y. y .1) e)
@@ -164,15 +164,21 @@ replied-is (Ans.Refused why) w g e = (ap (λ y. y .0) e, ap (λ y. y .1) e)
 
 module _ (m : Machine) (s calls : List ℕ) (n : ℕ) (o : List ℕ) (at : ℕ) (w₀ : WorldOf plainKind) where
   pub rows-start : at + 136 * n ≤ length o → engineCheck m s (w₀ .engine) ≡ Accepted → RowsInv m s calls n o at w₀ w₀ o at 0
-  rows-start h a = record { inside = omega arith; room = omega arith; long = refl; fits = a; printing = printing-start o at _ (omega arith) }
+  rows-start h a = record { inside = omega arith; room = omega arith; long = refl; fits = a; printing = printing-start o at _ (omega arith); last = refl }
 
   module _ (w v : WorldOf plainKind) (i : ℕ) (a : Answer) (made : replied a v ≡ callOn plainKind m s w (callAt calls i)) where
-    lines-next : i < n → linesFrom m s calls n i w ≡ rowLine (rowOf (replyOf a) (v .engine .sim) (v .engine .c0)) ++ linesFrom m s calls n (i + 1) v
-    unfolding rowsOf rowLines
-    lines-next h =
+    rows-step : i < n
+        → rowsFrom m s calls n i w ≡ (rowOf (replyOf a) (v .engine .sim) (v .engine .c0) ∷ rowsFrom m s calls n (i + 1) v .0, rowsFrom m s calls n (i + 1) v .1)
+    unfolding rowsOn
+    rows-step h =
         let p = replied-is a v _ made in
-        ap (λ (cs : List Call). rowLines (rowsOf m s w cs)) (calls-next n i calls h)
-        ∙ sym (λ j. rowLine (rowOf (p .0 j) (p .1 j .engine .sim) (p .1 j .engine .c0)) ++ rowLines (rowsOf m s (p .1 j) (drop (i + 1) (callsOf n calls))))
+        ap (rowsOn m s w) (calls-next n i calls h)
+        ∙ sym (λ j. (rowOf (p .0 j) (p .1 j .engine .sim) (p .1 j .engine .c0) ∷ rowsFrom m s calls n (i + 1) (p .1 j) .0, rowsFrom m s calls n (i + 1) (p .1 j) .1))
+
+    lines-next : i < n
+        → rowLines (rowsFrom m s calls n i w .0) ≡ rowLine (rowOf (replyOf a) (v .engine .sim) (v .engine .c0)) ++ rowLines (rowsFrom m s calls n (i + 1) v .0)
+    unfolding rowLines
+    lines-next h = ap (λ (r : List Row × WorldOf plainKind). rowLines (r .0)) (rows-step h)
 
     kept : engineCheck m s (w .engine) ≡ Accepted → engineCheck m s (v .engine) ≡ Accepted
     kept f = rw (replied-is a v _ made .1) (call-kept m s w (callAt calls i) f)
@@ -189,11 +195,12 @@ module _ (m : Machine) (s calls : List ℕ) (n : ℕ) (o : List ℕ) (at : ℕ) 
         long = wrote-long (p .0) ∙ inv .long;
         fits = kept (inv .fits);
         printing = printing-next (rw (lines-next h) at (inv .printing)) (p .0);
+        last = sym (ap (λ (r : List Row × WorldOf plainKind). r .1) (rows-step h)) ∙ inv .last;
       }
 
   pub rows-end : (w : WorldOf plainKind) (o₁ : List ℕ) (r i : ℕ) → RowsInv m s calls n o at w₀ w o₁ r i → n ≤ i
-      → Wrote o at (rowLines (rowsOf m s w₀ (callsOf n calls))) o₁ r × (r ≤ at + 136 * n)
-  unfolding rowsOf rowLines
+      → Wrote o at (rowLines (rowsOf m s w₀ (callsOf n calls))) o₁ r × (r ≤ at + 136 * n) × (lentIn w ≡ lentIn (rowsOn m s w₀ (callsOf n calls) .1))
+  unfolding rowsOn rowLines
   rows-end w o₁ r i inv h =
       let k : drop i (callsOf n calls) ≡ [] = drop-of-length-le (callsOf n calls) {i = i} (omega (arith, length-callsOf n calls)) in
-      (printing-end (rw k at (inv .printing)), omega (arith, inv .room, inv .inside))
+      (printing-end (rw k at (inv .printing)), omega (arith, inv .room, inv .inside), ap lentIn (rw k at (inv .last)))

@@ -32,12 +32,21 @@ rowOf (answered o) v c =
     row o (v .steps) (v .state .0) (v .t0 .head ⊖ v .t0 .origin) (v .t0 .lowest ⊖ v .t0 .origin) (v .t0 .highest ⊖ v .t0 .origin)
     (countOf (held (v .t0) c))
 
--- a row for each call; each call takes what the call before handed back
-unfoldable pub rowsOf : Machine → (table : List ℕ) → WorldOf plainKind → List Call → List Row
-rowsOf m s w [] = []
-rowsOf m s w (c ∷ cs) =
+-- a row for each call, and what the last call handed back; each call takes what the call before handed back
+unfoldable pub rowsOn : Machine → (table : List ℕ) → WorldOf plainKind → List Call → List Row × WorldOf plainKind
+rowsOn m s w [] = ([], w)
+rowsOn m s w (c ∷ cs) =
     let r : Reply Outcome × WorldOf plainKind = callOn plainKind m s w c in
-    rowOf (r .0) (r .1 .engine .sim) (r .1 .engine .c0) ∷ rowsOf m s (r .1) cs
+    let rest : List Row × WorldOf plainKind = rowsOn m s (r .1) cs in
+    (rowOf (r .0) (r .1 .engine .sim) (r .1 .engine .c0) ∷ rest .0, rest .1)
+
+-- the rows alone
+abbrev pub rowsOf : Machine → (table : List ℕ) → WorldOf plainKind → List Call → List Row
+rowsOf m s w cs = rowsOn m s w cs .0
+
+-- the cells and the store of a timeline, which are lent
+abbrev pub lentIn : WorldOf plainKind → List ℕ × List ℕ × List ℕ × List ℕ
+lentIn w = (w .engine .c0, w .engine .c1, w .engine .c2, w .store)
 
 -- a call's answer, as the code has it, without the timeline
 abbrev pub replyOf : Answer → Reply Outcome

@@ -18,7 +18,7 @@ ghost use Rattle.sim_engine.specs.Kind.{plainKind};
 ghost use Rattle.sim_timeline.specs.Worlds.{W, replied};
 ghost use Rattle.text.specs.Steps.{Wrote};
 ghost use Rattle.forms.specs.Answers.{callFor, callsOf};
-ghost use Rattle.rows.specs.Rows.{rowOf, rowsOf, replyOf, refusedLine, rowLine, rowLines};
+ghost use Rattle.rows.specs.Rows.{rowOf, rowsOf, rowsOn, lentIn, replyOf, refusedLine, rowLine, rowLines};
 
 // `refused` and a number.
 pub fn refused(out: &mut [u8], at: usize, n: u64) -> usize
@@ -68,7 +68,8 @@ fn call(
     timeline.back(m, table, c0, c1, c2, store, number)
 }
 
-// Makes the first n calls, one after another, and prints a row for each.
+// Makes the first n calls, one after another, and prints a row for each. The cells and the store are left as the last
+// call leaves them.
 pub fn rows(
     out: &mut [u8],
     at: usize,
@@ -83,7 +84,7 @@ pub fn rows(
     n: usize,
 ) -> usize
     requires { ⌜ (at + 136 * n ≤ length (now out)) × (2 * n ≤ length (now calls)) × (engineCheck m (now table) (conf (timeline .engine) (now c0) (now c1) (now c2)) ≡ Accepted) ⌝ }
-    ensures { λ r. ⌜ Wrote (now (out .entry)) at (rowLines (rowsOf m (now (table .entry)) (W timeline (now (c0 .entry)) (now (c1 .entry)) (now (c2 .entry)) (now (store .entry))) (callsOf n (now (calls .entry))))) (now (out .exit)) r × (r ≤ at + 136 * n) ⌝ }
+    ensures { λ r. ⌜ Wrote (now (out .entry)) at (rowLines (rowsOf m (now (table .entry)) (W timeline (now (c0 .entry)) (now (c1 .entry)) (now (c2 .entry)) (now (store .entry))) (callsOf n (now (calls .entry))))) (now (out .exit)) r × (r ≤ at + 136 * n) × ((now (c0 .exit), now (c1 .exit), now (c2 .exit), now (store .exit)) ≡ lentIn (rowsOn m (now (table .entry)) (W timeline (now (c0 .entry)) (now (c1 .entry)) (now (c2 .entry)) (now (store .entry))) (callsOf n (now (calls .entry))) .1)) ⌝ }
 {
     let mut line = timeline;
     let mut end = at;
