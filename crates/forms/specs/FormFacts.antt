@@ -1,6 +1,6 @@
 -- What a form that was read says of its numbers. Assumes nothing.
-use Prim.Native.Nat.{ℕ, _+_, _*_, _≤_, _<_}
-use mathlib.Core.Path.{_≡_, refl}
+use Prim.Native.Nat.{ℕ, _*_, _≤_, _<_}
+use mathlib.Core.Path.{_≡_}
 use mathlib.Core.Bool.{Bool, true, false}
 use mathlib.Core.List.{List}
 use mathlib.Core.Option.{none, some}
@@ -15,24 +15,14 @@ use Rattle.machine.specs.declared.Machine.{Machine}
 use Rattle.text.specs.Text.{bytes}
 use Rattle.text.specs.Pieces.{fields, field, sameList}
 use Rattle.text.specs.Numbers.{number, below}
-use Rattle.text.specs.Chain.{num-inv}
-use Rattle.text.specs.declared.Num.{Num}
+use Rattle.text.specs.Chain.{no-value, pick-inv, num-inv}
 use Rattle.text.specs.declared.Num.the-variants.{Value, Bad}
 use Rattle.forms.specs.declared.Rule.{Rule}
-use Rattle.forms.specs.Forms.{machineOk, machineLine, move, entryLine}
+use Rattle.forms.specs.Forms.{machineOk, machineLine, move, entryLine, numberIn}
 use Rattle.forms.specs.Answers.{Small, RuleOk}
 
 pub no-some : {A : Type 0} {a : A} → none ≡ some a → ⊥
 no-some p = let z : _≡_ {A = ℕ} 0 1 = cc in omega arith
-
--- a choice whose other side is not x
-pub pick-inv : {A : Type 0} {o x : A} (t : Bool) (a : A) → (o ≡ x → ⊥) → pick t a o ≡ x → (t ≡ true) × (a ≡ x)
-unfolding pick
-pick-inv true a h p = (refl, p)
-pick-inv false a h p = absurd (h p)
-
-pub no-value : {v : ℕ} → _≡_ {A = Num} Bad (Value v) → ⊥
-no-value p = let z : _≡_ {A = ℕ} 0 1 = cc in omega arith
 
 pub below-lt : (top : ℕ) (f : List ℕ) (v : ℕ) → below top f ≡ Value v → v < top
 unfolding below
@@ -118,8 +108,7 @@ machine-good l m p =
 pub good-small : {m : Machine} → Good m → Small m
 good-small g = record { few-symbols = g .few-symbols; few-states = g .few-states; few = g .few }
 
--- the entry's number is below 512
-pub place-ok : (m : Machine) (e : Rule) → Small m → RuleOk m e → e .state * m .symbols + e .read < 512
-place-ok m e s o =
-    let h : e .state * m .symbols + e .read < m .states * m .symbols = digits-lt (o .state-ok) (o .read-ok) in
+pub number-ok : (m : Machine) (e : Rule) → Small m → RuleOk m e → numberIn m e < 512
+number-ok m e s o =
+    let h : numberIn m e < m .states * m .symbols = digits-lt (o .state-ok) (o .read-ok) in
     omega arith

@@ -100,9 +100,13 @@ callLine l =
 
 -- ---- the table that entry lines fill: 512 places of eight bytes, laid out as a table of one tape
 
--- where the entry's eight bytes begin: it has number q × k + a, for state q and symbol a
+-- the entry for state q and symbol a is number q × k + a
+abbrev pub numberIn : Machine → Rule → ℕ
+numberIn m e = e .state * m .symbols + e .read
+
+-- where its eight bytes begin
 unfoldable pub place : Machine → Rule → ℕ
-place m e = 8 * (e .state * m .symbols + e .read)
+place m e = 8 * numberIn m e
 
 -- whether the entry was given before: byte 0 is 1 for a defined entry
 unfoldable pub given : Machine → List ℕ → Rule → Bool

@@ -19,14 +19,14 @@ use Rattle.text.specs.Pieces.{sameList, lines}
 use Rattle.text.specs.Steps.{upTo}
 use Rattle.text.specs.PieceCases.{upTo-le, pieces-cut}
 use Rattle.forms.specs.declared.Rule.{Rule}
-use Rattle.forms.specs.Forms.{firstLine, columnsLine, wordLine, headingLine, machineLine, entryLine, wordOf, callLine, place, given, define}
+use Rattle.forms.specs.Forms.{firstLine, columnsLine, wordLine, headingLine, machineLine, entryLine, wordOf, callLine, numberIn, place, given, define}
 use Rattle.forms.specs.Answers.{RuleOk}
-use Rattle.forms.specs.FormFacts.{Good, good-small, rule-ok, place-ok}
+use Rattle.forms.specs.FormFacts.{Good, good-small, rule-ok, number-ok}
 use Rattle.reader.specs.declared.Due.{Due}
 use Rattle.reader.specs.declared.Due.the-variants.{Names, Numbers, Columns, Entries, Word, Heading, Calls}
 use Rattle.reader.specs.Listing.{Sofar, nothing, Next, on, bad, line, refused, onNext, readFrom, listing}
 use Rattle.reader.specs.ParseCases.{readAt, parse-long}
-use Rattle.reader.specs.TableFacts.{number, define-same, define-other}
+use Rattle.reader.specs.TableFacts.{define-same, define-other}
 use Rattle.reader.specs.Asked.{Ready, ReadyNext, some-cases, keeps}
 
 -- ---- how many lines may still come
@@ -77,11 +77,11 @@ FewerNext c (on d x) = left d x < c
 FewerNext c bad = Unit {0}
 
 entry-fewer : (m : Machine) (t : List ℕ) (e : Rule) → Good m → RuleOk m e → length t ≡ 4096 → given m t e ≡ false → blanks (define m t e) 512 < blanks t 512
-unfolding given place number
+unfolding given place
 entry-fewer m t e g o long q =
-    blanks-less t (define m t e) 512 (e .state * m .symbols + e .read) (place-ok m e (good-small g) o)
+    blanks-less t (define m t e) 512 (numberIn m e) (number-ok m e (good-small g) o)
     (eqb-false _ 1 q)
-    (sym (flag-is (define m t e) (e .state * m .symbols + e .read)) ∙ define-same m t e g o long 0 (omega arith))
+    (sym (flag-is (define m t e) (numberIn m e)) ∙ define-same m t e g o long 0 (omega arith))
     (λ i z. sym (flag-is (define m t e) i) ∙ define-other m t e g o long i z 0 (omega arith) ∙ flag-is t i)
 
 fewer : (d : Due) (x : Sofar) (l : List ℕ) → Ready d x → FewerNext (left d x) (line d x l)

@@ -13,9 +13,9 @@ use Rattle.machine.specs.declared.Entry.the-variants.{Undefined, Defined}
 use Rattle.machine.specs.Layout.{byteAt}
 use Rattle.tables.specs.WellFormed.{entryBytes, ActionOf, LaidOut}
 use Rattle.forms.specs.declared.Rule.{Rule}
-use Rattle.forms.specs.Forms.{place, actionOf, define}
+use Rattle.forms.specs.Forms.{numberIn, place, actionOf, define}
 use Rattle.forms.specs.Answers.{RuleOk}
-use Rattle.forms.specs.FormFacts.{Good, good-small, place-ok}
+use Rattle.forms.specs.FormFacts.{Good, good-small, number-ok}
 
 -- the entries of one tape
 abbrev pub Laid : Machine → List ℕ → Type 0
@@ -36,17 +36,16 @@ laid-blank m g i h =
     }
 
 module _ (m : Machine) (t : List ℕ) (e : Rule) (g : Good m) (o : RuleOk m e) (long : length t ≡ 4096) where
-  unfoldable pub number : ℕ
-  number = e .state * m .symbols + e .read
+  abbrev number : ℕ
+  number = numberIn m e
 
   inside : number < length t / 8
-  unfolding number
-  inside = omega (arith, place-ok m e (good-small g) o)
+  inside = omega (arith, number-ok m e (good-small g) o)
 
   define-slot : define m t e ≡ putSlot 8 number (entryBytes (Defined (actionOf e))) t
-  unfolding define place number putSlot
+  unfolding define place putSlot
   define-slot =
-      let q : 8 * (e .state * m .symbols + e .read) ≡ (e .state * m .symbols + e .read) * 8 = omega arith in
+      let q : 8 * number ≡ number * 8 = omega arith in
       ap (λ at. paste t at (entryBytes (Defined (actionOf e))) 8) q
 
   pub define-length : length (define m t e) ≡ 4096

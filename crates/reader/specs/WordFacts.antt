@@ -12,10 +12,10 @@ use Rattle.laws.specs.Tests.{by-test, pick-true, pick-false, pick-cases}
 use Rattle.text.specs.Pieces.{onto, pieces, fields}
 use Rattle.text.specs.Numbers.{number, onNum, below}
 use Rattle.text.specs.PieceCases.{some-field}
-use Rattle.text.specs.Chain.{num-inv}
+use Rattle.text.specs.Chain.{no-value, num-inv}
 use Rattle.text.specs.declared.Num.the-variants.{Value}
 use Rattle.forms.specs.Forms.{symbolsOf, wordOf}
-use Rattle.forms.specs.FormFacts.{no-some, no-value, below-lt}
+use Rattle.forms.specs.FormFacts.{no-some, below-lt}
 
 -- ---- a line's bytes are those of its fields and one space less than it has fields
 

@@ -1,6 +1,8 @@
 -- A chain of readings, each left by its own return: rules for `search`. Assumes nothing.
 use Prim.Native.Nat.{ℕ}
 use mathlib.Core.Path.{_≡_, refl}
+use mathlib.Core.Bool.{Bool, true, false}
+use native.Mathlib.Omega.{arith}
 use lib.Dec.{eqb}
 use borrow.Author.Tests.{eq-eqb, ne-eqb}
 use Rattle.laws.specs.Choice.{pick}
@@ -30,6 +32,15 @@ module _ {A : Type 0} (x out : A) where
 pub ruleset chain = (num-out, num-go, count-ne, count-eq, tests, via)
 
 -- ---- back, from a chain to what it says
+
+pub no-value : {v : ℕ} → _≡_ {A = Num} Bad (Value v) → ⊥
+no-value p = let z : _≡_ {A = ℕ} 0 1 = cc in omega arith
+
+-- a choice whose other side is not x
+pub pick-inv : {A : Type 0} {o x : A} (t : Bool) (a : A) → (o ≡ x → ⊥) → pick t a o ≡ x → (t ≡ true) × (a ≡ x)
+unfolding pick
+pick-inv true a h p = (refl, p)
+pick-inv false a h p = absurd (h p)
 
 pub num-inv : {A : Type 0} {o x : A} (n : Num) (go : ℕ → A) → (o ≡ x → ⊥) → onNum n o go ≡ x → (v : ℕ) × (n ≡ Value v) × (go v ≡ x)
 unfolding onNum

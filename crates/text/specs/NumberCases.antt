@@ -13,6 +13,7 @@ use Rattle.laws.specs.Choice.{pick, both}
 use Rattle.laws.specs.Tests.{both-split, clash, pick-true, pick-false, pick-cases}
 use Rattle.text.specs.Numbers.{isDigit, digits, number}
 use Rattle.text.specs.Steps.{addDigit, zeroFirst}
+use Rattle.text.specs.Chain.{no-value}
 use Rattle.text.specs.declared.Num.{Num}
 use Rattle.text.specs.declared.Num.the-variants.{Value, Bad}
 
@@ -22,9 +23,6 @@ unfolding digits
 digits-big v [] h = pick-false (ltb v (2 ^ 64)) (Value v) Bad (le-ltb v (2 ^ 64) h)
 digits-big v (b ∷ s) h =
     pick-cases (isDigit b) (digits (v * 10 + (b - 48)) s) Bad (λ r. r ≡ Bad) (λ _. digits-big (v * 10 + (b - 48)) s (omega arith)) (λ _. refl)
-
-no-value : {w : ℕ} → _≡_ {A = Num} Bad (Value w) → ⊥
-no-value p = let z : _≡_ {A = ℕ} 0 1 = cc in omega arith
 
 -- one digit more, by the two tests of `addDigit`: a digit, and within 64 bits
 module _ (v b : ℕ) where

@@ -1,22 +1,22 @@
 use mathlib.Core.Path.{refl}
 use native.Mathlib.Omega.{arith}
 use Rattle.forms.specs.Forms.{place}
-use Rattle.forms.specs.FormFacts.{place-ok}
+use Rattle.forms.specs.FormFacts.{number-ok}
 use Rattle.forms.proofs.inner.place_of.Statement.{statement}
 use Rattle.forms.proofs.inner.place_of.Tie as tie
 
 mul-result : tie.Need-mul-result
-mul-result c = omega (arith, place-ok _ _ (c .before .before .pre .0) (c .before .before .pre .1))
+mul-result c = omega (arith, number-ok _ _ (c .before .before .pre .0) (c .before .before .pre .1))
 
 add-result : tie.Need-add-result
-add-result c = omega (arith, place-ok _ _ (c .before .before .before .pre .0) (c .before .before .before .pre .1))
+add-result c = omega (arith, number-ok _ _ (c .before .before .before .pre .0) (c .before .before .before .pre .1))
 
 mul-result-2 : tie.Need-mul-result-2
-mul-result-2 c = omega (arith, place-ok _ _ (c .before .before .before .pre .0) (c .before .before .before .pre .1))
+mul-result-2 c = omega (arith, number-ok _ _ (c .before .before .before .pre .0) (c .before .before .before .pre .1))
 
 returns : tie.Need-returns
 unfolding place
-returns c = (refl, omega (arith, place-ok _ _ (c .before .before .before .pre .0) (c .before .before .before .pre .1)))
+returns c = (refl, omega (arith, number-ok _ _ (c .before .before .before .pre .0) (c .before .before .before .pre .1)))
 
 pub place-of-spec : {M : Type 1} → statement M
 place-of-spec = tie.close (tie.spec mul-result add-result mul-result-2 returns)
