@@ -40,10 +40,14 @@ unfoldable pub callIn : CallLine → Option Call
 callIn (CL.Of c) = some (callFor (c .kind) (c .number))
 callIn CL.Bad = none
 
--- the first n calls of a slice of numbers: call i has its kind at 2i and its number at 2i + 1
+-- call i of a slice of numbers: its kind at 2i, its number at 2i + 1
+abbrev pub callAt : List ℕ → ℕ → Call
+callAt c i = callFor (getD c (2 * i) 0) (getD c (2 * i + 1) 0)
+
+-- the first n of them
 unfoldable pub callsOf : ℕ → List ℕ → List Call
 callsOf zero c = []
-callsOf (suc n) c = callsOf n c ++ (callFor (getD c (2 * n) 0) (getD c (2 * n + 1) 0) ∷ [])
+callsOf (suc n) c = callsOf n c ++ (callAt c n ∷ [])
 
 -- ---- ranges
 

@@ -22,7 +22,7 @@ use Rattle.sim.specs.declared.Simulator.{Simulator}
 use Rattle.sim.specs.declared.Answer.{Answer}
 use Rattle.sim.specs.declared.Answer.the-variants as Ans
 use Rattle.sim.specs.Operations.{engineCheck}
-use Rattle.times.specs.Timeline.{Reply, answered, Call, seek, forward, back}
+use Rattle.times.specs.Timeline.{Reply, answered, seek, forward, back}
 use Rattle.times.specs.Kind.{WorldOf, callOn}
 use Rattle.sim_engine.specs.Kind.{plainKind}
 use Rattle.sim_timeline.specs.Worlds.{replied}
@@ -30,7 +30,7 @@ use Rattle.text.specs.Text.{bytes}
 use Rattle.text.specs.Show.{show, showℤ}
 use Rattle.text.specs.Steps.{Wrote}
 use Rattle.text.specs.PrintCases.{wrote-long, wrote-then, wrote-put}
-use Rattle.forms.specs.Answers.{callFor, callsOf}
+use Rattle.forms.specs.Answers.{callFor, callAt, callsOf}
 use Rattle.forms.specs.FormCases.{length-callsOf}
 use Rattle.rows.specs.Rows.{Row, rowOf, rowsOf, rowsOn, lentIn, said, refusedLine, rowLine, rowLines, replyOf}
 use Rattle.rows.specs.Kept.{call-kept, tape-ok}
@@ -51,20 +51,20 @@ module _ (m : Machine) (s : List ℕ) (w : WorldOf plainKind) (y : Reply Outcome
 
 -- ---- the calls from call i on
 
-call-at : (n i : ℕ) (c : List ℕ) → i < n → getD (callsOf n c) i (seek 0) ≡ callFor (getD c (2 * i) 0) (getD c (2 * i + 1) 0)
+call-at : (n i : ℕ) (c : List ℕ) → i < n → getD (callsOf n c) i (seek 0) ≡ callAt c i
 unfolding callsOf
 call-at zero i c h = absurd (omega arith)
 call-at (suc n) i c h = by-test (ltb i n)
     (λ q. List·getD-append (callsOf n c) _ (seek 0) i (omega (arith, length-callsOf n c, ltb-true i n q)) ∙ call-at n i c (ltb-true i n q))
     (λ q. last (omega (arith, ltb-false i n q)))
   where
-    last : i ≡ n → getD (callsOf n c ++ (callFor (getD c (2 * n) 0) (getD c (2 * n + 1) 0) ∷ [])) i (seek 0) ≡ callFor (getD c (2 * i) 0) (getD c (2 * i + 1) 0)
+    last : i ≡ n → getD (callsOf n c ++ (callAt c n ∷ [])) i (seek 0) ≡ callAt c i
     last z =
         let e : i ≡ length (callsOf n c) = z ∙ sym (length-callsOf n c) in
-        ap (λ (j : ℕ). getD (callsOf n c ++ (callFor (getD c (2 * n) 0) (getD c (2 * n + 1) 0) ∷ [])) j (seek 0)) e
-        ∙ getD-append-seam (callsOf n c) _ [] (seek 0) ∙ ap (λ (j : ℕ). callFor (getD c (2 * j) 0) (getD c (2 * j + 1) 0)) (sym z)
+        ap (λ (j : ℕ). getD (callsOf n c ++ (callAt c n ∷ [])) j (seek 0)) e
+        ∙ getD-append-seam (callsOf n c) _ [] (seek 0) ∙ ap (callAt c) (sym z)
 
-calls-next : (n i : ℕ) (c : List ℕ) → i < n → drop i (callsOf n c) ≡ callFor (getD c (2 * i) 0) (getD c (2 * i + 1) 0) ∷ drop (i + 1) (callsOf n c)
+calls-next : (n i : ℕ) (c : List ℕ) → i < n → drop i (callsOf n c) ≡ callAt c i ∷ drop (i + 1) (callsOf n c)
 calls-next n i c h = rw (add-one i, ← call-at n i c h) (drop-cons (callsOf n c) i (seek 0) (omega (arith, length-callsOf n c)))
 
 -- ---- a row
@@ -142,9 +142,6 @@ pub printing-end : {o : List ℕ} {at : ℕ} {all o₁ : List ℕ} {r₁ : ℕ} 
 printing-end {all = all} p = wrote-same all (p .wrote) (sym (append-nil (p .done)) ∙ p .whole)
 
 -- ---- the loop over the calls: i of n are made, from w₀ on, and the timeline is at w
-
-abbrev callAt : List ℕ → ℕ → Call
-callAt c i = callFor (getD c (2 * i) 0) (getD c (2 * i + 1) 0)
 
 -- the calls from call i on: their rows, and what the last one hands back
 abbrev rowsFrom : Machine → (s calls : List ℕ) (n i : ℕ) → WorldOf plainKind → List Row × WorldOf plainKind
