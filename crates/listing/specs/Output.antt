@@ -1,8 +1,8 @@
 -- THE OUTPUT of document 01 ("Listing"): from the bytes of the input to the bytes that `seekrun` prints. Definitions only.
-use Prim.Native.Nat.{ℕ, _*_, _≤_}
+use Prim.Native.Nat.{ℕ, _≤_}
 use mathlib.Core.List.{List, [], _++_}
 use lib.Dec.{ltb}
-use lib.ListN.{length, take, drop, replicate}
+use lib.ListN.{length, drop, replicate}
 use Rattle.laws.specs.Choice.{pick}
 use Rattle.outcome.specs.declared.Refusal.{Refusal}
 use Rattle.outcome.specs.declared.Refusal.the-variants as Why
@@ -12,7 +12,7 @@ use Rattle.sim.specs.Engine.{Conf}
 use Rattle.times.specs.Timeline.{Reply, refused, answered, Call}
 use Rattle.times.specs.Kind.{newOn}
 use Rattle.sim_engine.specs.Kind.{Lent, createOf, plainKind}
-use Rattle.reader.specs.Listing.{Sofar, Listing, listing}
+use Rattle.reader.specs.Listing.{Sofar, tableIn, Listing, listing}
 use Rattle.reader.specs.Listing as Read
 use Rattle.rows.specs.Rows.{rowsOf, refusedLine, output}
 use Rattle.listing.specs.declared.Listed.{Listed}
@@ -48,10 +48,9 @@ answerOn m s store calls e = onReply (newOn plainKind m s 8 16 e store) turned (
 unfoldable pub answerWith : Machine → (table word : List ℕ) → Lent → (store : List ℕ) → List Call → List ℕ
 answerWith m s word lent store calls = onReply (createOf m s word lent) turned (answerOn m s store calls)
 
--- what is asked, answered: the table has 8 bytes for each of its entries
+-- what is asked, answered
 unfoldable pub answerOf : Sofar → List ℕ
-answerOf x =
-    answerWith (x .machine) (take (8 * (x .machine .states * x .machine .symbols)) (x .table)) (x .word) blankCells blankStore (x .calls)
+answerOf x = answerWith (x .machine) (tableIn x) (x .word) blankCells blankStore (x .calls)
 
 -- "A bad line .. prints only `refused` and the line number"
 unfoldable pub answerFor : Listing → List ℕ

@@ -2,11 +2,10 @@
 use mathlib.Core.Path.{_≡_, refl, ap, _∙_}
 use mathlib.Core.Bool.{true, false}
 use mathlib.Core.List.{List, []}
-use Prim.Native.Nat.{ℕ, _+_, _*_, _/_, _≤_}
+use Prim.Native.Nat.{ℕ, _+_, _/_, _≤_}
 use native.Mathlib.Omega.{arith}
 use borrow.Author.Tests.{le-leb, le-ltb}
-use lib.Dec.{leb, ltb}
-use lib.ListN.{length, take, replicate, length-replicate}
+use lib.ListN.{length, replicate, length-replicate}
 use Rattle.laws.specs.Choice.{pick, both}
 use Rattle.laws.specs.Tests.{both-true, pick-false}
 use Rattle.outcome.specs.declared.Refusal.the-variants as Why
@@ -25,7 +24,7 @@ use Rattle.sim_engine.specs.Slots.{slotSize}
 use Rattle.sim_engine.specs.RoundTrip.{check-holds}
 use Rattle.sim_engine.specs.Kind.{createOf, plainKind, madeOn}
 use Rattle.sim_laws.specs.FreshFacts.{fresh-passed}
-use Rattle.reader.specs.Listing.{Sofar, listing, asked}
+use Rattle.reader.specs.Listing.{Sofar, tableIn, listing, asked}
 use Rattle.reader.specs.Asked.{Kept, asked-kept, asked-good, asked-word}
 use Rattle.rows.specs.Rows.{rowsOf, output}
 use Rattle.listing.specs.Output.{blankCells, blankStore, onReply, turned, answerOn, answerWith, answerOf, answerFor, answerTo}
@@ -104,7 +103,7 @@ pub record Begins (m : Machine) (table word : List ℕ) : Type 0 where
 
 module _ (s : List ℕ) (x : Sofar) (e : listing s ≡ asked x) where
   abbrev table : List ℕ
-  table = take (8 * (x .machine .states * x .machine .symbols)) (x .table)
+  table = tableIn x
 
   pub asked-begins : Begins (x .machine) table (x .word)
   asked-begins =

@@ -1,25 +1,22 @@
 -- WHAT THE ROWS OF A LISTING TELL: each is of one call of the list, and the third demand holds of that call. Assumes nothing.
-use Prim.Native.Nat.{ℕ, zero, suc, _+_, _*_, _/_, _%_, _≤_, _<_}
-use mathlib.Core.Path.{_≡_, refl, sym, ap, _∙_, subst}
+use Prim.Native.Nat.{ℕ}
+use mathlib.Core.Path.{_≡_, refl, ap, subst}
 use mathlib.Core.List.{List, [], _∷_, _++_}
-use native.Mathlib.Omega.{arith}
-use lib.ListN.{length, getD, take}
 use Rattle.outcome.specs.declared.Outcome.{Outcome}
 use Rattle.machine.specs.declared.Machine.{Machine}
-use Rattle.turing.specs.TableMachine.{Config}
 use Rattle.tape.specs.Moves.{held}
 use Rattle.tape.specs.Questions.{countOf}
 use Rattle.sim_refines.specs.Counts.{Counts}
 use Rattle.sim_refines.specs.QuestionFacts.{count-is}
-use Rattle.times.specs.Timeline.{Reply, answered, Call}
+use Rattle.times.specs.Timeline.{answered, Call}
 use Rattle.times.specs.Kind.{WorldOf, callOn}
 use Rattle.sim_engine.specs.Kind.{plainKind}
 use Rattle.timeline.specs.Statement.{afterOn, heldOn, AnyList}
 use Rattle.timeline.specs.Instance.{every-list}
 use Rattle.sim_laws.specs.Family.{plainFamily}
 use Rattle.sim_laws.specs.Instance.{plain-instances}
-use Rattle.reader.specs.Listing.{Sofar, listing, asked}
-use Rattle.reader.specs.Asked.{Kept, asked-kept, tableOf}
+use Rattle.reader.specs.Listing.{Sofar, tableIn, listing, asked}
+use Rattle.reader.specs.Asked.{asked-kept}
 use Rattle.rows.specs.Rows.{Row, row, rowOf, rowsOf, rowsOn, output}
 use Rattle.listing.specs.Output.{answerTo, blankCells, blankStore}
 use Rattle.listing_laws.specs.Begins.{asked-begins, asked-rows}
@@ -42,7 +39,7 @@ module _ (s : List ℕ) (x : Sofar) (e : listing s ≡ asked x) where
   m = x .machine
 
   abbrev t : List ℕ
-  t = tableOf x
+  t = tableIn x
 
   abbrev v : WorldOf plainKind
   v = asked-begins s x e .world

@@ -6,7 +6,7 @@ use mathlib.Core.Option.{Option, none, some}
 use native.Mathlib.Omega.{arith}
 use native.Mathlib.Nat.{pow-zero, pow-suc}
 use lib.Dec.{leb, ltb}
-use lib.ListN.{length, getD, take, length-append, length-replicate}
+use lib.ListN.{length, getD, length-append, length-replicate}
 use lib.Seq.{getD-take, length-take-le}
 use borrow.Author.Tests.{leb-true, ltb-true, lt-ltb, le-leb}
 use Rattle.laws.specs.Tests.{pick-true, pick-cases}
@@ -24,7 +24,7 @@ use Rattle.forms.specs.Forms.{firstLine, columnsLine, wordLine, headingLine, on
 use Rattle.forms.specs.FormFacts.{Good, machine-good, rule-ok}
 use Rattle.reader.specs.declared.Due.{Due}
 use Rattle.reader.specs.declared.Due.the-variants.{Names, Numbers, Columns, Entries, Word, Heading, Calls}
-use Rattle.reader.specs.Listing.{Sofar, nothing, Next, on, bad, line, Listing, refused, asked, atEnd, onNext, readFrom, listing}
+use Rattle.reader.specs.Listing.{Sofar, tableIn, nothing, Next, on, bad, line, Listing, refused, asked, atEnd, onNext, readFrom, listing}
 use Rattle.reader.specs.WordFacts.{AllBelow, word-good}
 use Rattle.reader.specs.TableFacts.{Laid, laid-blank, define-length, laid-define}
 
@@ -143,16 +143,13 @@ asked-kept s x e = subst KeptListing e (read-kept 1 Names nothing (lines s) refl
 
 -- ---- the checks
 
-abbrev pub tableOf : Sofar → List ℕ
-tableOf x = take (8 * (x .machine .states * x .machine .symbols)) (x .table)
-
 module _ (x : Sofar) (k : Kept x) where
   one-tape : entryCount (x .machine) ≡ x .machine .states * x .machine .symbols
   one-tape =
       let e : x .machine .symbols ^ 1 ≡ x .machine .symbols = pow-suc (x .machine .symbols) 0 ∙ ap (λ n. n * x .machine .symbols) (pow-zero (x .machine .symbols)) ∙ omega arith in
       ap (λ n. x .machine .states * n) (ap (λ t. x .machine .symbols ^ t) (k .good .one) ∙ e)
 
-  kept-formed : WellFormed (x .machine) (tableOf x)
+  kept-formed : WellFormed (x .machine) (tableIn x)
   kept-formed zero = tt
   kept-formed (suc zero) = (omega (arith, k .good .one), omega (arith, k .good .one))
   kept-formed (suc (suc zero)) = (k .good .some-symbols, k .good .few-symbols)
@@ -171,8 +168,8 @@ module _ (x : Sofar) (k : Kept x) where
   kept-formed (suc (suc (suc (suc (suc (suc (suc n))))))) = tt
 
 module _ (s : List ℕ) (x : Sofar) (e : listing s ≡ asked x) where
-  pub asked-good : tableCheck (x .machine) (tableOf x) ≡ Accepted
-  asked-good = table-check-accepts (x .machine) (tableOf x) (kept-formed x (asked-kept s x e))
+  pub asked-good : tableCheck (x .machine) (tableIn x) ≡ Accepted
+  asked-good = table-check-accepts (x .machine) (tableIn x) (kept-formed x (asked-kept s x e))
 
   pub asked-word : wordCheck (x .machine .symbols) (x .word) ≡ Accepted
   unfolding wordCheck symbolsCheck

@@ -1,7 +1,7 @@
 -- THE LISTING of document 01: from the bytes of the input to what is asked, or to the number of the first bad line. Definitions only.
-use Prim.Native.Nat.{ℕ, _+_}
+use Prim.Native.Nat.{ℕ, _+_, _*_}
 use mathlib.Core.List.{List, [], _∷_, _++_}
-use lib.ListN.{length, replicate}
+use lib.ListN.{length, take, replicate}
 use lib.Dec.{leb, ltb}
 use Rattle.laws.specs.Choice.{pick}
 use Rattle.machine.specs.declared.Machine.{Machine}
@@ -57,6 +57,10 @@ line Calls x l =
     (onSome (callLine l) bad λ c.
     on Calls (record { machine = x .machine; table = x .table; word = x .word; calls = x .calls ++ (c ∷ []) }))
     bad
+
+-- the part of the table that the machine has: 8 bytes for each of its entries
+abbrev pub tableIn : Sofar → List ℕ
+tableIn x = take (8 * (x .machine .states * x .machine .symbols)) (x .table)
 
 -- ---- the whole input
 
