@@ -8,9 +8,9 @@ use lib.ListN.{length, take, drop, replicate, drop-of-length-le, length-drop}
 use lib.Seq.{drop-length, drop-drop, length-take-le, take-all}
 use borrow.Author.Tests.{le-leb, lt-leb}
 use Rattle.laws.specs.Choice.{pick}
-use Rattle.text.specs.Pieces.{lines, onto, pieces}
+use Rattle.text.specs.Pieces.{lines, pieces}
 use Rattle.text.specs.Steps.{upTo}
-use Rattle.text.specs.PieceCases.{upTo-le, pieces-cut, pieces-last}
+use Rattle.text.specs.PieceCases.{upTo-le, pieces-cut, lines-last}
 use Rattle.forms.specs.Answers.{callsOf}
 use Rattle.reader.specs.declared.Due.{Due}
 use Rattle.reader.specs.declared.Due.the-variants.{Names}
@@ -36,10 +36,10 @@ module _ (s : List ℕ) (at e : ℕ) (f : e ≡ at + upTo 10 (drop at s)) (h : a
       rw (d, ← j, ← drop-drop (suc (upTo 10 (drop at s))) at s) (pieces-cut 10 [] (drop at s) (omega (arith, length-drop at s)))
 
   line-last : length s ≤ e → lines (drop at s) ≡ take (e - at) (drop at s) ∷ lines (drop (length s) s)
-  unfolding pieces onto
+  unfolding pieces
   line-last g =
       rw (drop-length s, take-all (e - at) (drop at s) (omega (arith, length-drop at s)))
-      (pieces-last 10 [] (drop at s) (λ b. refl) (omega (arith, length-drop at s, upTo-le 10 (drop at s))) (λ z. omega (arith, length-drop at s)))
+      (lines-last (drop at s) (omega (arith, length-drop at s, upTo-le 10 (drop at s))) (λ z. omega (arith, length-drop at s)))
 
   line-turn : (a : ℕ) → a ≡ min (e + 1) (length s) → lines (drop at s) ≡ take (e - at) (drop at s) ∷ lines (drop a s)
   line-turn a p = go (decLt e (length s))

@@ -11,7 +11,7 @@ use lib.Seq.{drop-cons, drop-drop}
 use lib.Dec.{eqb}
 use Rattle.laws.specs.Choice.{pick, both}
 use Rattle.laws.specs.Tests.{pick-cases}
-use Rattle.text.specs.Pieces.{onto, pieces, sameList, fields, field}
+use Rattle.text.specs.Pieces.{onto, pieces, lines, sameList, fields, field}
 use Rattle.text.specs.Steps.{upTo, IsField}
 
 pub upTo-le : (sep : ℕ) (s : List ℕ) → upTo sep s ≤ length s
@@ -47,7 +47,7 @@ unfolding pick
 left-out sep s true e = absurd (let z : 0 ≡ suc (length s) = e in omega arith)
 left-out sep s false e = omega arith
 
-pub pieces-last : (sep : ℕ) (last : List (List ℕ)) (s : List ℕ) → ((b : ℕ) → onto b last ≡ (b ∷ []) ∷ []) → upTo sep s ≡ length s → (length s ≡ 0 → ⊥)
+pieces-last : (sep : ℕ) (last : List (List ℕ)) (s : List ℕ) → ((b : ℕ) → onto b last ≡ (b ∷ []) ∷ []) → upTo sep s ≡ length s → (length s ≡ 0 → ⊥)
     → pieces sep last s ≡ s ∷ []
 unfolding upTo pieces onto
 pieces-last sep last [] k e h = absurd (h refl)
@@ -56,15 +56,25 @@ pieces-last sep last (b ∷ c ∷ s) k e h =
     let q : pieces sep last (c ∷ s) ≡ (c ∷ s) ∷ [] = pieces-last sep last (c ∷ s) k (left-out sep (c ∷ s) (eqb b sep) e) (λ z. omega arith) in
     tail-one sep b last (c ∷ s) (eqb b sep) (ap (onto b) q) e
 
+-- the last line where its newline is missing
+pub lines-last : (s : List ℕ) → upTo 10 s ≡ length s → (length s ≡ 0 → ⊥) → lines s ≡ s ∷ []
+unfolding onto
+lines-last s e h = pieces-last 10 [] s (λ b. refl) e h
+
+fields-last : (s : List ℕ) → upTo 32 s ≡ length s → fields s ≡ s ∷ []
+unfolding pieces onto
+fields-last [] e = refl
+fields-last (b ∷ s) e = pieces-last 32 ([] ∷ []) (b ∷ s) (λ c. refl) e (λ z. omega arith)
+
 pub some-field : (sep : ℕ) (s : List ℕ) → length (pieces sep ([] ∷ []) s) ≡ 0 → ⊥
 unfolding pieces pick onto
 some-field sep [] e = omega arith
-some-field sep (b ∷ s) e = go (eqb b sep) (pieces sep ([] ∷ []) s) e
+some-field sep (b ∷ s) e = go (eqb b sep) (pieces sep ([] ∷ []) s) (some-field sep s) e
   where
-    go : (t : Bool) (ps : List (List ℕ)) → length (pick t ([] ∷ ps) (onto b ps)) ≡ 0 → ⊥
-    go true ps e = omega arith
-    go false [] e = omega arith
-    go false (p ∷ ps) e = omega arith
+    go : (t : Bool) (ps : List (List ℕ)) → (length ps ≡ 0 → ⊥) → length (pick t ([] ∷ ps) (onto b ps)) ≡ 0 → ⊥
+    go true ps n e = omega arith
+    go false [] n e = n refl
+    go false (p ∷ ps) n e = omega arith
 
 pub count-field : (sep b : ℕ) (s : List ℕ) → length (pieces sep ([] ∷ []) (b ∷ s)) ≡ pick (eqb b sep) 1 0 + length (pieces sep ([] ∷ []) s)
 unfolding pieces pick onto
@@ -176,13 +186,9 @@ module _ (l : List ℕ) (at left e : ℕ) (x : List ℕ) (f : e ≡ at + upTo 32
           rw (i, ← j, ← drop-drop (suc (upTo 32 (drop at l))) at l) p
 
   none : length l ≤ e → 0 < left → fieldFrom l at left ≡ x → [] ≡ x
-  unfolding fieldFrom pieces onto
-  none h n p = go left n (rw (few (drop at l) (omega (arith, length-drop at l, upTo-le 32 (drop at l)))) at p)
+  unfolding fieldFrom
+  none h n p = go left n (rw (fields-last (drop at l) (omega (arith, length-drop at l, upTo-le 32 (drop at l)))) at p)
     where
-      few : (s : List ℕ) → upTo 32 s ≡ length s → fields s ≡ s ∷ []
-      few [] e = refl
-      few (b ∷ s) e = pieces-last 32 ([] ∷ []) (b ∷ s) (λ c. refl) e (λ z. omega arith)
-
       go : (k : ℕ) → 0 < k → getD (drop at l ∷ []) k [] ≡ x → [] ≡ x
       go zero n p = absurd (omega arith)
       go (suc k) n p = p
