@@ -3,10 +3,10 @@ use machine::Machine;
 use rle_timeline::Answered;
 use rle_timeline::Timeline;
 ghost use mathlib.Core.Path.{_≡_};
+ghost use Rattle.times.specs.Timeline.{callFor};
 ghost use Rattle.times.specs.Kind.{callOn};
 ghost use Rattle.rle_engine.specs.Kind.{chainKind};
 ghost use Rattle.rle_timeline.specs.Worlds.{W, replied};
-ghost use Rattle.calls.specs.Which.{callFor};
 
 // Seek for 0, forward for 1, else back.
 pub fn moved(

@@ -10,7 +10,7 @@ ghost use Rattle.times.specs.Kind.{callOn, newWith};
 ghost use Rattle.rle_engine.specs.Kind.{chainKind};
 ghost use Rattle.rle_timeline.specs.Worlds.{W, tl};
 ghost use Rattle.numbers.specs.Engines.{machineOf, chainOf, timesFrom};
-ghost use Rattle.calls.specs.Which.{callFor};
+ghost use Rattle.times.specs.Timeline.{callFor};
 ghost use Rattle.capi.specs.Timelines.{timelineNew, timelineNewCall};
 ghost use Rattle.capi.specs.ChainTimelines.{chainTimelineCall, chainMovedCall};
 

@@ -10,7 +10,7 @@ ghost use Rattle.times.specs.Kind.{callOn, newWith};
 ghost use Rattle.sim_engine.specs.Kind.{plainKind};
 ghost use Rattle.sim_timeline.specs.Worlds.{W, tl};
 ghost use Rattle.numbers.specs.Engines.{machineOf, engineOf, timesFrom};
-ghost use Rattle.calls.specs.Which.{callFor};
+ghost use Rattle.times.specs.Timeline.{callFor};
 ghost use Rattle.capi.specs.Timelines.{timelineNew, timelineNewCall, timelineCall, movedCall};
 
 #[no_mangle]

@@ -4,7 +4,7 @@ use mathlib.Core.List.{List, [], _∷_, _++_}
 use mathlib.Core.Option.{Option, none, some}
 use lib.ListN.{getD, take}
 use Rattle.machine.specs.declared.Machine.{Machine}
-use Rattle.times.specs.Timeline.{Call, seek, forward, back}
+use Rattle.times.specs.Timeline.{Call, callFor}
 use Rattle.forms.specs.declared.Rule.{Rule}
 use Rattle.forms.specs.declared.MachineLine.{MachineLine}
 use Rattle.forms.specs.declared.MachineLine.the-variants as ML
@@ -29,12 +29,6 @@ ruleIn EL.Bad = none
 unfoldable pub wordIn : Count → List ℕ → Option (List ℕ)
 wordIn (C.Of n) w = some (take n w)
 wordIn C.Bad w = none
-
--- the call meant by two numbers: 0 seek, 1 forward, else back
-abbrev pub callFor : (kind number : ℕ) → Call
-callFor zero n = seek n
-callFor (suc zero) n = forward n
-callFor (suc (suc k)) n = back n
 
 unfoldable pub callIn : CallLine → Option Call
 callIn (CL.Of c) = some (callFor (c .kind) (c .number))

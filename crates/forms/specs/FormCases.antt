@@ -16,7 +16,7 @@ use Rattle.machine.specs.declared.Entry.the-variants.{Defined}
 use Rattle.machine.specs.Layout.{dirOf}
 use Rattle.tables.specs.WellFormed.{entryBytes}
 use Rattle.tables.specs.EntryFacts.{move-number}
-use Rattle.times.specs.Timeline.{Call}
+use Rattle.times.specs.Timeline.{Call, callFor}
 use Rattle.text.specs.Pieces.{fields, field}
 use Rattle.text.specs.Numbers.{below, onNum}
 use Rattle.text.specs.Chain.{chain}
@@ -32,7 +32,7 @@ use Rattle.forms.specs.declared.CallLine.{CallLine}
 use Rattle.forms.specs.declared.CallLine.the-variants as CL
 use Rattle.forms.specs.declared.Count.the-variants as C
 use Rattle.forms.specs.Forms.{onSome, machineLine, entryLine, symbolsOf, wordOf, place, given, actionOf, define}
-use Rattle.forms.specs.Answers.{machineIn, ruleIn, wordIn, callFor, callIn, callsOf, Small, RuleOk}
+use Rattle.forms.specs.Answers.{machineIn, ruleIn, wordIn, callIn, callsOf, Small, RuleOk}
 use Rattle.forms.specs.FormFacts.{below-lt, rule-ok, machine-good, good-small}
 
 -- ---- what a callee read

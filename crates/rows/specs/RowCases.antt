@@ -22,7 +22,7 @@ use Rattle.sim.specs.declared.Simulator.{Simulator}
 use Rattle.sim.specs.declared.Answer.{Answer}
 use Rattle.sim.specs.declared.Answer.the-variants as Ans
 use Rattle.sim.specs.Operations.{engineCheck}
-use Rattle.times.specs.Timeline.{Reply, answered, seek, forward, back}
+use Rattle.times.specs.Timeline.{Reply, answered, seek}
 use Rattle.times.specs.Kind.{WorldOf, callOn}
 use Rattle.sim_engine.specs.Kind.{plainKind}
 use Rattle.sim_timeline.specs.Worlds.{replied}
@@ -30,24 +30,10 @@ use Rattle.text.specs.Text.{bytes}
 use Rattle.text.specs.Show.{show, showℤ}
 use Rattle.text.specs.Steps.{Wrote}
 use Rattle.text.specs.PrintCases.{wrote-long, wrote-then, wrote-put}
-use Rattle.forms.specs.Answers.{callFor, callAt, callsOf}
+use Rattle.forms.specs.Answers.{callAt, callsOf}
 use Rattle.forms.specs.FormCases.{length-callsOf}
 use Rattle.rows.specs.Rows.{Row, rowOf, rowsOf, rowsOn, lentIn, said, refusedLine, rowLine, rowLines, replyOf}
 use Rattle.rows.specs.Kept.{call-kept, tape-ok}
-
--- ---- which call was made
-
-module _ (m : Machine) (s : List ℕ) (w : WorldOf plainKind) (y : Reply Outcome × WorldOf plainKind) where
-  pub was-seek : (k n : ℕ) → k ≡ 0 → y ≡ callOn plainKind m s w (seek n) → y ≡ callOn plainKind m s w (callFor k n)
-  was-seek k n z e = rw z e
-
-  pub was-forward : (k n : ℕ) → k ≡ 1 → y ≡ callOn plainKind m s w (forward n) → y ≡ callOn plainKind m s w (callFor k n)
-  was-forward k n z e = rw z e
-
-  pub was-back : (k n : ℕ) → (k ≡ 0 → ⊥) → (k ≡ 1 → ⊥) → y ≡ callOn plainKind m s w (back n) → y ≡ callOn plainKind m s w (callFor k n)
-  was-back zero n h g e = absurd (h refl)
-  was-back (suc zero) n h g e = absurd (g refl)
-  was-back (suc (suc k)) n h g e = e
 
 -- ---- the calls from call i on
 

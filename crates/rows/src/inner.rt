@@ -13,11 +13,12 @@ ghost use Rattle.machine.specs.declared.Checked.the-variants.{Accepted};
 ghost use Rattle.tape.specs.Fits.{TapeOk};
 ghost use Rattle.sim.specs.Engine.{conf};
 ghost use Rattle.sim.specs.Operations.{engineCheck};
+ghost use Rattle.times.specs.Timeline.{callFor};
 ghost use Rattle.times.specs.Kind.{callOn};
 ghost use Rattle.sim_engine.specs.Kind.{plainKind};
 ghost use Rattle.sim_timeline.specs.Worlds.{W, replied};
 ghost use Rattle.text.specs.Steps.{Wrote};
-ghost use Rattle.forms.specs.Answers.{callFor, callsOf};
+ghost use Rattle.forms.specs.Answers.{callsOf};
 ghost use Rattle.rows.specs.Rows.{rowOf, rowsOf, rowsOn, lentIn, replyOf, refusedLine, rowLine, rowLines};
 
 // `refused` and a number.

@@ -11,3 +11,4 @@ pub mod CheckCases
 pub mod GoCases
 pub mod CallCases
 pub mod NewCases
+pub mod WhichCases

@@ -18,6 +18,12 @@ use Rattle.times.specs.Ops.{limit, Ops}
 pub data Call : Type 0 where
   seek forward back : ℕ → Call
 
+-- the call meant by two numbers: 0 seek, 1 forward, else back
+abbrev pub callFor : (which number : ℕ) → Call
+callFor zero n = seek n
+callFor (suc zero) n = forward n
+callFor (suc (suc k)) n = back n
+
 pub data Reply (A : Type 0) : Type 0 where
   refused : Refusal → Reply A
   answered : A → Reply A

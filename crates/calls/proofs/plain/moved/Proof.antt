@@ -1,4 +1,4 @@
-use Rattle.calls.specs.WhichFacts.{was-seek, was-forward, was-back}
+use Rattle.times.specs.WhichCases.{was-seek, was-forward, was-back}
 use Rattle.sim_engine.specs.Kind.{plainKind}
 use borrow.Author.Needs.{needs}
 use Rattle.calls.proofs.plain.moved.Statement.{statement}
@@ -38,7 +38,7 @@ same-length-8 : tie.Need-same-length-8
 same-length-8 c = search needs
 
 returns-2 : tie.Need-returns-2
-returns-2 c = was-forward plainKind _ _ _ _ _ _ (c .before .before .before .before .before .before .before .before .before .before .before .before .before .before .if1 .left) (c .before .before .before .before .before .before .before .before .before .before .before .before .before .if2 .taken) (c .before .before .before .before .before .before .before .before .forward .ensures)
+returns-2 c = was-forward plainKind _ _ _ _ _ _ (c .before .before .before .before .before .before .before .before .before .before .before .before .before .if2 .taken) (c .before .before .before .before .before .before .before .before .forward .ensures)
 
 back-requires : tie.Need-back-requires
 back-requires c κs = search needs

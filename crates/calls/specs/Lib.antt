@@ -1,2 +1,0 @@
-pub mod Which
-pub mod WhichFacts
