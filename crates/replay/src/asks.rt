@@ -1,102 +1,111 @@
 // Questions on the plain engine: how many, and of each its number, the tape, a position, and a length or a move.
+use super::ground;
 use super::lists;
 use super::telling;
-use super::telling::Told;
 use machine::Machine;
 use machine::inner;
 use sim::Simulator;
 
-pub(crate) fn ask_all<'a>(
+// One question.
+struct Question {
+    which: u64,
+    tape: u64,
+    place: i64,
+    more: u64,
+}
+
+fn question_at(row: &[u64], at: usize) -> Question {
+    Question {
+        which: lists::number(row, at),
+        tape: lists::number(row, lists::past(at, 1)),
+        place: lists::position_at(row, lists::past(at, 2)),
+        more: lists::number(row, lists::past(at, 3)),
+    }
+}
+
+pub(crate) fn replay<'a>(
     row: &[u64],
     at: usize,
     m: Machine,
     table: &[u8],
     sim: Simulator,
-    c0: &'a [u8; 512],
-    c1: &'a [u8; 128],
-    c2: &'a [u8; 128],
-    list: &mut [u64; 1024],
-) -> Told {
+    c0: &'a [u8],
+    c1: &'a [u8],
+    c2: &'a [u8],
+) -> usize {
     let questions = lists::count_at(row, at);
+    let twice = lists::past(questions, questions);
     let mut from = lists::past(at, 1);
-    let mut count: usize = 0;
+    let mut told = lists::past(from, lists::past(twice, twice));
     let mut i: usize = 0;
     while i < questions {
-        count = ask(row, from, m, table, sim, c0, c1, c2, list, count);
+        told = ask(row, told, question_at(row, from), m, table, sim, c0, c1, c2);
         from = lists::past(from, 4);
         i += 1;
     }
-    Told { from, count }
+    told
 }
 
 fn ask<'a>(
     row: &[u64],
     at: usize,
+    next: Question,
     m: Machine,
     table: &[u8],
     sim: Simulator,
-    c0: &'a [u8; 512],
-    c1: &'a [u8; 128],
-    c2: &'a [u8; 128],
-    list: &mut [u64; 1024],
-    count: usize,
+    c0: &'a [u8],
+    c1: &'a [u8],
+    c2: &'a [u8],
 ) -> usize {
-    let which = lists::number(row, at);
-    let tape = lists::number(row, lists::past(at, 1));
-    let place = lists::position_at(row, lists::past(at, 2));
-    let more = lists::number(row, lists::past(at, 3));
-    if which == 0 {
-        return telling::put_got(list, count, sim.get(m, table, c0, c1, c2, tape, place));
+    let tape = next.tape;
+    if next.which == 0 {
+        let got = sim.get(m, table, c0, c1, c2, tape, next.place);
+        return telling::expect_got(row, at, got);
     }
-    if which == 1 {
-        return telling::put_extent(list, count, sim.non_blank(m, table, c0, c1, c2, tape));
+    if next.which == 1 {
+        let extent = sim.non_blank(m, table, c0, c1, c2, tape);
+        return telling::expect_extent(row, at, extent);
     }
-    if which == 2 {
-        return telling::put_counted(list, count, sim.count_non_blank(m, table, c0, c1, c2, tape));
+    if next.which == 2 {
+        let counted = sim.count_non_blank(m, table, c0, c1, c2, tape);
+        return telling::expect_counted(row, at, counted);
     }
-    if which == 3 {
-        return window(m, table, sim, c0, c1, c2, tape, place, more, list, count);
+    if next.which == 3 {
+        return window(row, at, next, m, table, sim, c0, c1, c2);
     }
-    let dir = inner::dir_of(super::ground::low(more));
-    telling::put_located(
-        list,
-        count,
-        sim.find_non_blank(m, table, c0, c1, c2, tape, place, dir),
-    )
+    let dir = inner::dir_of(ground::low(next.more));
+    let located = sim.find_non_blank(m, table, c0, c1, c2, tape, next.place, dir);
+    telling::expect_located(row, at, located)
 }
 
 fn window<'a>(
+    row: &[u64],
+    at: usize,
+    next: Question,
     m: Machine,
     table: &[u8],
     sim: Simulator,
-    c0: &'a [u8; 512],
-    c1: &'a [u8; 128],
-    c2: &'a [u8; 128],
-    tape: u64,
-    place: i64,
-    length: u64,
-    list: &mut [u64; 1024],
-    count: usize,
+    c0: &'a [u8],
+    c1: &'a [u8],
+    c2: &'a [u8],
 ) -> usize {
     let mut symbols: [u8; 64] = [0; 64];
-    let end = lists::least(length, 64);
-    let part = lists::head_mut(&mut symbols, end);
-    window_into(m, table, sim, c0, c1, c2, tape, place, part, list, count)
+    let part = lists::head_mut(&mut symbols, lists::least(next.more, 64));
+    window_into(row, at, next, m, table, sim, c0, c1, c2, part)
 }
 
 fn window_into<'a>(
+    row: &[u64],
+    at: usize,
+    next: Question,
     m: Machine,
     table: &[u8],
     sim: Simulator,
-    c0: &'a [u8; 512],
-    c1: &'a [u8; 128],
-    c2: &'a [u8; 128],
-    tape: u64,
-    place: i64,
+    c0: &'a [u8],
+    c1: &'a [u8],
+    c2: &'a [u8],
     symbols: &mut [u8],
-    list: &mut [u64; 1024],
-    count: usize,
 ) -> usize {
-    let answer = sim.window(m, table, c0, c1, c2, tape, place, symbols);
-    telling::put_window(list, count, answer, symbols)
+    let answer = sim.window(m, table, c0, c1, c2, next.tape, next.place, symbols);
+    telling::expect_window(row, at, answer, symbols)
 }

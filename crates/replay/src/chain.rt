@@ -1,13 +1,12 @@
 // Cases of the run-length engine: a fresh one on a word, a run ahead, then what the case is about.
 use super::chain_asks;
 use super::chain_timelines;
-use super::ground;
 use super::lists;
+use super::orders;
 use super::telling;
-use super::telling::Told;
 use super::values;
 use machine::Machine;
-use numbers::engines;
+use rle::Answered;
 use rle::ChainSim;
 use rle::Fresh;
 use sim::StopRule;
@@ -18,46 +17,28 @@ pub(crate) enum Act {
     Seek,
 }
 
-pub(crate) fn replay(act: Act, row: &[u64], list: &mut [u64; 1024]) -> Told {
-    let mut table: [u8; 4096] = [0; 4096];
-    let read = ground::read(row, &mut table);
-    let m = read.machine;
-    on_table(
-        act,
-        row,
-        read.at,
-        m,
-        lists::first_bytes(&table, read.size),
-        list,
-    )
-}
-
-fn on_table(
+pub(crate) fn replay(
     act: Act,
     row: &[u64],
     at: usize,
     m: Machine,
     table: &[u8],
-    list: &mut [u64; 1024],
-) -> Told {
-    let mut word: [u8; 4096] = [0; 4096];
-    let length = ground::read_bytes(row, at, &mut word);
+    word: &[u8],
+) -> usize {
     let mut ls: [u8; 48] = [0; 48];
     let mut ll: [u64; 48] = [0; 48];
     let mut rs: [u8; 48] = [0; 48];
     let mut rl: [u64; 48] = [0; 48];
-    let lent = lists::first_bytes(&word, length);
-    let fresh = ChainSim::new(m, table, lent, &ls, &ll, &mut rs, &mut rl);
-    let next = lists::past(at, lists::past(length, 1));
+    let fresh = ChainSim::new(m, table, word, &ls, &ll, &mut rs, &mut rl);
     match fresh {
         Fresh::Refused(_) => {
-            return telling::nothing();
+            return lists::OFF;
         }
         Fresh::Made(sim) => {
-            return begun(
+            return ahead(
                 act,
                 row,
-                next,
+                at,
                 m,
                 table,
                 sim,
@@ -65,13 +46,12 @@ fn on_table(
                 &mut ll,
                 &mut rs,
                 &mut rl,
-                list,
             );
         }
     }
 }
 
-fn begun(
+fn ahead(
     act: Act,
     row: &[u64],
     at: usize,
@@ -82,26 +62,39 @@ fn begun(
     ll: &mut [u64; 48],
     rs: &mut [u8; 48],
     rl: &mut [u64; 48],
-    list: &mut [u64; 1024],
-) -> Told {
-    let rule = StopRule::Never;
-    let ran = sim.run(m, table, ls, ll, rs, rl, rule, lists::number(row, at));
+) -> usize {
+    let fuel = lists::number(row, at);
+    let ran = sim.run(m, table, ls, ll, rs, rl, StopRule::Never, fuel);
     let here = ran.sim;
-    let next = lists::past(at, 1);
+    act_on(act, row, lists::past(at, 1), m, table, here, ls, ll, rs, rl)
+}
+
+fn act_on(
+    act: Act,
+    row: &[u64],
+    at: usize,
+    m: Machine,
+    table: &[u8],
+    sim: ChainSim,
+    ls: &mut [u8; 48],
+    ll: &mut [u64; 48],
+    rs: &mut [u8; 48],
+    rl: &mut [u64; 48],
+) -> usize {
     match act {
         Act::Run => {
-            return run(row, next, m, table, here, ls, ll, rs, rl, list);
+            return run(row, at, m, table, sim, ls, ll, rs, rl);
         }
         Act::Ask => {
-            return chain_asks::ask_all(row, next, m, table, here, ls, ll, rs, rl, list);
+            return chain_asks::replay(row, at, m, table, sim, ls, ll, rs, rl);
         }
         Act::Seek => {
-            return chain_timelines::replay(row, next, m, table, here, ls, ll, rs, rl, list);
+            return chain_timelines::replay(row, at, m, table, sim, ls, ll, rs, rl);
         }
     }
 }
 
-// A run: stop rule and fuel. Told are the answer, the macro steps and the engine.
+// A run: stop rule and fuel. The row has the answer, the macro steps and the engine.
 fn run(
     row: &[u64],
     at: usize,
@@ -112,17 +105,25 @@ fn run(
     ll: &mut [u64; 48],
     rs: &mut [u8; 48],
     rl: &mut [u64; 48],
-    list: &mut [u64; 1024],
-) -> Told {
-    let rule = engines::rule_of(lists::number(row, at));
-    let fuel = lists::number(row, lists::past(at, 1));
-    let ran = sim.run(m, table, ls, ll, rs, rl, rule, fuel);
+) -> usize {
+    let order = orders::read(row, at);
+    let rule = order.rule;
+    let ran = sim.run(m, table, ls, ll, rs, rl, rule, order.fuel);
+    expect_ran(row, order.at, ran, ls, ll, rs, rl)
+}
+
+fn expect_ran(
+    row: &[u64],
+    at: usize,
+    ran: Answered,
+    ls: &[u8],
+    ll: &[u64],
+    rs: &[u8],
+    rl: &[u64],
+) -> usize {
     let after = ran.sim;
     let answer = ran.answer;
-    let count = telling::put_answer(list, 0, answer);
-    let count = lists::put(list, count, after.macro_steps());
-    Told {
-        from: lists::past(at, 2),
-        count: values::put_chain(list, count, after, ls, ll, rs, rl),
-    }
+    let at = telling::expect_answer(row, at, answer);
+    let at = lists::expect(row, at, after.macro_steps());
+    values::expect_chain(row, at, after, ls, ll, rs, rl)
 }

@@ -1,18 +1,19 @@
-// Cases of a timeline over the run-length engine: settings, how many calls, and of each which it is and its number.
-use super::ground;
+// Cases of a timeline over the run-length engine.
 use super::lists;
+use super::settings;
+use super::settings::Settings;
 use super::telling;
-use super::telling::Told;
 use super::values;
 use machine::Machine;
 use rle::ChainSim;
+use rle_timeline::Answered;
 use rle_timeline::Begun;
 use rle_timeline::Timeline;
 
-// A timeline after some calls, and how many numbers have been told.
+// A timeline after some calls, and the place of the row past their answers.
 struct Gone {
     timeline: Timeline,
-    count: usize,
+    at: usize,
 }
 
 pub(crate) fn replay(
@@ -25,15 +26,25 @@ pub(crate) fn replay(
     ll: &mut [u64; 48],
     rs: &mut [u8; 48],
     rl: &mut [u64; 48],
-    list: &mut [u64; 1024],
-) -> Told {
+) -> usize {
     let mut store: [u8; 524288] = [0; 524288];
-    in_store(row, at, m, table, sim, ls, ll, rs, rl, &mut store, list)
+    begin(
+        row,
+        settings::read(row, at),
+        m,
+        table,
+        sim,
+        ls,
+        ll,
+        rs,
+        rl,
+        &mut store,
+    )
 }
 
-fn in_store(
+fn begin(
     row: &[u64],
-    at: usize,
+    settings: Settings,
     m: Machine,
     table: &[u8],
     sim: ChainSim,
@@ -42,37 +53,42 @@ fn in_store(
     rs: &mut [u8; 48],
     rl: &mut [u64; 48],
     store: &mut [u8; 524288],
-    list: &mut [u64; 1024],
-) -> Told {
-    let most = lists::number(row, at);
-    let every = lists::number(row, lists::past(at, 1));
-    let begun = Timeline::new(sim, m, table, ls, ll, rs, rl, store, most, every);
-    let next = lists::past(at, 2);
+) -> usize {
+    let begun = Timeline::new(
+        sim,
+        m,
+        table,
+        ls,
+        ll,
+        rs,
+        rl,
+        store,
+        settings.most,
+        settings.every,
+    );
     match begun {
         Begun::Refused(_) => {
-            return telling::nothing();
+            return lists::OFF;
         }
         Begun::Made(timeline) => {
-            let calls = lists::count_at(row, next);
-            let first = lists::past(next, 1);
+            let start = Gone {
+                timeline,
+                at: settings.answers,
+            };
             let gone = go(
                 row,
-                first,
-                calls,
+                settings.first,
+                settings.calls,
                 m,
                 table,
-                timeline,
+                start,
                 ls,
                 ll,
                 rs,
                 rl,
                 store,
-                list,
             );
-            return Told {
-                from: lists::past(first, lists::past(calls, calls)),
-                count: put_times(list, gone, most, every),
-            };
+            return expect_end(row, settings, gone);
         }
     }
 }
@@ -80,33 +96,31 @@ fn in_store(
 // All the calls.
 fn go(
     row: &[u64],
-    at: usize,
+    first: usize,
     calls: usize,
     m: Machine,
     table: &[u8],
-    timeline: Timeline,
+    start: Gone,
     ls: &mut [u8; 48],
     ll: &mut [u64; 48],
     rs: &mut [u8; 48],
     rl: &mut [u64; 48],
     store: &mut [u8; 524288],
-    list: &mut [u64; 1024],
 ) -> Gone {
-    let mut gone = Gone { timeline, count: 0 };
-    let mut from = at;
+    let mut gone = start;
+    let mut from = first;
     let mut i: usize = 0;
     while i < calls {
-        gone = call(row, from, m, table, gone, ls, ll, rs, rl, store, list);
+        gone = call(row, from, m, table, gone, ls, ll, rs, rl, store);
         from = lists::past(from, 2);
         i += 1;
     }
     gone
 }
 
-// One call: its answer, and the engine after it.
 fn call(
     row: &[u64],
-    at: usize,
+    from: usize,
     m: Machine,
     table: &[u8],
     gone: Gone,
@@ -115,31 +129,45 @@ fn call(
     rs: &mut [u8; 48],
     rl: &mut [u64; 48],
     store: &mut [u8; 524288],
-    list: &mut [u64; 1024],
 ) -> Gone {
-    let which = ground::low(lists::number(row, at));
-    let number = lists::number(row, lists::past(at, 1));
+    let next = settings::call_at(row, from);
     let before = gone.timeline;
-    let answered = calls::chain::moved(before, m, table, ls, ll, rs, rl, store, which, number);
+    let answered = calls::chain::moved(
+        before,
+        m,
+        table,
+        ls,
+        ll,
+        rs,
+        rl,
+        store,
+        next.which,
+        next.number,
+    );
+    expect_call(row, gone.at, answered, ls, ll, rs, rl)
+}
+
+// A call's answer, and the engine after it.
+fn expect_call(
+    row: &[u64],
+    at: usize,
+    answered: Answered,
+    ls: &[u8],
+    ll: &[u64],
+    rs: &[u8],
+    rl: &[u64],
+) -> Gone {
     let timeline = answered.timeline;
     let answer = answered.answer;
-    let engine = timeline.engine;
-    let count = telling::put_answer(list, gone.count, answer);
+    let at = telling::expect_answer(row, at, answer);
     Gone {
         timeline,
-        count: values::put_chain(list, count, engine, ls, ll, rs, rl),
+        at: values::expect_chain(row, at, timeline.engine, ls, ll, rs, rl),
     }
 }
 
-// At the Rust's settings: how many slots there are, how far apart, and the engine's macro steps.
-fn put_times(list: &mut [u64; 1024], gone: Gone, most: u64, every: u64) -> usize {
-    if !lists::as_rust(most, every) {
-        return gone.count;
-    }
-    let timeline = gone.timeline;
-    let times = timeline.times;
-    let engine = timeline.engine;
-    let count = lists::put(list, gone.count, times.count);
-    let count = lists::put(list, count, times.every);
-    lists::put(list, count, engine.macro_steps())
+fn expect_end(row: &[u64], settings: Settings, gone: Gone) -> usize {
+    let after = gone.timeline;
+    let engine = after.engine;
+    settings::expect_times(row, gone.at, settings, after.times, engine.macro_steps())
 }

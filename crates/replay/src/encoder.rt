@@ -2,7 +2,7 @@
 use super::ground;
 use super::lists;
 use super::telling;
-use super::telling::Told;
+use machine::Checked;
 use numbers::answers;
 
 fn glyph_of(x: u64) -> u32 {
@@ -26,35 +26,43 @@ fn read_glyphs(row: &[u64], at: usize, list: &mut [u32; 512]) -> usize {
     count
 }
 
-pub(crate) fn replay(row: &[u64], list: &mut [u64; 1024]) -> Told {
+pub(crate) fn replay(row: &[u64]) -> usize {
     let mut glyphs: [u32; 512] = [0; 512];
-    let mut flags: [u8; 4096] = [0; 4096];
-    let mut word: [u32; 512] = [0; 512];
     let glyph_count = read_glyphs(row, 0, &mut glyphs);
-    let at = lists::past(1, glyph_count);
-    let flag_count = ground::read_bytes(row, at, &mut flags);
-    let at = lists::past(at, lists::past(1, flag_count));
-    let length = read_glyphs(row, at, &mut word);
-    let at = lists::past(at, lists::past(1, length));
-    Told {
-        from: at,
-        count: encoded(
-            lists::first_glyphs(&glyphs, glyph_count),
-            lists::first_bytes(&flags, flag_count),
-            lists::first_glyphs(&word, length),
-            list,
-        ),
-    }
+    with_glyphs(
+        row,
+        lists::past(1, glyph_count),
+        lists::first_glyphs(&glyphs, glyph_count),
+    )
 }
 
-fn encoded(glyphs: &[u32], flags: &[u8], word: &[u32], list: &mut [u64; 1024]) -> usize {
+fn with_glyphs(row: &[u64], at: usize, glyphs: &[u32]) -> usize {
+    let mut flags: [u8; 4096] = [0; 4096];
+    let flag_count = ground::read_bytes(row, at, &mut flags);
+    let next = lists::past(at, lists::past(1, flag_count));
+    with_flags(row, next, glyphs, lists::first_bytes(&flags, flag_count))
+}
+
+fn with_flags(row: &[u64], at: usize, glyphs: &[u32], flags: &[u8]) -> usize {
+    let mut word: [u32; 512] = [0; 512];
+    let length = read_glyphs(row, at, &mut word);
+    let next = lists::past(at, lists::past(1, length));
+    encode(row, next, glyphs, flags, lists::first_glyphs(&word, length))
+}
+
+fn encode(row: &[u64], at: usize, glyphs: &[u32], flags: &[u8], word: &[u32]) -> usize {
     let mut symbols: [u8; 4096] = [0; 4096];
-    let mut out: [u64; 8] = [0; 8];
     let checked = alphabet::encode(glyphs, flags, word, &mut symbols);
+    let encoded = lists::first_bytes(&symbols, word.len());
+    expect_encoded(row, at, checked, encoded)
+}
+
+fn expect_encoded(row: &[u64], at: usize, checked: Checked, encoded: &[u8]) -> usize {
+    let mut out: [u64; 8] = [0; 8];
     let result = answers::tell_checked(&mut out, checked);
-    let count = lists::put(list, 0, result as u64);
+    let at = lists::expect(row, at, result as u64);
     if result != 0 {
-        return lists::put(list, count, out[0]);
+        return lists::expect(row, at, out[0]);
     }
-    telling::put_symbols(list, count, lists::first_bytes(&symbols, word.len()))
+    telling::expect_symbols(row, at, encoded)
 }

@@ -1,9 +1,13 @@
-// Lists of numbers: a line of the data as a row, and what the port tells. A place past a row's end holds 0, and a list
-// takes no number past its end, so that no call asks for a bound; a case whose lists differ in length differs.
+// A line of the data as a row of numbers: what a case is made of, then what the Rust answered. A place past a row's end
+// holds 0, so that no call asks for a bound. What the port answers is held to the row number by number: `expect` goes on
+// to the next place, or to OFF, which lies past every row, where the row has another number there.
 use symbol::position;
 
-// How many numbers a row and a list have room for.
+// How many numbers a row has room for.
 const ROOM: usize = 1024;
+
+// Where a case stands that differs.
+pub(crate) const OFF: usize = 4096;
 
 // The number at a place of a row.
 pub(crate) fn number(row: &[u64], at: usize) -> u64 {
@@ -13,13 +17,13 @@ pub(crate) fn number(row: &[u64], at: usize) -> u64 {
     0
 }
 
-// The place `count` numbers further on, or the last place that any row has.
+// The place `count` numbers further on, or OFF where no row goes as far.
 pub(crate) fn past(at: usize, count: usize) -> usize {
     if ROOM < at {
-        return ROOM;
+        return OFF;
     }
     if ROOM < count {
-        return ROOM;
+        return OFF;
     }
     at + count
 }
@@ -38,22 +42,33 @@ pub(crate) fn position_at(row: &[u64], at: usize) -> i64 {
     position::signed(std::num::wrapping_add_u64(number(row, at), 9223372036854775808))
 }
 
-// Adds a number to a list of `count`: how many there are now.
-pub(crate) fn put(list: &mut [u64; 1024], count: usize, x: u64) -> usize {
+// The place after a number that the row must have at a place.
+pub(crate) fn expect(row: &[u64], at: usize, x: u64) -> usize {
+    if row.len() <= at {
+        return OFF;
+    }
+    if row[at] != x {
+        return OFF;
+    }
+    past(at, 1)
+}
+
+// The same of a raised position.
+pub(crate) fn expect_position(row: &[u64], at: usize, raised: u64) -> usize {
+    expect(
+        row,
+        at,
+        std::num::wrapping_sub_u64(raised, 9223372036854775808),
+    )
+}
+
+// Adds a number to a row of `count`, if it has room: how many there are now.
+pub(crate) fn put(row: &mut [u64; 1024], count: usize, x: u64) -> usize {
     if count < 1024 {
-        list[count] = x;
+        row[count] = x;
         return count + 1;
     }
     count
-}
-
-// Adds a raised position.
-pub(crate) fn put_position(list: &mut [u64; 1024], count: usize, raised: u64) -> usize {
-    put(
-        list,
-        count,
-        std::num::wrapping_sub_u64(raised, 9223372036854775808),
-    )
 }
 
 // The first bytes of a slice, all where it has fewer.
@@ -95,6 +110,10 @@ pub(crate) fn first_numbers(list: &[u64; 1024], count: usize) -> &[u64] {
     number_head(list, count)
 }
 
+pub(crate) fn first_values(list: &[u64; 8], count: usize) -> &[u64] {
+    number_head(list, count)
+}
+
 pub(crate) fn first_glyphs(list: &[u32; 512], count: usize) -> &[u32] {
     glyph_head(list, count)
 }
@@ -117,12 +136,4 @@ pub(crate) fn least(a: u64, b: usize) -> usize {
         return a as usize;
     }
     b
-}
-
-// Whether a timeline's settings are the Rust's.
-pub(crate) fn as_rust(most: u64, every: u64) -> bool {
-    if most != 512 {
-        return false;
-    }
-    every == 4096
 }

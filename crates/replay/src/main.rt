@@ -8,20 +8,27 @@ mod encoder;
 mod ground;
 mod lines;
 mod lists;
+mod orders;
 mod packing;
 mod plain;
+mod settings;
 mod telling;
 mod timelines;
 mod values;
 
-use telling::Told;
+use machine::Machine;
 
 // What the cases of a file are about.
 enum Kind {
-    Plain(plain::Act),
-    Chain(chain::Act),
+    On(Engine),
     Pack,
     Encode,
+}
+
+// Which engine, and what it does in a case.
+enum Engine {
+    Plain(plain::Act),
+    Chain(chain::Act),
 }
 
 // Where the next line begins, how many cases there were, and how many differ.
@@ -31,47 +38,62 @@ struct Tally {
     differ: u64,
 }
 
-// What the port answers to a row.
-fn tell(kind: Kind, row: &[u64], list: &mut [u64; 1024]) -> Told {
+// The place past a row's last number, where the port answers what the row says.
+fn replayed(kind: Kind, row: &[u64]) -> usize {
     match kind {
-        Kind::Plain(act) => {
-            return plain::replay(act, row, list);
-        }
-        Kind::Chain(act) => {
-            return chain::replay(act, row, list);
+        Kind::On(engine) => {
+            return on_ground(engine, row);
         }
         Kind::Pack => {
-            return packing::replay(row, list);
+            return packing::replay(row);
         }
         Kind::Encode => {
-            return encoder::replay(row, list);
+            return encoder::replay(row);
         }
     }
 }
 
-// Whether the rest of a row, from a place on, is this list.
-fn rest_is(row: &[u64], from: usize, list: &[u64]) -> bool {
-    if row.len() < from {
-        return false;
-    }
-    if row.len() - from != list.len() {
-        return false;
-    }
-    let mut i: usize = 0;
-    while i < list.len() {
-        if row[from + i] != list[i] {
-            return false;
+fn on_ground(engine: Engine, row: &[u64]) -> usize {
+    let mut table: [u8; 4096] = [0; 4096];
+    let read = ground::read(row, &mut table);
+    let m = read.machine;
+    on_table(
+        engine,
+        row,
+        read.at,
+        m,
+        lists::first_bytes(&table, read.size),
+    )
+}
+
+fn on_table(engine: Engine, row: &[u64], at: usize, m: Machine, table: &[u8]) -> usize {
+    let mut word: [u8; 4096] = [0; 4096];
+    let length = ground::read_bytes(row, at, &mut word);
+    let next = lists::past(at, lists::past(length, 1));
+    on_word(
+        engine,
+        row,
+        next,
+        m,
+        table,
+        lists::first_bytes(&word, length),
+    )
+}
+
+fn on_word(engine: Engine, row: &[u64], at: usize, m: Machine, table: &[u8], word: &[u8]) -> usize {
+    match engine {
+        Engine::Plain(act) => {
+            return plain::replay(act, row, at, m, table, word);
         }
-        i += 1;
+        Engine::Chain(act) => {
+            return chain::replay(act, row, at, m, table, word);
+        }
     }
-    true
 }
 
 // 1 where the port answers otherwise than a row says.
 fn differs(kind: Kind, row: &[u64]) -> u64 {
-    let mut list: [u64; 1024] = [0; 1024];
-    let told = tell(kind, row, &mut list);
-    if rest_is(row, told.from, lists::first_numbers(&list, told.count)) {
+    if replayed(kind, row) == row.len() {
         return 0;
     }
     1
@@ -133,21 +155,32 @@ fn replay(kind: Kind, name: &[u8], sum: Tally) -> Tally {
     }
 }
 
-fn plain_kinds(sum: Tally) -> Tally {
-    let sum = replay(Kind::Plain(plain::Act::Run), b"run", sum);
-    let sum = replay(Kind::Plain(plain::Act::Run), b"stop", sum);
-    let sum = replay(Kind::Plain(plain::Act::Step), b"step", sum);
-    let sum = replay(Kind::Plain(plain::Act::Fast), b"fast", sum);
+fn replay_plain(act: plain::Act, name: &[u8], sum: Tally) -> Tally {
+    replay(Kind::On(Engine::Plain(act)), name, sum)
+}
+
+fn replay_chain(act: chain::Act, name: &[u8], sum: Tally) -> Tally {
+    replay(Kind::On(Engine::Chain(act)), name, sum)
+}
+
+fn plain_runs(sum: Tally) -> Tally {
+    let sum = replay_plain(plain::Act::Run, b"run", sum);
+    let sum = replay_plain(plain::Act::Run, b"stop", sum);
+    let sum = replay_plain(plain::Act::Step, b"step", sum);
+    replay_plain(plain::Act::Fast, b"fast", sum)
+}
+
+fn plain_others(sum: Tally) -> Tally {
     let sum = replay(Kind::Pack, b"pack", sum);
-    let sum = replay(Kind::Plain(plain::Act::Ask), b"ask", sum);
-    replay(Kind::Plain(plain::Act::Seek), b"timeline", sum)
+    let sum = replay_plain(plain::Act::Ask, b"ask", sum);
+    replay_plain(plain::Act::Seek, b"timeline", sum)
 }
 
 fn chain_kinds(sum: Tally) -> Tally {
-    let sum = replay(Kind::Chain(chain::Act::Run), b"chain", sum);
-    let sum = replay(Kind::Chain(chain::Act::Run), b"chain_stop", sum);
-    let sum = replay(Kind::Chain(chain::Act::Ask), b"chain_ask", sum);
-    replay(Kind::Chain(chain::Act::Seek), b"chain_timeline", sum)
+    let sum = replay_chain(chain::Act::Run, b"chain", sum);
+    let sum = replay_chain(chain::Act::Run, b"chain_stop", sum);
+    let sum = replay_chain(chain::Act::Ask, b"chain_ask", sum);
+    replay_chain(chain::Act::Seek, b"chain_timeline", sum)
 }
 
 fn main() {
@@ -156,7 +189,7 @@ fn main() {
         cases: 0,
         differ: 0,
     };
-    let plain = plain_kinds(none);
+    let plain = plain_others(plain_runs(none));
     let chain = chain_kinds(plain);
     report(b"all", replay(Kind::Encode, b"encode", chain));
 }

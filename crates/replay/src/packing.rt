@@ -2,29 +2,25 @@
 use super::ground;
 use super::lists;
 use super::telling;
-use super::telling::Told;
 use machine::Checked;
 use machine::Machine;
 
-pub(crate) fn replay(row: &[u64], list: &mut [u64; 1024]) -> Told {
+pub(crate) fn replay(row: &[u64]) -> usize {
     let mut table: [u8; 4096] = [0; 4096];
     let read = ground::read(row, &mut table);
     let m = read.machine;
-    Told {
-        from: read.at,
-        count: packed(m, lists::first_bytes(&table, read.size), list),
-    }
+    packed(row, read.at, m, lists::first_bytes(&table, read.size))
 }
 
-fn packed(m: Machine, table: &[u8], list: &mut [u64; 1024]) -> usize {
+fn packed(row: &[u64], at: usize, m: Machine, table: &[u8]) -> usize {
     let mut words: [u64; 1024] = [0; 1024];
     let checked = m.pack(table, &mut words);
     match checked {
         Checked::Refused(_) => {
-            return 0;
+            return lists::OFF;
         }
         Checked::Accepted => {
-            return telling::put_words(list, 0, lists::first_numbers(&words, table.len() / 8));
+            return telling::expect_numbers(row, at, lists::first_numbers(&words, table.len() / 8));
         }
     }
 }

@@ -1,15 +1,15 @@
 // Cases of the plain engine: a fresh one on a word, a run ahead, then what the case is about.
 use super::asks;
-use super::ground;
 use super::lists;
+use super::orders;
 use super::telling;
-use super::telling::Told;
 use super::timelines;
 use super::values;
 use machine::Machine;
-use numbers::engines;
+use sim::Answered;
 use sim::Fresh;
 use sim::Simulator;
+use sim::Stepped;
 use sim::StopRule;
 
 pub(crate) enum Act {
@@ -20,58 +20,29 @@ pub(crate) enum Act {
     Seek,
 }
 
-pub(crate) fn replay(act: Act, row: &[u64], list: &mut [u64; 1024]) -> Told {
-    let mut table: [u8; 4096] = [0; 4096];
-    let read = ground::read(row, &mut table);
-    let m = read.machine;
-    on_table(
-        act,
-        row,
-        read.at,
-        m,
-        lists::first_bytes(&table, read.size),
-        list,
-    )
-}
-
-fn on_table(
+pub(crate) fn replay(
     act: Act,
     row: &[u64],
     at: usize,
     m: Machine,
     table: &[u8],
-    list: &mut [u64; 1024],
-) -> Told {
-    let mut word: [u8; 4096] = [0; 4096];
-    let length = ground::read_bytes(row, at, &mut word);
+    word: &[u8],
+) -> usize {
     let mut c0: [u8; 512] = [0; 512];
     let mut c1: [u8; 128] = [0; 128];
     let mut c2: [u8; 128] = [0; 128];
-    let lent = lists::first_bytes(&word, length);
-    let fresh = Simulator::new(m, table, lent, &mut c0, &mut c1, &mut c2);
-    let next = lists::past(at, lists::past(length, 1));
+    let fresh = Simulator::new(m, table, word, &mut c0, &mut c1, &mut c2);
     match fresh {
         Fresh::Refused(_) => {
-            return telling::nothing();
+            return lists::OFF;
         }
         Fresh::Made(sim) => {
-            return begun(
-                act,
-                row,
-                next,
-                m,
-                table,
-                sim,
-                &mut c0,
-                &mut c1,
-                &mut c2,
-                list,
-            );
+            return ahead(act, row, at, m, table, sim, &mut c0, &mut c1, &mut c2);
         }
     }
 }
 
-fn begun(
+fn ahead(
     act: Act,
     row: &[u64],
     at: usize,
@@ -81,27 +52,39 @@ fn begun(
     c0: &mut [u8; 512],
     c1: &mut [u8; 128],
     c2: &mut [u8; 128],
-    list: &mut [u64; 1024],
-) -> Told {
-    let rule = StopRule::Never;
-    let ran = sim.run(m, table, c0, c1, c2, rule, lists::number(row, at));
+) -> usize {
+    let fuel = lists::number(row, at);
+    let ran = sim.run(m, table, c0, c1, c2, StopRule::Never, fuel);
     let here = ran.sim;
-    let next = lists::past(at, 1);
+    act_on(act, row, lists::past(at, 1), m, table, here, c0, c1, c2)
+}
+
+fn act_on(
+    act: Act,
+    row: &[u64],
+    at: usize,
+    m: Machine,
+    table: &[u8],
+    sim: Simulator,
+    c0: &mut [u8; 512],
+    c1: &mut [u8; 128],
+    c2: &mut [u8; 128],
+) -> usize {
     match act {
         Act::Run => {
-            return run(row, next, m, table, here, c0, c1, c2, list);
+            return run(row, at, m, table, sim, c0, c1, c2);
         }
         Act::Fast => {
-            return fast(row, next, m, table, here, c0, c1, c2, list);
+            return fast(row, at, m, table, sim, c0, c1, c2);
         }
         Act::Step => {
-            return step(next, m, table, here, c0, c1, c2, list);
+            return step(row, at, m, table, sim, c0, c1, c2);
         }
         Act::Ask => {
-            return asks::ask_all(row, next, m, table, here, c0, c1, c2, list);
+            return asks::replay(row, at, m, table, sim, c0, c1, c2);
         }
         Act::Seek => {
-            return timelines::replay(row, next, m, table, here, c0, c1, c2, list);
+            return timelines::replay(row, at, m, table, sim, c0, c1, c2);
         }
     }
 }
@@ -116,18 +99,11 @@ fn run(
     c0: &mut [u8; 512],
     c1: &mut [u8; 128],
     c2: &mut [u8; 128],
-    list: &mut [u64; 1024],
-) -> Told {
-    let rule = engines::rule_of(lists::number(row, at));
-    let fuel = lists::number(row, lists::past(at, 1));
-    let ran = sim.run(m, table, c0, c1, c2, rule, fuel);
-    let after = ran.sim;
-    let answer = ran.answer;
-    let count = telling::put_answer(list, 0, answer);
-    Told {
-        from: lists::past(at, 2),
-        count: values::put_plain(list, count, after, m.tapes, c0, c1, c2),
-    }
+) -> usize {
+    let order = orders::read(row, at);
+    let rule = order.rule;
+    let ran = sim.run(m, table, c0, c1, c2, rule, order.fuel);
+    expect_ran(row, order.at, ran, m.tapes, c0, c1, c2)
 }
 
 // The same over packed words.
@@ -140,25 +116,48 @@ fn fast(
     c0: &mut [u8; 512],
     c1: &mut [u8; 128],
     c2: &mut [u8; 128],
-    list: &mut [u64; 1024],
-) -> Told {
-    let rule = engines::rule_of(lists::number(row, at));
-    let fuel = lists::number(row, lists::past(at, 1));
+) -> usize {
     let mut words: [u64; 1024] = [0; 1024];
     m.pack(table, &mut words);
     let packed = lists::first_numbers(&words, table.len() / 8);
-    let ran = sim.run_packed(m, table, packed, c0, c1, c2, rule, fuel);
+    run_packed(row, at, m, table, packed, sim, c0, c1, c2)
+}
+
+fn run_packed(
+    row: &[u64],
+    at: usize,
+    m: Machine,
+    table: &[u8],
+    packed: &[u64],
+    sim: Simulator,
+    c0: &mut [u8; 512],
+    c1: &mut [u8; 128],
+    c2: &mut [u8; 128],
+) -> usize {
+    let order = orders::read(row, at);
+    let rule = order.rule;
+    let ran = sim.run_packed(m, table, packed, c0, c1, c2, rule, order.fuel);
+    expect_ran(row, order.at, ran, m.tapes, c0, c1, c2)
+}
+
+fn expect_ran(
+    row: &[u64],
+    at: usize,
+    ran: Answered,
+    tapes: u64,
+    c0: &[u8],
+    c1: &[u8],
+    c2: &[u8],
+) -> usize {
     let after = ran.sim;
     let answer = ran.answer;
-    let count = telling::put_answer(list, 0, answer);
-    Told {
-        from: lists::past(at, 2),
-        count: values::put_plain(list, count, after, m.tapes, c0, c1, c2),
-    }
+    let at = telling::expect_answer(row, at, answer);
+    values::expect_plain(row, at, after, tapes, c0, c1, c2)
 }
 
 // One step.
 fn step(
+    row: &[u64],
     at: usize,
     m: Machine,
     table: &[u8],
@@ -166,14 +165,22 @@ fn step(
     c0: &mut [u8; 512],
     c1: &mut [u8; 128],
     c2: &mut [u8; 128],
-    list: &mut [u64; 1024],
-) -> Told {
+) -> usize {
     let stepped = sim.step(m, table, c0, c1, c2);
+    expect_stepped(row, at, stepped, m.tapes, c0, c1, c2)
+}
+
+fn expect_stepped(
+    row: &[u64],
+    at: usize,
+    stepped: Stepped,
+    tapes: u64,
+    c0: &[u8],
+    c1: &[u8],
+    c2: &[u8],
+) -> usize {
     let after = stepped.sim;
     let answer = stepped.answer;
-    let count = telling::put_step(list, 0, answer);
-    Told {
-        from: at,
-        count: values::put_plain(list, count, after, m.tapes, c0, c1, c2),
-    }
+    let at = telling::expect_step(row, at, answer);
+    values::expect_plain(row, at, after, tapes, c0, c1, c2)
 }

@@ -1,18 +1,19 @@
-// Cases of a timeline over the plain engine: settings, how many calls, and of each which it is and its number.
-use super::ground;
+// Cases of a timeline over the plain engine.
 use super::lists;
+use super::settings;
+use super::settings::Settings;
 use super::telling;
-use super::telling::Told;
 use super::values;
 use machine::Machine;
 use sim::Simulator;
+use sim_timeline::Answered;
 use sim_timeline::Begun;
 use sim_timeline::Timeline;
 
-// A timeline after some calls, and how many numbers have been told.
+// A timeline after some calls, and the place of the row past their answers.
 struct Gone {
     timeline: Timeline,
-    count: usize,
+    at: usize,
 }
 
 pub(crate) fn replay(
@@ -24,15 +25,24 @@ pub(crate) fn replay(
     c0: &mut [u8; 512],
     c1: &mut [u8; 128],
     c2: &mut [u8; 128],
-    list: &mut [u64; 1024],
-) -> Told {
+) -> usize {
     let mut store: [u8; 524288] = [0; 524288];
-    in_store(row, at, m, table, sim, c0, c1, c2, &mut store, list)
+    begin(
+        row,
+        settings::read(row, at),
+        m,
+        table,
+        sim,
+        c0,
+        c1,
+        c2,
+        &mut store,
+    )
 }
 
-fn in_store(
+fn begin(
     row: &[u64],
-    at: usize,
+    settings: Settings,
     m: Machine,
     table: &[u8],
     sim: Simulator,
@@ -40,36 +50,40 @@ fn in_store(
     c1: &mut [u8; 128],
     c2: &mut [u8; 128],
     store: &mut [u8; 524288],
-    list: &mut [u64; 1024],
-) -> Told {
-    let most = lists::number(row, at);
-    let every = lists::number(row, lists::past(at, 1));
-    let begun = Timeline::new(sim, m, table, c0, c1, c2, store, most, every);
-    let next = lists::past(at, 2);
+) -> usize {
+    let begun = Timeline::new(
+        sim,
+        m,
+        table,
+        c0,
+        c1,
+        c2,
+        store,
+        settings.most,
+        settings.every,
+    );
     match begun {
         Begun::Refused(_) => {
-            return telling::nothing();
+            return lists::OFF;
         }
         Begun::Made(timeline) => {
-            let calls = lists::count_at(row, next);
-            let first = lists::past(next, 1);
+            let start = Gone {
+                timeline,
+                at: settings.answers,
+            };
             let gone = go(
                 row,
-                first,
-                calls,
+                settings.first,
+                settings.calls,
                 m,
                 table,
-                timeline,
+                start,
                 c0,
                 c1,
                 c2,
                 store,
-                list,
             );
-            return Told {
-                from: lists::past(first, lists::past(calls, calls)),
-                count: put_times(list, gone, most, every),
-            };
+            return expect_end(row, settings, gone);
         }
     }
 }
@@ -77,32 +91,30 @@ fn in_store(
 // All the calls.
 fn go(
     row: &[u64],
-    at: usize,
+    first: usize,
     calls: usize,
     m: Machine,
     table: &[u8],
-    timeline: Timeline,
+    start: Gone,
     c0: &mut [u8; 512],
     c1: &mut [u8; 128],
     c2: &mut [u8; 128],
     store: &mut [u8; 524288],
-    list: &mut [u64; 1024],
 ) -> Gone {
-    let mut gone = Gone { timeline, count: 0 };
-    let mut from = at;
+    let mut gone = start;
+    let mut from = first;
     let mut i: usize = 0;
     while i < calls {
-        gone = call(row, from, m, table, gone, c0, c1, c2, store, list);
+        gone = call(row, from, m, table, gone, c0, c1, c2, store);
         from = lists::past(from, 2);
         i += 1;
     }
     gone
 }
 
-// One call: its answer, and the engine after it.
 fn call(
     row: &[u64],
-    at: usize,
+    from: usize,
     m: Machine,
     table: &[u8],
     gone: Gone,
@@ -110,31 +122,44 @@ fn call(
     c1: &mut [u8; 128],
     c2: &mut [u8; 128],
     store: &mut [u8; 524288],
-    list: &mut [u64; 1024],
 ) -> Gone {
-    let which = ground::low(lists::number(row, at));
-    let number = lists::number(row, lists::past(at, 1));
+    let next = settings::call_at(row, from);
     let before = gone.timeline;
-    let answered = calls::plain::moved(before, m, table, c0, c1, c2, store, which, number);
+    let answered = calls::plain::moved(
+        before,
+        m,
+        table,
+        c0,
+        c1,
+        c2,
+        store,
+        next.which,
+        next.number,
+    );
+    expect_call(row, gone.at, answered, m.tapes, c0, c1, c2)
+}
+
+// A call's answer, and the engine after it.
+fn expect_call(
+    row: &[u64],
+    at: usize,
+    answered: Answered,
+    tapes: u64,
+    c0: &[u8],
+    c1: &[u8],
+    c2: &[u8],
+) -> Gone {
     let timeline = answered.timeline;
     let answer = answered.answer;
-    let engine = timeline.engine;
-    let count = telling::put_answer(list, gone.count, answer);
+    let at = telling::expect_answer(row, at, answer);
     Gone {
         timeline,
-        count: values::put_plain(list, count, engine, m.tapes, c0, c1, c2),
+        at: values::expect_plain(row, at, timeline.engine, tapes, c0, c1, c2),
     }
 }
 
-// At the Rust's settings: how many slots there are, how far apart, and the engine's steps.
-fn put_times(list: &mut [u64; 1024], gone: Gone, most: u64, every: u64) -> usize {
-    if !lists::as_rust(most, every) {
-        return gone.count;
-    }
-    let timeline = gone.timeline;
-    let times = timeline.times;
-    let engine = timeline.engine;
-    let count = lists::put(list, gone.count, times.count);
-    let count = lists::put(list, count, times.every);
-    lists::put(list, count, engine.steps)
+fn expect_end(row: &[u64], settings: Settings, gone: Gone) -> usize {
+    let after = gone.timeline;
+    let engine = after.engine;
+    settings::expect_times(row, gone.at, settings, after.times, engine.steps)
 }

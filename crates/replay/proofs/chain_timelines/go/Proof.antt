@@ -4,10 +4,10 @@ use Rattle.replay.proofs.chain_timelines.go.Statement.{statement}
 use Rattle.replay.proofs.chain_timelines.go.Tie as tie
 
 abbrev Inv-loop : tie.InvT-loop
-Inv-loop row at calls m table ls₀ ll₀ rs₀ rl₀ store₀ list₀ gone₀ from₀ i₀ ls ll rs rl store list gone from i = i ≤ calls
+Inv-loop row first calls m table ls₀ ll₀ rs₀ rl₀ store₀ gone₀ from₀ i₀ ls ll rs rl store gone from i = i ≤ calls
 
 abbrev μ-loop : tie.MeasureT-loop
-μ-loop row at calls m table ls₀ ll₀ rs₀ rl₀ store₀ list₀ gone₀ from₀ i₀ ls ll rs rl store list gone from i = calls - i
+μ-loop row first calls m table ls₀ ll₀ rs₀ rl₀ store₀ gone₀ from₀ i₀ ls ll rs rl store gone from i = calls - i
 
 loop-holds : tie.Need-loop-holds Inv-loop μ-loop
 loop-holds c = search needs

@@ -1,14 +1,14 @@
 use Prim.Native.Nat.{_≤_, _-_}
 use lib.ListN.{length}
 use borrow.Author.Needs.{needs}
-use Rattle.replay.proofs.telling.put_symbols.Statement.{statement}
-use Rattle.replay.proofs.telling.put_symbols.Tie as tie
+use Rattle.replay.proofs.telling.expect_symbols.Statement.{statement}
+use Rattle.replay.proofs.telling.expect_symbols.Tie as tie
 
 abbrev Inv-loop : tie.InvT-loop
-Inv-loop list₀ count symbols count₀ at₀ list count' at = at ≤ length symbols
+Inv-loop row from symbols at₀ i₀ at i = i ≤ length symbols
 
 abbrev μ-loop : tie.MeasureT-loop
-μ-loop list₀ count symbols count₀ at₀ list count' at = length symbols - at
+μ-loop row from symbols at₀ i₀ at i = length symbols - i
 
 loop-holds : tie.Need-loop-holds Inv-loop μ-loop
 loop-holds c = search needs
@@ -19,11 +19,11 @@ shared-slice-read-wide c = search needs
 wide-requires : tie.Need-wide-requires Inv-loop μ-loop
 wide-requires c κs = search needs
 
-put-requires : tie.Need-put-requires Inv-loop μ-loop
-put-requires c κs = search needs
+expect-requires : tie.Need-expect-requires Inv-loop μ-loop
+expect-requires c κs = search needs
 
-add-at : tie.Need-add-at Inv-loop μ-loop
-add-at c = search needs
+add-i : tie.Need-add-i Inv-loop μ-loop
+add-i c = search needs
 
 loop-less : tie.Need-loop-less Inv-loop μ-loop
 loop-less c = search needs
@@ -34,8 +34,8 @@ loop-again c = search needs
 returns : tie.Need-returns Inv-loop μ-loop
 returns c = search needs
 
-pub put-symbols-spec : {M : Type 1} → statement M
-put-symbols-spec =
+pub expect-symbols-spec : {M : Type 1} → statement M
+expect-symbols-spec =
     tie.close
     (tie.spec
     Inv-loop
@@ -43,8 +43,8 @@ put-symbols-spec =
     loop-holds
     shared-slice-read-wide
     wide-requires
-    put-requires
-    add-at
+    expect-requires
+    add-i
     loop-less
     loop-again
     returns)
