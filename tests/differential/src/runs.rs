@@ -68,10 +68,25 @@ pub fn small_table(number: usize) -> Rc<Subject> {
     Subject::new(sizes, table)
 }
 
+/// Hands `each` every table of 2 states and 2 symbols with its number, and words with theirs: four for every table; more,
+/// taken at random, at a larger scale.
+pub fn on_small_tables(r: &mut Runner, mut each: impl FnMut(&mut Runner, (usize, &Rc<Subject>), (usize, &[u8]))) {
+    let words: [&[u8]; 4] = [&[], &[1], &[0, 1], &[1, 1, 0, 1]];
+    for number in 0..SMALL_TABLES {
+        let subject = small_table(number);
+        for i in 0..words.len() * r.scale as usize {
+            let mut rng = r.rng();
+            let word = match words.get(i) {
+                Some(word) => word.to_vec(),
+                None => (0..rng.between(1, 12)).map(|_| rng.below(2) as u8).collect(),
+            };
+            each(r, (number, &subject), (i, &word));
+        }
+    }
+}
+
 /// All tables of 2 states and 2 symbols.
 pub fn small(r: &mut Runner) {
-    // Four words for every table; more, taken at random, at a larger scale.
-    let words: [&[u8]; 4] = [&[], &[1], &[0, 1], &[1, 1, 0, 1]];
     let rooms = [63, 64, 140, 128, 40, 300];
     let stopping = |words: Option<Words>| {
         let act = move |(rule, fuel)| match words {
@@ -88,30 +103,20 @@ pub fn small(r: &mut Runner) {
         (false, stopping(Some(Words::Right))),
         (false, vec![Act::Step, run(7), Act::Step, fast(5), Act::Step, Act::Step, fast(100), run(100)]),
     ];
-    for number in 0..SMALL_TABLES {
-        let subject = small_table(number);
-        for i in 0..words.len() * r.scale as usize {
+    let first = [Act::Check, Act::Pack { more: 0 }, Act::Pack { more: 1 }, Act::Pack { more: -1 }];
+    on_small_tables(r, |r, (number, subject), (i, word)| {
+        for (j, (cut, acts)) in plans.iter().enumerate() {
             let mut rng = r.rng();
-            let word = match words.get(i) {
-                Some(word) => word.to_vec(),
-                None => (0..rng.between(1, 12)).map(|_| rng.below(2) as u8).collect(),
-            };
-            for (j, (cut, acts)) in plans.iter().enumerate() {
-                let mut rng = r.rng();
-                let room = rooms[(number + i + j) % rooms.len()];
-                let mut acts = acts.clone();
-                if i == 0 && j == 0 {
-                    acts.splice(
-                        0..0,
-                        [Act::Check, Act::Pack { more: 0 }, Act::Pack { more: 1 }, Act::Pack { more: -1 }],
-                    );
-                }
-                let begin = Begin::Fresh { word: word.clone(), room: [room, rng.below(3) as usize, 0] };
-                let asking = if rng.once_in(24) { Asking::All } else { Asking::Some(4) };
-                r.case(&Case { subject: Rc::clone(&subject), begin, acts, asking, cut: *cut, dirt: rng.next() });
+            let room = rooms[(number + i + j) % rooms.len()];
+            let mut acts = acts.clone();
+            if i == 0 && j == 0 {
+                acts.splice(0..0, first);
             }
+            let begin = Begin::Fresh { word: word.to_vec(), room: [room, rng.below(3) as usize, 0] };
+            let asking = if rng.once_in(24) { Asking::All } else { Asking::Some(4) };
+            r.case(&Case { subject: Rc::clone(subject), begin, acts, asking, cut: *cut, dirt: rng.next() });
         }
-    }
+    });
 }
 
 /// The largest number of entries of random case `i`: mostly small ones, since every call reads the

@@ -10,7 +10,7 @@ use crate::generate::{self as plain, Rng, one_tape, standard};
 use crate::law::{MAX_STEPS, MAX_WORD, Sizes};
 use crate::port::{self, Out};
 use crate::runner::Runner;
-use crate::runs::{L, N, R, SMALL_TABLES, entries, listing, small_table, walkers};
+use crate::runs::{L, N, R, entries, listing, on_small_tables, walkers};
 use crate::tally::OUT;
 
 /// A case of the usual form.
@@ -118,32 +118,23 @@ fn told_words(r: &mut Runner) {
 
 /// All tables of 2 states and 2 symbols.
 pub fn small(r: &mut Runner) {
-    let words: [&[u8]; 4] = [&[], &[1], &[0, 1], &[1, 1, 0, 1]];
     let stops = [(0, 50), (0, 1), (0, 50), (1, 50), (1, 0), (NO_RULE, 1), (1, 50), (2, 3), (0, 50)];
     let plans: [Vec<Act>; 3] = [
         [0, 1, 2, 3, 5, 8, 40, 200].map(run).to_vec(),
         vec![run(400), run(1), run(50)],
         stops.map(|(rule, fuel)| Act::Run { rule, fuel }).to_vec(),
     ];
-    for number in 0..SMALL_TABLES {
-        let subject = small_table(number);
-        for i in 0..words.len() * r.scale as usize {
+    on_small_tables(r, |r, (_, subject), (i, word)| {
+        for (j, acts) in plans.iter().enumerate() {
             let mut rng = r.rng();
-            let word = match words.get(i) {
-                Some(word) => word.to_vec(),
-                None => (0..rng.between(1, 12)).map(|_| rng.below(2) as u8).collect(),
-            };
-            for (j, acts) in plans.iter().enumerate() {
-                let mut rng = r.rng();
-                let few = runs_of(&word) + rng.below(4) as usize;
-                let places = if (i + j) % 2 == 0 { 40 } else { few };
-                let asking = if rng.once_in(24) { Asking::All } else { Asking::Some(3) };
-                let begin = fresh(&word, places, places);
-                let case = case_of(&subject, begin, acts.clone(), asking, rng.next());
-                r.case(&Case { plain: j < 2, ..case });
-            }
+            let few = runs_of(word) + rng.below(4) as usize;
+            let places = if (i + j) % 2 == 0 { 40 } else { few };
+            let asking = if rng.once_in(24) { Asking::All } else { Asking::Some(3) };
+            let begin = fresh(word, places, places);
+            let case = case_of(subject, begin, acts.clone(), asking, rng.next());
+            r.case(&Case { plain: j < 2, ..case });
         }
-    }
+    });
 }
 
 pub fn random(r: &mut Runner) {
