@@ -27,8 +27,6 @@ pub record Automaton : Type 1 where
   pub halted? : (c : Config) → Dec (Halted c)
   pub stays : (c : Config) → Halted c → step c ≡ c
   pub adds : (c : Config) → ¬ Halted c → steps (step c) ≡ suc (steps c)
-  pub one-verdict : (c : Config) (o p : Out) → Verdict c o → Verdict c p → o ≡ p
-  pub verdict-counts : (c : Config) (o : Out) → Verdict c o → counted o ≡ steps c
   pub verdict-not-full : (c : Config) (o : Out) → Verdict c o → ¬ Full o
   pub never-halts : (c : Config) (o : Out) → Real c → Verdict c o → Never o → (n : ℕ) → ¬ Halted (iterate step n c)
 
@@ -41,3 +39,7 @@ pub record Start (M : Automaton) : Type 0 where
 -- the configuration after n steps, run without limits
 unfoldable pub run : {M : Automaton} → Start M → ℕ → M .Config
 run {M} S n = iterate (M .step) n (S .config)
+
+-- t, or the step at which the machine halts where that is less: the step count of the configuration after t steps (`reach-runs` and `reach-halts` in Walk)
+abbrev pub reach : {M : Automaton} → Start M → ℕ → ℕ
+reach {M} S t = M .steps (run S t)

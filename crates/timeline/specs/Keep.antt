@@ -95,9 +95,8 @@ module _ {M : Automaton} (S : Start M) {O : Ops (M .Out)} (E : Laws M O) (x : E 
       }
 
   -- saving at the step that is due, and thinning, keep all; then the next slot is due later
-  pub record Recorded (w v : World O) (p : ℕ) : Type 0 where
+  pub record Recorded (v : World O) (p : ℕ) : Type 0 where
     pub inv : Inv v p
-    pub same : v .engine ≡ w .engine
     pub later : p < due (v .times)
 
   slot-saved : (s : O .State) (t : O .Store) (v : Times) (p : ℕ) → Stands s p → Tidy t v → v .count ≤ v .most → p ≡ v .count * v .every
@@ -158,10 +157,10 @@ module _ {M : Automaton} (S : Start M) {O : Ops (M .Out)} (E : Laws M O) (x : E 
       evens : (v : Times) → 2 * ((v .count + 1) / 2) ≤ v .count + 1
       evens v = omega arith
 
-  record-now : (w : World O) (p : ℕ) → Inv w p → p ≡ w .times .count * w .times .every → Recorded w (recorded O w) p
+  record-now : (w : World O) (p : ℕ) → Inv w p → p ≡ w .times .count * w .times .every → Recorded (recorded O w) p
   unfolding recorded thinned
   record-now w p i q = pick-cases (ltb (w .times .most) (w .times .count + 1)) (world O (w .engine) (thin O ((w .times .count + 1 - 1) / 2) t′) (halved (oneMore (w .times))))
-      (world O (w .engine) t′ (oneMore (w .times))) (λ v. Recorded w v p) thins-too only-more
+      (world O (w .engine) t′ (oneMore (w .times))) (λ v. Recorded v p) thins-too only-more
     where
       t′ : O .Store
       t′ = O .save (w .times .count) (w .engine) (w .store)
@@ -172,7 +171,7 @@ module _ {M : Automaton} (S : Start M) {O : Ops (M .Out)} (E : Laws M O) (x : E 
       b′ : Tidy t′ (oneMore (w .times))
       b′ = saved (w .engine) (w .store) (w .times) p (i .stands) (i .tidy) (i .count-high) q
 
-      thins-too : ltb (w .times .most) (w .times .count + 1) ≡ true → Recorded w (world O (w .engine) (thin O ((w .times .count + 1 - 1) / 2) t′) (halved (oneMore (w .times)))) p
+      thins-too : ltb (w .times .most) (w .times .count + 1) ≡ true → Recorded (world O (w .engine) (thin O ((w .times .count + 1 - 1) / 2) t′) (halved (oneMore (w .times)))) p
       thins-too r = record {
         inv = record {
           stands = i .stands;
@@ -180,26 +179,24 @@ module _ {M : Automaton} (S : Start M) {O : Ops (M .Out)} (E : Laws M O) (x : E 
           count-high = omega (arith, ltb-true);
           behind = omega (arith, mul-le-mul-right (w .times .every) doubled);
         };
-        same = refl;
         later = omega (arith, mul-le-mul-right (w .times .every) doubled, i .tidy .every-low);
       }
 
-      only-more : ltb (w .times .most) (w .times .count + 1) ≡ false → Recorded w (world O (w .engine) t′ (oneMore (w .times))) p
+      only-more : ltb (w .times .most) (w .times .count + 1) ≡ false → Recorded (world O (w .engine) t′ (oneMore (w .times))) p
       only-more r = record {
         inv = record { stands = i .stands; tidy = b′; count-high = omega (arith, ltb-false); behind = omega arith };
-        same = refl;
         later = omega (arith, i .tidy .every-low);
       }
 
-  pub record-due : (w : World O) (p : ℕ) → Inv w p → Recorded w (recordDue O w) p
+  pub record-due : (w : World O) (p : ℕ) → Inv w p → Recorded (recordDue O w) p
   unfolding recordDue
-  record-due w p i = pick-cases (eqb (O .now (w .engine)) (due (w .times))) (recorded O w) w (λ v. Recorded w v p) at-once not-yet
+  record-due w p i = pick-cases (eqb (O .now (w .engine)) (due (w .times))) (recorded O w) w (λ v. Recorded v p) at-once not-yet
     where
-      at-once : eqb (O .now (w .engine)) (due (w .times)) ≡ true → Recorded w (recorded O w) p
+      at-once : eqb (O .now (w .engine)) (due (w .times)) ≡ true → Recorded (recorded O w) p
       at-once q = record-now w p i (omega (arith, eqb-true (O .now (w .engine)) (due (w .times)) q, now-at (w .engine) p (i .stands)))
 
-      not-yet : eqb (O .now (w .engine)) (due (w .times)) ≡ false → Recorded w w p
-      not-yet q = record { inv = i; same = refl; later = later }
+      not-yet : eqb (O .now (w .engine)) (due (w .times)) ≡ false → Recorded w p
+      not-yet q = record { inv = i; later = later }
         where
           ne : ¬ (O .now (w .engine) ≡ due (w .times))
           ne = eqb-false (O .now (w .engine)) (due (w .times)) q

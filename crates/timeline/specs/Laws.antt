@@ -4,7 +4,7 @@ use mathlib.Core.Option.{some}
 use Prim.Native.Nat.{ℕ, _+_, _≤_, _<_}
 use Rattle.machine.specs.declared.Checked.the-variants.{Accepted}
 use Rattle.times.specs.Ops.{limit, Ops}
-use Rattle.timeline.specs.Automaton.{Automaton, iterate}
+use Rattle.timeline.specs.Automaton.{Automaton, Start, iterate}
 
 -- How an advance of n steps ends that starts with meaning x, answers o and leaves meaning y: with every step made (a halted engine makes them standing still),
 -- and the verdict there; or at the first step that is full, with its step count.
@@ -50,3 +50,8 @@ pub record Laws (M : Automaton) (O : Ops (M .Out)) : Type 1 where
   pub move-other : (i k j : ℕ) (t : O .Store) (x : Mean) → i < O .slots t → k < O .slots t → ¬ (j ≡ k) → Holds t j x → Holds (O .move i k t) j x
   pub restores : (i : ℕ) (s : O .State) (t : O .Store) (x : Mean) → Fits s → i < O .slots t → Holds t i x
       → (s′ : O .State) × (O .restore i (M .steps (config x)) s t ≡ some s′) × (mean s′ ≡ x) × Fits s′
+
+-- a fresh engine
+pub record Fresh {M : Automaton} (S : Start M) {O : Ops (M .Out)} (E : Laws M O) (s : O .State) : Type 0 where
+  pub fits : E .Fits s
+  pub starts : E .config (E .mean s) ≡ S .config

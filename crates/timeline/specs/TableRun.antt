@@ -9,7 +9,6 @@ use Rattle.machine.specs.declared.Machine.{Machine}
 use Rattle.turing.specs.TableMachine.{Table, Config, step, run, Halted, Verdict, halts, stays, walks, goes, start}
 use Rattle.turing.specs.Tables.{tableOf, TableOf}
 use Rattle.turing.specs.RunFacts.{run-suc, step-halted, step-steps, dec-halted}
-use Rattle.turing.specs.VerdictFacts.{verdict-unique}
 use Rattle.turing.specs.TapeFacts.{Bare, bare-start, bare-step}
 use Rattle.turing.specs.NeverFacts.{never-sound-bare}
 use Rattle.timeline.specs.Automaton.{Automaton, Start, iterate}
@@ -28,18 +27,11 @@ IsNever (Out.NeverHalts n p) = Unit {0}
 IsNever (Out.Stopped n) = ⊥
 IsNever (Out.Full n) = ⊥
 
-module _ (t : ℕ) (d : Table) (c : Config) where
-  pub verdict-counts : (o : Outcome) → Verdict t d c o → stepsOf o ≡ c .steps
-  verdict-counts o (halts h) = refl
-  verdict-counts o (stays a h r) = refl
-  verdict-counts o (walks a x h r) = refl
-  verdict-counts o (goes a h r u) = refl
-
-  pub verdict-not-full : (o : Outcome) → Verdict t d c o → ¬ IsFull o
-  verdict-not-full o (halts h) = λ f. f
-  verdict-not-full o (stays a h r) = λ f. f
-  verdict-not-full o (walks a x h r) = λ f. f
-  verdict-not-full o (goes a h r u) = λ f. f
+pub verdict-not-full : (t : ℕ) (d : Table) (c : Config) (o : Outcome) → Verdict t d c o → ¬ IsFull o
+verdict-not-full t d c o (halts h) = λ f. f
+verdict-not-full t d c o (stays a h r) = λ f. f
+verdict-not-full t d c o (walks a x h r) = λ f. f
+verdict-not-full t d c o (goes a h r u) = λ f. f
 
 pub iterate-run : (d : Table) (n : ℕ) (c : Config) → iterate (step d) n c ≡ run d n c
 unfolding iterate run
@@ -73,8 +65,6 @@ module _ (m : Machine) (s : List ℕ) (table : TableOf m (tableOf m s)) where
     halted? = dec-halted (tableOf m s);
     stays = step-halted (tableOf m s);
     adds = step-steps (tableOf m s);
-    one-verdict = verdict-unique (m .tapes) (tableOf m s);
-    verdict-counts = verdict-counts (m .tapes) (tableOf m s);
     verdict-not-full = verdict-not-full (m .tapes) (tableOf m s);
     never-halts = never-on;
   }

@@ -6,9 +6,8 @@ use native.Mathlib.Nat.{zero-add, suc-add, add-comm}
 use native.Mathlib.Decide.{decLe}
 use native.Mathlib.Omega.{arith}
 use Rattle.times.specs.Ops.{Ops}
-use Rattle.timeline.specs.Automaton.{Automaton, Start, iterate, run}
+use Rattle.timeline.specs.Automaton.{Automaton, Start, iterate, run, reach}
 use Rattle.timeline.specs.Laws.{Laws}
-use Rattle.timeline.specs.Claim.{reach}
 
 pub iterate-add : {A : Type 0} (f : A → A) (m n : ℕ) (a : A) → iterate f m (iterate f n a) ≡ iterate f (m + n) a
 unfolding iterate
@@ -134,7 +133,7 @@ module _ {M : Automaton} {O : Ops (M .Out)} (E : Laws M O) (x : E .Mean) (good :
       up : (p k : ℕ) → p ≤ k → k - p + p ≡ k
       up p k l = omega arith
 
-  -- a halt before t is there at E x t too
+  -- a halt before t is there at t too
   pub halted-to : (k t : ℕ) → k ≤ t → E .Good (at E x k) → M .Halted (E .config (at E x k)) → at E x t ≡ at E x k
   halted-to k t l g q = subst (λ n. at E x n ≡ at E x k) (up k t l) (stays-at k (t - k) g q)
     where
@@ -158,7 +157,7 @@ module _ {M : Automaton} (S : Start M) {O : Ops (M .Out)} (E : Laws M O) (x : E 
   unfolding at iterate pos
   pos-zero = ap (M .steps) e ∙ S .zero
 
-  -- the meaning after k steps is the one at E x its own step count
+  -- the meaning after k steps is the one at its own step count
   pub settle : (k : ℕ) → Room E x k → (pos E x k ≤ k) × (at E x (pos E x k) ≡ at E x k)
   settle zero r = (rw pos-zero (omega arith), rw pos-zero)
   settle (suc k) r = go (settle k (λ j l. r j (omega arith))) (M .halted? (E .config (at E x k)))
