@@ -1,10 +1,15 @@
--- The rule of space on a fresh tape without a word: 32 cells, the head at index 16. Computed. Assumes nothing.
+-- The rule of space, computed: on a tape of 32 cells, as a fresh one without a word has, and on a machine of three tapes. Assumes nothing.
 use mathlib.Core.Path.{_≡_, refl}
 use mathlib.Core.Bool.{true, false}
+use mathlib.Core.List.{[]}
 use Prim.Native.Nat.{ℕ}
 use Rattle.laws.specs.Choice.{pick, both}
+use Rattle.symbol.specs.Kinds.{symbolOf, stateOf}
+use Rattle.symbol.specs.declared.Dir.{Dir}
 use Rattle.symbol.specs.declared.Dir.the-variants.{L, R, N}
-use Rattle.sim_laws.specs.Family.{Extent, movedBy, passes}
+use Rattle.machine.specs.declared.Action.{Action}
+use Rattle.turing.specs.TableMachine.{start}
+use Rattle.sim_laws.specs.Family.{Extent, movedBy, passes, Mean, SomePasses, first, second, third}
 
 -- 32 cells in a buffer, the head at an index
 abbrev fresh : (head buffer : ℕ) → Extent
@@ -44,3 +49,23 @@ grows-left = refl
 grows-right : movedBy (fresh 31 64) R ≡ record { len = 64; head = 32; buffer = 64 }
 unfolding movedBy pick
 grows-right = refl
+
+-- ---- three tapes, each with the head on its last cell and a buffer of 63: a move off any one of them is full
+
+abbrev three : Mean
+three = record { config = start 0 []; extent0 = fresh 31 63; extent1 = fresh 31 63; extent2 = fresh 31 63 }
+
+abbrev moves : (d0 d1 d2 : Dir) → Action
+moves d0 d1 d2 = record { next = stateOf 0; write0 = symbolOf 0; write1 = symbolOf 0; write2 = symbolOf 0; dir0 = d0; dir1 = d1; dir2 = d2 }
+
+full-first : SomePasses three (moves R N N)
+unfolding passes both
+full-first = first refl
+
+full-second : SomePasses three (moves N R N)
+unfolding passes both
+full-second = second refl
+
+full-third : SomePasses three (moves N N R)
+unfolding passes both
+full-third = third refl

@@ -3,11 +3,11 @@ use mathlib.Core.Path.{_≡_, refl, sym, ap, _∙_}
 use mathlib.Core.Bool.{Bool, true, false}
 use Prim.Native.Nat.{ℕ, _+_, _≤_, _<_}
 use native.Mathlib.Omega.{arith}
-use borrow.Author.Tests.{ltb-false, ltb-true, lt-ltb, leb-true, leb-false}
+use borrow.Author.Tests.{ltb-false, ltb-true, leb-true, leb-false}
 use lib.Dec.{leb, ltb}
 use lib.ListN.{length, length-set}
 use Rattle.laws.specs.Choice.{pick, both}
-use Rattle.laws.specs.Tests.{clash, both-true, both-split, pick-cases, pick-true, pick-false, by-test}
+use Rattle.laws.specs.Tests.{clash, both-split, pick-cases, pick-true, pick-false, by-test}
 use Rattle.symbol.specs.declared.Dir.{Dir}
 use Rattle.symbol.specs.declared.Dir.the-variants.{L, R, N}
 use Rattle.tape.specs.Growth.{extra}
@@ -39,21 +39,29 @@ off-is h N = refl
 
 -- ---- room
 
+both-last : (a b : Bool) → a ≡ true → both a b ≡ false → b ≡ false
+unfolding both
+both-last true b t n = n
+both-last false b t n = absurd (clash t refl)
+
 module _ (k : ℕ) (h : Held) (d : Dir) (f : HeldFits k h) where
   room-passes : roomFor (h .tape) (length (h .cells)) d ≡ true → passes (extentOf h) d ≡ false
   unfolding passes
   room-passes r = by-test (passes (extentOf h) d)
       (λ t.
       let p = both-split t in
-      let a : length (h .cells) < h .tape .len + h .tape .len = ltb-true _ _ (p .1) in
+      let over = p .1 in
       let b = extra-doubles (h .tape .len) (length (h .cells)) (room-says (h .tape) (length (h .cells)) d true (sym (off-is h d ∙ p .0)) refl r) in
-      absurd (omega (arith, a, b .1)))
+      absurd (omega (arith, ltb-true, b .1)))
       (λ t. t)
 
   no-room-passes : roomFor (h .tape) (length (h .cells)) d ≡ false → passes (extentOf h) d ≡ true
   unfolding passes roomFor
   no-room-passes = pick-cases (leaves (h .tape) d) (leb 1 (extra (h .tape .len) (length (h .cells)))) true (λ b. b ≡ false → passes (extentOf h) d ≡ true)
-      (λ t r. both-true (sym (off-is h d) ∙ t) (lt-ltb _ _ (extra-none _ _ (omega (arith, f .least)) r)))
+      (λ t r. by-test (passes (extentOf h) d) (λ y. y)
+      (λ n.
+      let within = both-last _ _ (sym (off-is h d) ∙ t) n in
+      absurd (omega (arith, ltb-false, extra-none (h .tape .len) (length (h .cells)) (omega (arith, f .least)) r))))
       (λ t r. absurd (clash refl r))
 
 -- ---- a write and a move
