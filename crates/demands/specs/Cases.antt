@@ -1,5 +1,4 @@
--- THE STARRED CASES of document 01 that concern tables, packed words and the two engines, proved together as one table about the definitions
--- that the contracts cite.
+-- THE STARRED CASES of document 01: "The starred cases below are proved together as one table about the definitions", those that the contracts cite.
 use mathlib.Core.Path.{_≡_, refl}
 use mathlib.Core.List.{List, [], _∷_}
 use Prim.Native.Nat.{ℕ, _+_, _^_}
@@ -32,7 +31,7 @@ use Rattle.rle_refines.specs.Meaning.{empty, over}
 use Rattle.demands.specs.CaseTables.{machine, listing, walker, stayer, writer, pair, keeper}
 use Rattle.demands.specs.CaseRuns.{plain, chain, chainWith, stacks, stacksOf}
 
--- what document 01 says, beside what is asked: an answer, an answer with the number of macro steps, or a fresh engine's stacks
+-- what document 01 says, beside what is asked: an answer, an answer with the number of macro steps, a fresh engine's stacks, or a packed word
 pub record Case : Type 1 where
   pub of : Type 0
   pub says : of
@@ -75,6 +74,8 @@ starred =
     ∷ case (Done (Halted 4 (stateOf 0))) (plain (one 1) keeper (1 ∷ 1 ∷ 1 ∷ 1 ∷ []) 10)
     ∷ case (Done (Halted 4 (stateOf 0)), 1) (chainWith 8 (one 1) keeper (1 ∷ 1 ∷ 1 ∷ 1 ∷ []) 10 [])
     ∷ case (Done (Halted 4 (stateOf 0)), 2) (chainWith 8 (one 1) keeper (1 ∷ 1 ∷ 1 ∷ 1 ∷ []) 2 (2 ∷ []))
+    -- "Packed 1, R, next 1, stride 2: 8,590,000,385."
+    ∷ case 8590000385 (packWord (Defined (singleOf (symbolOf 1) R (stateOf 1))) 2)
     ∷ []
 
 -- every case comes out as document 01 says
@@ -84,12 +85,7 @@ pub data AllRight : List Case → Type 1 where
   _also_ : {A : Type 0} {a b : A} {rest : List Case} → a ≡ b → AllRight rest → AllRight (case a b ∷ rest)
 
 pub starred-cases : AllRight starred
-unfolding runAnswer runCheck fuelCheck valueCheck tableCheck sizeCheck entriesCheck entryOk allIn firstFail pick both sizesFit simFits tapeFits fuelFits newAnswer freshCheck freshSizes wordCheck symbolsCheck freshOf blanked laid fillFrom bareSim handBack runOf runWith lookWith lookOn entryOf entryAt actionAt judgeOf loopOf staysAll stays blankBeyond readOf roomsOf roomFor leaves extra stepOf actOf moveOf grownBy movedUp shiftOf matches Chains.runAnswer Chains.newAnswer Chains.freshCheck Chains.freshSizes Chains.runsOf Chains.laidOf Fits.runCheck Fits.engineCheck Fits.valueCheck Fits.placesFit Fits.chainFits Fits.countsFit Fits.headFits Fits.reachFits Fits.sideFits Chain.runOf Chain.runWithin Chain.planOf Chain.turnOf Chain.turnOn Chain.provedOf Chain.fueledOf Chain.loopsFor Chain.proofOf Chain.fullFor Chain.chainFor Chain.leapTo Chain.carryOf symbolUnder aheadOf grownOf pushOf lacks takeOf runFits runsFit sumOf
+unfolding runAnswer runCheck fuelCheck valueCheck tableCheck sizeCheck entriesCheck entryOk allIn firstFail pick both sizesFit simFits tapeFits fuelFits newAnswer freshCheck freshSizes wordCheck symbolsCheck freshOf blanked laid fillFrom bareSim handBack runOf runWith lookWith lookOn entryOf entryAt actionAt judgeOf loopOf staysAll stays blankBeyond readOf roomsOf roomFor leaves extra stepOf actOf moveOf grownBy movedUp shiftOf matches Chains.runAnswer Chains.newAnswer Chains.freshCheck Chains.freshSizes Chains.runsOf Chains.laidOf Fits.runCheck Fits.engineCheck Fits.valueCheck Fits.placesFit Fits.chainFits Fits.countsFit Fits.headFits Fits.reachFits Fits.sideFits Chain.runOf Chain.runWithin Chain.planOf Chain.turnOf Chain.turnOn Chain.provedOf Chain.fueledOf Chain.loopsFor Chain.proofOf Chain.fullFor Chain.chainFor Chain.leapTo Chain.carryOf actionWord symbolUnder aheadOf grownOf pushOf lacks takeOf runFits runsFit sumOf
 starred-cases =
     refl also refl also refl also refl also refl also refl also refl also refl also refl also refl also refl also
-    refl also refl also refl also refl also refl also refl also refl also refl also refl also refl also refl also done
-
--- "Packed 1, R, next 1, stride 2: 8,590,000,385."
-pub starred-word : packWord (Defined (singleOf (symbolOf 1) R (stateOf 1))) 2 ≡ 8590000385
-unfolding actionWord pick
-starred-word = refl
+    refl also refl also refl also refl also refl also refl also refl also refl also refl also refl also refl also refl also done

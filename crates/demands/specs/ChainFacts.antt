@@ -45,7 +45,8 @@ use Rattle.rle_refines.specs.Refinement.{leap-went, refines-later}
 use Rattle.rle_refines.specs.SpaceFacts.{full-iff}
 use Rattle.rle_refines.specs.CutFacts.{one-run}
 use Rattle.rle_refines.specs.OperationFacts.{Passed, run-says, run-holds}
-use Rattle.demands.specs.ChainClaims.{GoesOn, Lasts, one, ahead, loop, MacroStep, FullHere}
+use Rattle.demands.specs.FirstSpace.{GoesOn, ChainFull}
+use Rattle.demands.specs.ChainClaims.{Lasts, one, ahead, loop, MacroStep}
 
 -- a verdict is not that there is no space
 pub not-full-verdict : (t : ℕ) (d : Table) (c : Config) (o : Outcome) → Verdict t d c o → (n : ℕ) → ¬ (o ≡ Full n)
@@ -136,8 +137,8 @@ module _ (m : Machine) (s : List ℕ) (bytes : Bytes s) (fuel : ℕ) (σ : Conf)
 
   -- ---- the next step is full
 
-  module _ (rule : StopRule) (more : 0 < fuel) (unproved : GoesOn m s σ) (unruled : matches rule (σ .sim .state) ≡ false) where
-    full-ends : FullHere m s σ → runOf (task m s true rule) fuel σ ≡ end σ (Full (σ .sim .steps))
+  module _ (rule : StopRule) (more : 0 < fuel) (unproved : GoesOn m (tableOf m s) (configOf σ)) (unruled : matches rule (σ .sim .state) ≡ false) where
+    full-ends : ChainFull m s σ → runOf (task m s true rule) fuel σ ≡ end σ (Full (σ .sim .steps))
     full-ends g = by refl (plan-right (task m s true rule) table (passed .0 .single) fuel σ (passed .0 .fits))
       where
         by : {p : Plan} → planOf (task m s true rule) fuel σ ≡ p → Plans (task m s true rule) fuel σ p → runOf (task m s true rule) fuel σ ≡ end σ (Full (σ .sim .steps))
@@ -148,7 +149,7 @@ module _ (m : Machine) (s : List ℕ) (bytes : Bytes s) (fuel : ℕ) (σ : Conf)
         by q (P.lacks-place a e u l r h) = sym (run-ends (task m s true rule) fuel σ _ q)
         by q (P.leaps a n e u r h x) = absurd (not-full m (tableOf m s) σ (passed .0 .fits) a e h g)
 
-    pub full-stands : FullHere m s σ → runAnswer m s rule fuel σ ≡ given σ (Ans.Done (Full (σ .sim .steps)))
+    pub full-stands : ChainFull m s σ → runAnswer m s rule fuel σ ≡ given σ (Ans.Done (Full (σ .sim .steps)))
     unfolding runAnswer
     full-stands g = ap (λ c. runOn c σ (runOf (task m s true rule) fuel σ)) accepted ∙ ap (λ (e : End). given (e .at) (Ans.Done (e .outcome))) (full-ends g)
 
@@ -164,14 +165,14 @@ module _ (m : Machine) (s : List ℕ) (bytes : Bytes s) (rule : StopRule) (fuel 
   abbrev ran : Refines (task m s true rule) fuel σ (end τ (Full n))
   ran = run-holds m s bytes rule fuel σ τ (Full n) done .refines
 
-  full-by : {o : Outcome} → o ≡ Full n → Answers (task m s true rule) fuel (ran .made) τ o → FullHere m s τ
+  full-by : {o : Outcome} → o ≡ Full n → Answers (task m s true rule) fuel (ran .made) τ o → ChainFull m s τ
   full-by q (verdict o t v g) = absurd (not-full-verdict _ _ _ o v n q)
   full-by q (halted t h) = absurd (clash refl t)
   full-by q (spent t h e) = absurd (clash refl t)
   full-by q (stopped a l h u r) = let z : _≡_ {A = ℕ} 0 1 = cc in absurd (omega arith)
   full-by q (full a l h u r g) = full-exact m (tableOf m s) τ (ran .went .kept .fits) a h .0 g
 
-  pub full-there : FullHere m s τ
+  pub full-there : ChainFull m s τ
   full-there = full-by refl (ran .answers)
 
 -- ---- fuel a and then b, or a + b at once

@@ -28,16 +28,15 @@ use Rattle.rle.specs.Operations.{Given, given, runAnswer, Made, made, newAnswer
 use Rattle.rle.specs.Questions.{getAnswer, extentAnswer, countAnswer, windowInto}
 use Rattle.rle.specs.Records.{leftAnswer, leftInto, rightAnswer, rightInto}
 use Rattle.rle_refines.specs.Meaning.{configOf, Alike}
-use Rattle.demands.specs.ChainClaims.{FullHere}
 use Rattle.demands.specs.ChainFacts.{full-stands, full-there}
 use Rattle.demands.specs.FirstClaims.{TurnsAway, ofChain, ofAnswer, ofGot, ofExtent, ofCounted, ofListed}
 use Rattle.demands.specs.FirstTests.{chainNewTests, chainRunTests, chainAskTests, chainListTests}
-use Rattle.demands.specs.FirstSpace.{GoesOn, EndsFull}
+use Rattle.demands.specs.FirstSpace.{GoesOn, EndsFull, ChainFull}
 use Rattle.demands.specs.FirstFactsChain.{chain-new-turns, chain-run-turns, chain-get-turns, chain-extent-turns, chain-count-turns, chain-window-turns, chain-left-turns, chain-right-turns}
 use Rattle.demands.specs.FirstFactsChainSpace.{chain-full, chain-onward}
 
 pub record ChainOperations : Type 0 where
-  -- ---- refusals
+  -- ---- "A refusal carries document 01's number and changes nothing."
 
   -- a fresh engine: the answer, with the right side's places; the left side's are lent for reading alone
   pub new : (m : Machine) (s w ls ll rs rl : List ℕ)
@@ -63,19 +62,20 @@ pub record ChainOperations : Type 0 where
   pub right : (m : Machine) (s : List ℕ) (σ : Conf) (out : List Run)
       → TurnsAway (1 ∷ 2 ∷ 3 ∷ 4 ∷ 5 ∷ 6 ∷ 8 ∷ 11 ∷ 12 ∷ 18 ∷ []) (chainListTests m s σ (σ .sim .tape .right) (length out)) (λ (x : Listed × List Run). ofListed (x .0))
       (λ why. (Listed.Refused why, out)) (rightAnswer m s (length out) σ, rightInto m s σ out)
-  -- ---- space
+  -- ---- "Lack of space stops a run before the step that needs it, earlier steps kept."
 
   -- a run that ends for lack of space has made so many steps of the table machine, and the next one is full (EndsFull)
   pub full : (m : Machine) (s : List ℕ) → Bytes s → (rule : StopRule) (fuel : ℕ) (σ τ : Conf) (n : ℕ) → runAnswer m s rule fuel σ ≡ given τ (Ans.Done (Full n))
-      → EndsFull m (tableOf m s) (configOf σ) (configOf τ) fuel n (FullHere m s τ)
-  -- with fuel, an entry, no proved loop and no stop ahead: the run says so, and leaves the engine and every place as they were, exactly where the next step is full
+      → EndsFull m (tableOf m s) (configOf σ) (configOf τ) fuel n (ChainFull m s τ)
+  -- "Full exactly when the step's push needs a new run on a side whose live runs fill its lent places" (ChainFull): with fuel, an entry, no proved loop and no
+  -- stop ahead the run says so, and leaves the engine and every place as they were, exactly there
   pub full-exact : (m : Machine) (s : List ℕ) → Bytes s → (rule : StopRule) (fuel : ℕ) (σ : Conf) → runCheck m s fuel σ ≡ Accepted → 0 < fuel
       → GoesOn m (tableOf m s) (configOf σ) → matches rule (σ .sim .state) ≡ false
-      → (runAnswer m s rule fuel σ ≡ given σ (Ans.Done (Full (σ .sim .steps)))) ↔ FullHere m s σ
+      → (runAnswer m s rule fuel σ ≡ given σ (Ans.Done (Full (σ .sim .steps)))) ↔ ChainFull m s σ
   -- no run goes past a full step: where a steps can be made and the next is full, more fuel ends there, and the a steps are kept: all is the same but the macro
   -- steps and what lies past the live runs (Alike)
   pub full-onward : (m : Machine) (s : List ℕ) → Bytes s → (rule : StopRule) (a b : ℕ) (σ τ : Conf) (n : ℕ) → runAnswer m s rule a σ ≡ given τ (Ans.Done (OutOfFuel n))
-      → runCheck m s (a + b) σ ≡ Accepted → 0 < b → matches rule (τ .sim .state) ≡ false → FullHere m s τ
+      → runCheck m s (a + b) σ ≡ Accepted → 0 < b → matches rule (τ .sim .state) ≡ false → ChainFull m s τ
       → (ω : Conf) × (runAnswer m s rule (a + b) σ ≡ given ω (Ans.Done (Full n))) × Alike τ ω
 
 pub chain-operations : ChainOperations

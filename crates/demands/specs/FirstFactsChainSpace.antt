@@ -25,9 +25,8 @@ use Rattle.rle_refines.specs.Meaning.{configOf, Alike}
 use Rattle.rle_refines.specs.Statement.{Answers, verdict, halted, spent, stopped, full, Refines}
 use Rattle.rle_refines.specs.Operations.{RunHolds}
 use Rattle.rle_refines.specs.OperationFacts.{run-says, run-holds}
-use Rattle.demands.specs.ChainClaims.{FullHere}
 use Rattle.demands.specs.ChainFacts.{not-full-verdict, full-stands, full-there, cut-same}
-use Rattle.demands.specs.FirstSpace.{GoesOn, EndsFull}
+use Rattle.demands.specs.FirstSpace.{GoesOn, EndsFull, ChainFull}
 use Rattle.demands.specs.FirstFactsSpace.{fuel-verdict}
 
 module _ (m : Machine) (s : List ℕ) (bytes : Bytes s) where
@@ -37,7 +36,7 @@ module _ (m : Machine) (s : List ℕ) (bytes : Bytes s) where
     ran : Refines (task m s true rule) fuel σ (end τ (Full n))
     ran = run-holds m s bytes rule fuel σ τ (Full n) done .refines
 
-    ended : {o : Outcome} → o ≡ Full n → Answers (task m s true rule) fuel (ran .made) τ o → EndsFull m (tableOf m s) (configOf σ) (configOf τ) fuel n (FullHere m s τ)
+    ended : {o : Outcome} → o ≡ Full n → Answers (task m s true rule) fuel (ran .made) τ o → EndsFull m (tableOf m s) (configOf σ) (configOf τ) fuel n (ChainFull m s τ)
     ended q (verdict o t v g) = absurd (not-full-verdict _ _ _ o v n q)
     ended q (halted t h) = absurd (clash refl t)
     ended q (spent t h e) = absurd (clash refl t)
@@ -54,13 +53,13 @@ module _ (m : Machine) (s : List ℕ) (bytes : Bytes s) where
           next = full-there m s bytes rule fuel σ τ n done;
         }
 
-    pub chain-full : EndsFull m (tableOf m s) (configOf σ) (configOf τ) fuel n (FullHere m s τ)
+    pub chain-full : EndsFull m (tableOf m s) (configOf σ) (configOf τ) fuel n (ChainFull m s τ)
     chain-full = ended refl (ran .answers)
 
   -- ---- more fuel does not go past a full step
 
   module _ (rule : StopRule) (a b : ℕ) (σ τ : Conf) (n : ℕ) (done : runAnswer m s rule a σ ≡ given τ (Ans.Done (OutOfFuel n)))
-      (accepted : runCheck m s (a + b) σ ≡ Accepted) (more : 0 < b) (unruled : matches rule (τ .sim .state) ≡ false) (next : FullHere m s τ) where
+      (accepted : runCheck m s (a + b) σ ≡ Accepted) (more : 0 < b) (unruled : matches rule (τ .sim .state) ≡ false) (next : ChainFull m s τ) where
     held : RunHolds m s rule a σ τ (OutOfFuel n)
     held = run-holds m s bytes rule a σ τ (OutOfFuel n) done
 

@@ -23,7 +23,7 @@ use Rattle.turing.specs.TableFacts.{accepted-table}
 use Rattle.sim.specs.declared.StopRule.{StopRule}
 use Rattle.sim.specs.declared.Answer.the-variants as Ans
 use Rattle.sim.specs.declared.StepAnswer.the-variants as StepAns
-use Rattle.sim.specs.Engine.{Task, task, Conf, End, end, fullEnd, roomyOf, runOf, Once, onceOf}
+use Rattle.sim.specs.Engine.{Task, task, Conf, End, fullEnd, roomyOf, runOf, Once, onceOf}
 use Rattle.sim.specs.Operations.{bareSim, bareOf, backOf, runCheck, Given, given, ranBack, runOn, runAnswer, StepGiven, stepGiven, stepBack, stepOn, stepAnswer}
 use Rattle.sim.specs.OperationCases.{run-says}
 use Rattle.sim_refines.specs.Meaning.{configOf, EngineFits}

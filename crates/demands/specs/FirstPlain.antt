@@ -32,7 +32,7 @@ use Rattle.demands.specs.FirstFactsPlain.{plain-new-turns, plain-step-tu
 use Rattle.demands.specs.FirstFactsPlainSpace.{plain-full, plain-stands, plain-onward, plain-step-full}
 
 pub record PlainOperations : Type 0 where
-  -- ---- refusals
+  -- ---- "A refusal carries document 01's number and changes nothing."
 
   -- a fresh engine: the answer, with the three cells buffers
   pub new : (m : Machine) (s w c0 c1 c2 : List ℕ)
@@ -60,7 +60,7 @@ pub record PlainOperations : Type 0 where
       (questionCheck m s i σ, windowInto m s i z σ out)
   pub find-non-blank : (m : Machine) (s : List ℕ) (i : ℕ) (z : ℤ) (d : Dir) (σ : Conf)
       → TurnsAway (1 ∷ 2 ∷ 3 ∷ 4 ∷ 5 ∷ 6 ∷ 11 ∷ 12 ∷ []) (plainAskTests m s σ i) ofLocated Located.Refused (findAnswer m s i z d σ)
-  -- ---- space
+  -- ---- "Lack of space stops a run before the step that needs it, earlier steps kept."
 
   -- a run that ends for lack of space has made so many steps of the table machine, and the next one is full (EndsFull); so too the fast run
   pub full : (m : Machine) (s : List ℕ) → Bytes s → (rule : StopRule) (fuel : ℕ) (σ τ : Conf) (n : ℕ) → runAnswer m s rule fuel σ ≡ given τ (Ans.Done (Full n))

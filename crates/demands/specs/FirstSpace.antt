@@ -1,4 +1,4 @@
--- What the first demand says of a run that ends for lack of space, and the plain engine's rule of it. Definitions only.
+-- What the demands say of a run that ends for lack of space, and each engine's rule of it. Definitions only.
 use mathlib.Core.Path.{_≡_}
 use mathlib.Core.List.{List}
 use Prim.Native.Nat.{ℕ, _+_, _*_, _<_}
@@ -14,6 +14,10 @@ use Rattle.tape.specs.declared.Tape.{Tape}
 use Rattle.tape.specs.Moves.{Held}
 use Rattle.sim.specs.Engine.{Conf, tape0, tape1, tape2}
 use Rattle.sim_refines.specs.Meaning.{configOf}
+use Rattle.stacks.specs.Sides.{placesOf}
+use Rattle.rle.specs.Engine as Chain
+use Rattle.rle_refines.specs.Meaning.{configOf as chainConfig}
+use Rattle.rle_refines.specs.Full.{FullAt}
 
 -- the table machine's verdict there is out of fuel: an entry, and no proved loop
 abbrev pub GoesOn : Machine → Table → Config → Type 0
@@ -52,3 +56,8 @@ pub record PlainFull (m : Machine) (s : List ℕ) (σ : Conf) : Type 0 where
   pub act : Action
   pub has : entry (tableOf m s) (configOf m σ) ≡ Defined act
   pub full : OnSomeTape m σ act
+
+-- ---- the run-length engine: "Full exactly when the step's push needs a new run on a side whose live runs fill its lent places."
+
+abbrev pub ChainFull : Machine → List ℕ → Chain.Conf → Type 0
+ChainFull m s σ = FullAt m (tableOf m s) (placesOf (σ .ls) (σ .ll)) (placesOf (σ .rs) (σ .rl)) (chainConfig σ)

@@ -26,7 +26,7 @@ use Rattle.sim.specs.declared.Answer.the-variants as Ans
 use Rattle.sim.specs.declared.questions.Got.the-variants as Got
 use Rattle.sim.specs.declared.questions.Extent.the-variants as Extent
 use Rattle.sim.specs.declared.questions.Counted.the-variants as Counted
-use Rattle.sim.specs.Engine.{task, matches}
+use Rattle.sim.specs.Engine.{task}
 use Rattle.rle.specs.declared.ChainSim.{ChainSim}
 use Rattle.rle.specs.declared.Fresh.the-variants as New
 use Rattle.rle.specs.Engine.{Conf, conf, planOf, runOf, Leap, Go}
@@ -40,15 +40,16 @@ use Rattle.rle_refines.specs.Operations.{RunHolds}
 use Rattle.rle_refines.specs.PatternFacts.{empty-exact}
 use Rattle.rle_refines.specs.OperationFacts.{engine-says, run-holds, run-never-halts, new-holds}
 use Rattle.rle_refines.specs.QuestionFacts.{get-is, extent-is, window-into}
-use Rattle.demands.specs.ChainClaims.{GoesOn, MacroStep, FullHere}
+use Rattle.demands.specs.ChainClaims.{MacroStep}
 use Rattle.demands.specs.ChainQuestions.{chain-counts}
-use Rattle.demands.specs.ChainFacts.{macro-step, space-exact, full-stands, full-there, cut-same}
+use Rattle.demands.specs.ChainFacts.{macro-step, space-exact, cut-same}
 
 pub record ChainEngine : Type 0 where
-  -- a fresh engine holds the start configuration, with the word on tape 0, and is accepted
+  -- "It starts in the start state, heads at 0, tape 0 holding the word from 0 rightward, all else blank.": a fresh engine holds that configuration, and is accepted
   pub fresh : (m : Machine) (s w ls ll rs rl : List ℕ) (v : ChainSim) (rs′ rl′ : List ℕ) → newAnswer m s w ls ll rs rl ≡ made (New.Made v) rs′ rl′
       → (configOf (conf v ls ll rs′ rl′) ≡ start (m .start) w) × (engineCheck m s (conf v ls ll rs′ rl′) ≡ Accepted)
-  -- an accepted run is a run of the table machine: configuration, step count, answer, stop rule, space; the engine handed back is accepted (RunHolds, Refines)
+  -- an accepted run is a run of the table machine: configuration, step count, answer, stop rule, space; the engine handed back is accepted (RunHolds, Refines).
+  -- "The stop rule is tested before the macro step, after fuel and before space."
   pub runs : (m : Machine) (s : List ℕ) → Bytes s → (rule : StopRule) (fuel : ℕ) (σ τ : Conf) (o : Outcome)
       → runAnswer m s rule fuel σ ≡ given τ (Ans.Done o) → RunHolds m s rule fuel σ τ o
   -- where the answer is never, the table machine halts at no step
@@ -62,15 +63,8 @@ pub record ChainEngine : Type 0 where
   pub cuts : (m : Machine) (s : List ℕ) → Bytes s → (rule : StopRule) (a b : ℕ) (σ τ υ ω : Conf) (n : ℕ) (o p : Outcome)
       → runAnswer m s rule a σ ≡ given τ (Ans.Done (OutOfFuel n)) → runAnswer m s rule b τ ≡ given υ (Ans.Done o) → runAnswer m s rule (a + b) σ ≡ given ω (Ans.Done p)
       → (o ≡ p) × Alike υ ω
-  -- "Full exactly when the step's push needs a new run on a side whose live runs fill its lent places" (FullAt): with fuel, no proved loop and no stop ahead,
-  -- the run says so and leaves the engine and every place as they were exactly there
-  pub full : (m : Machine) (s : List ℕ) → Bytes s → (rule : StopRule) (fuel : ℕ) (σ : Conf) → runCheck m s fuel σ ≡ Accepted → 0 < fuel
-      → GoesOn m s σ → matches rule (σ .sim .state) ≡ false
-      → (runAnswer m s rule fuel σ ≡ given σ (Ans.Done (Full (σ .sim .steps)))) ↔ FullHere m s σ
-  -- and a run that says so, whatever it has made before, ends before such a step
-  pub full-only : (m : Machine) (s : List ℕ) → Bytes s → (rule : StopRule) (fuel : ℕ) (σ τ : Conf) (n : ℕ)
-      → runAnswer m s rule fuel σ ≡ given τ (Ans.Done (Full n)) → FullHere m s τ
-  -- without the never test and a stop rule, as the timeline runs: full exactly where one of the next `fuel` steps is
+  -- space: "Full exactly when the step's push needs a new run on a side whose live runs fill its lent places" (FullAt). Without the never test and a stop rule, as
+  -- the timeline runs, full exactly where one of the next `fuel` steps is; for `run` itself see FirstChain, parts full, full-exact, full-onward
   pub space : (m : Machine) (s : List ℕ) → Bytes s → (fuel : ℕ) (σ : Conf) → runCheck m s fuel σ ≡ Accepted
       → ((n : ℕ) × (runOf (task m s false Rule.Never) fuel σ .outcome ≡ Full n)) ↔ FullWithin (task m s false Rule.Never) fuel σ
   -- a side has no runs exactly where every cell strictly beyond the head that way is blank
@@ -94,8 +88,6 @@ chain-engine = record {
   never = λ m s b rule fuel σ τ n p e. run-never-halts m s b rule fuel σ τ (NeverHalts n p) e n p refl;
   macro-steps = macro-step;
   cuts = cut-same;
-  full = λ m s b rule fuel σ c l v r. (full-there m s b rule fuel σ σ (σ .sim .steps), full-stands m s b fuel σ c rule l v r);
-  full-only = full-there;
   space = space-exact;
   empty-left = λ m s σ c. empty-exact m σ (engine-says m s σ c .fits) L tt;
   empty-right = λ m s σ c. empty-exact m σ (engine-says m s σ c .fits) R tt;

@@ -2,56 +2,74 @@
 use mathlib.Core.Path.{_≡_, refl}
 use mathlib.Core.Bool.{true}
 use mathlib.Core.List.{List}
-use Prim.Native.Nat.{ℕ}
-use lib.IntN.{ℤ}
+use Prim.Native.Nat.{ℕ, _≤_, _<_, _^_}
+use lib.IntN.{ℤ, pos, _+ℤ_}
+use lib.ListN.{length, getD}
+use Rattle.laws.specs.Position.{dn}
+use Rattle.symbol.specs.declared.Symbol.{Symbol}
 use Rattle.symbol.specs.declared.Dir.{Dir}
 use Rattle.outcome.specs.declared.NonHaltProof.{NonHaltProof}
 use Rattle.outcome.specs.declared.Outcome.{Outcome}
 use Rattle.outcome.specs.declared.Outcome.the-variants.{NeverHalts}
 use Rattle.outcome.specs.declared.Status.{Status}
 use Rattle.machine.specs.declared.Machine.{Machine}
+use Rattle.machine.specs.declared.Checked.the-variants.{Accepted}
 use Rattle.tables.specs.WellFormed.{Bytes}
 use Rattle.turing.specs.TableMachine.{run, start, Halted}
 use Rattle.turing.specs.Tables.{tableOf}
-use Rattle.tape.specs.Moves.{Held}
-use Rattle.tape.specs.Questions.{nonBlankOf, countOf, findOf}
+use Rattle.tape.specs.declared.Span.{Span}
+use Rattle.tape.specs.declared.Spot.{Spot}
 use Rattle.tape.specs.Answers.{Finds, Spans}
 use Rattle.sim.specs.declared.Simulator.{Simulator}
 use Rattle.sim.specs.declared.StopRule.{StopRule}
 use Rattle.sim.specs.declared.Answer.the-variants as Ans
 use Rattle.sim.specs.declared.StepAnswer.the-variants as StepAns
 use Rattle.sim.specs.declared.Fresh.the-variants as New
+use Rattle.sim.specs.declared.questions.Got.the-variants as Got
+use Rattle.sim.specs.declared.questions.Extent.the-variants as Extent
+use Rattle.sim.specs.declared.questions.Counted.the-variants as Counted
+use Rattle.sim.specs.declared.questions.Located.the-variants as Located
 use Rattle.sim.specs.Engine.{Conf, conf}
 use Rattle.sim.specs.Operations.{simFits, wordsRight, given, runAnswer, fastAnswer, stepGiven, stepAnswer, made, newAnswer}
-use Rattle.sim_refines.specs.Meaning.{tapeOf, configOf}
+use Rattle.sim.specs.Questions.{questionCheck, getAnswer, extentAnswer, countAnswer, windowInto, findAnswer}
+use Rattle.sim_refines.specs.Meaning.{configOf}
 use Rattle.sim_refines.specs.Counts.{Counts}
 use Rattle.sim_refines.specs.Operations.{HandedBack, RunHolds, StepHolds}
 use Rattle.sim_refines.specs.FreshFacts.{new-holds, new-fits}
 use Rattle.sim_refines.specs.OperationFacts.{run-holds, run-never-halts, fast-agrees, fast-done, step-holds, step-handed-back}
-use Rattle.sim_refines.specs.QuestionFacts.{find-is, non-blank-is, count-is}
+use Rattle.demands.specs.PlainClaims.{tapeOn}
+use Rattle.demands.specs.PlainQuestions.{plain-gets, plain-spans, plain-counts, plain-windows, plain-finds}
 
 pub record PlainEngine : Type 0 where
-  -- a fresh engine holds the start configuration, with the word on tape 0, and fits
+  -- "It starts in the start state, heads at 0, tape 0 holding the word from 0 rightward, all else blank.": a fresh engine holds that configuration, and fits
   pub fresh : (m : Machine) (s w c0 c1 c2 : List ℕ) (v : Simulator) (d0 d1 d2 : List ℕ) → newAnswer m s w c0 c1 c2 ≡ made (New.Made v) d0 d1 d2
       → (configOf m (conf v d0 d1 d2) ≡ start (m .start) w) × (simFits m v d0 d1 d2 ≡ true)
-  -- an accepted run is a run of the table machine: configuration, step count, answer, stop rule, space (RunHolds, Refines)
+  -- an accepted run is a run of the table machine: configuration, step count, answer, stop rule, space (RunHolds, Refines).
+  -- "`run`: halted, never, fuel, space, in that order, before each step. .. A run with a stop rule .. stops after the matching step."
   pub runs : (m : Machine) (s : List ℕ) → Bytes s → (rule : StopRule) (fuel : ℕ) (σ τ : Conf) (o : Outcome)
       → runAnswer m s rule fuel σ ≡ given τ (Ans.Done o) → RunHolds m s rule fuel σ τ o
-  -- an accepted step is one step of the table machine, or none where it has halted or lacks space
+  -- "`step` makes one step without the middle two and answers running, halted or full.": one step of the table machine, or none where it has halted or lacks space
   pub steps : (m : Machine) (s : List ℕ) → Bytes s → (σ τ : Conf) (x : Status)
       → stepAnswer m s σ ≡ stepGiven τ (StepAns.Done x) → StepHolds m s σ τ x × HandedBack m σ τ
   -- where the answer is never, the table machine halts at no step
   pub never : (m : Machine) (s : List ℕ) → Bytes s → (rule : StopRule) (fuel : ℕ) (σ τ : Conf) (n : ℕ) (p : NonHaltProof)
       → runAnswer m s rule fuel σ ≡ given τ (Ans.Done (NeverHalts n p)) → (j : ℕ) → ¬ (Halted (tableOf m s) (run (tableOf m s) j (configOf m σ)))
-  -- the fast run over the table's packed words answers as `run` does, refusals too, and over other words it makes no run
+  -- "The fast run reads packed words and answers as `run` does.": over the table's packed words, refusals too; over other words it makes no run
   pub fast : (m : Machine) (s words : List ℕ) (rule : StopRule) (fuel : ℕ) (σ : Conf) → wordsRight m s words ≡ true
       → fastAnswer m s words rule fuel σ ≡ runAnswer m s rule fuel σ
   pub fast-runs : (m : Machine) (s words : List ℕ) (rule : StopRule) (fuel : ℕ) (σ τ : Conf) (o : Outcome)
       → fastAnswer m s words rule fuel σ ≡ given τ (Ans.Done o) → runAnswer m s rule fuel σ ≡ given τ (Ans.Done o)
-  -- the questions answer what the table machine's tape holds (a cell by its position is `tapeOf`'s own; the window by `window-is`)
-  pub finds : (h : Held) (z : ℤ) (d : Dir) → Finds (tapeOf h .cell) z d (findOf h z d)
-  pub spans : (h : Held) → Spans (tapeOf h .cell) (nonBlankOf h)
-  pub counts : (h : Held) → Counts (tapeOf h .cell) (countOf h)
+  -- "`get`, `non_blank`, `count_non_blank`, `window` and `find_non_blank` answer over all of i64; a cell outside is blank": the questions answer what tape i of
+  -- the configuration held has. At a position the cell; of the non-blank cells the smallest range (Spans) and the number (Counts)
+  pub gets : (m : Machine) (s : List ℕ) (i : ℕ) (σ : Conf) (z : ℤ) (x : Symbol) → getAnswer m s i z σ ≡ Got.Found x → x .0 ≡ tapeOn i (configOf m σ) .cell z
+  pub spans : (m : Machine) (s : List ℕ) (i : ℕ) (σ : Conf) (x : Span) → extentAnswer m s i σ ≡ Extent.Found x → Spans (tapeOn i (configOf m σ) .cell) x
+  pub counts : (m : Machine) (s : List ℕ) (i : ℕ) (σ : Conf) (n : ℕ) → countAnswer m s i σ ≡ Counted.Found n → Counts (tapeOn i (configOf m σ) .cell) n
+  -- "`window` fills its whole lent slice, positions past i64 blank": place j holds the cell at z + j, and past i64 the tape is blank
+  pub windows : (m : Machine) (s : List ℕ) (i : ℕ) (σ : Conf) → questionCheck m s i σ ≡ Accepted → (z : ℤ) → dn z ≤ 2 ^ 63 → (out : List ℕ)
+      → (length (windowInto m s i z σ out) ≡ length out) × ((j : ℕ) → j < length out → getD (windowInto m s i z σ out) j 0 ≡ tapeOn i (configOf m σ) .cell (z +ℤ pos j))
+  -- "`find_non_blank` answers none exactly where there is no such cell": none, or the nearest (Finds)
+  pub finds : (m : Machine) (s : List ℕ) (i : ℕ) (σ : Conf) (z : ℤ) (d : Dir) (x : Spot) → findAnswer m s i z d σ ≡ Located.Found x
+      → Finds (tapeOn i (configOf m σ) .cell) z d x
 
 pub plain-engine : PlainEngine
 plain-engine = record {
@@ -61,7 +79,9 @@ plain-engine = record {
   never = λ m s b rule fuel σ τ n p e. run-never-halts m s b rule fuel σ τ (NeverHalts n p) e n p refl;
   fast = fast-agrees;
   fast-runs = λ m s words rule fuel σ τ o e. fast-done m s words rule fuel σ τ o e;
-  finds = find-is;
-  spans = non-blank-is;
-  counts = count-is;
+  gets = plain-gets;
+  spans = plain-spans;
+  counts = plain-counts;
+  windows = plain-windows;
+  finds = plain-finds;
 }

@@ -1,0 +1,9 @@
+-- What SecondPlain says of the tape questions: the tape of a number. Definitions only.
+use Prim.Native.Nat.{ℕ}
+use lib.Dec.{eqb}
+use Rattle.laws.specs.Choice.{pick}
+use Rattle.turing.specs.TableMachine.{Tape, Config}
+
+-- tape 0, 1 or 2 of a configuration
+abbrev pub tapeOn : ℕ → Config → Tape
+tapeOn i c = pick (eqb i 0) (c .tape0) (pick (eqb i 1) (c .tape1) (c .tape2))
