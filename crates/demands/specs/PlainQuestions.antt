@@ -35,7 +35,7 @@ use Rattle.sim.specs.OperationCases.{Passed, on-says, engine-says}
 use Rattle.sim.specs.Questions.{tapeAt, heldAt, questionCheck, askedOn, getAnswer, extentAnswer, countAnswer, windowInto, findAnswer}
 use Rattle.sim_refines.specs.Meaning.{tapeOf, has, tapeIf, configOf, FitsIf, EngineFits}
 use Rattle.sim_refines.specs.Counts.{Counts}
-use Rattle.sim_refines.specs.OperationFacts.{bare-fits}
+use Rattle.sim_refines.specs.BareFacts.{bare-fits}
 use Rattle.sim_refines.specs.QuestionFacts.{find-is, non-blank-is, count-is, window-length, window-is}
 use Rattle.demands.specs.PlainClaims.{tapeOn}
 
