@@ -17,19 +17,23 @@ use Rattle.machine.specs.declared.Machine.{Machine}
 use Rattle.machine.specs.declared.Entry.{Entry}
 use Rattle.machine.specs.declared.Checked.{Checked}
 use Rattle.machine.specs.declared.Checked.the-variants.{Accepted, Refused}
-use Rattle.machine.specs.Check.{within, checkedOn, tableCheck}
-use Rattle.machine.specs.CheckFacts.{demand-says, ranges}
+use Rattle.machine.specs.Check.{within, tableCheck}
+use Rattle.machine.specs.CheckFacts.{demand-says, on-says, ranges}
 use Rattle.machine.specs.CheckCases.{stride-one}
 use Rattle.machine.specs.Layout.{entryCount, entryAt}
 use Rattle.machine.specs.Packing.{packWord, wordAt}
 use Rattle.machine.specs.Word.{wordCheck}
 use Rattle.tape.specs.declared.Tape.{Tape}
 use Rattle.tape.specs.Moves.{held, noTape, freshOf}
-use Rattle.before.specs.Sizes.{has1, has2, ifHas, cellsMost, wordRight, wordsRight, freshSizes, freshCheck, blankTape}
+use Rattle.before.specs.Sizes.{has1, has2, ifHas, cellsMost, stepsMost, fuelFits, wordRight, wordsRight, freshSizes, freshCheck, blankTape}
 
-pub on-says : (c rest : Checked) → checkedOn c rest ≡ Accepted → (c ≡ Accepted) × (rest ≡ Accepted)
-on-says (Refused why) rest e = let z : _≡_ {A = ℕ} 0 1 = cc in absurd (omega arith)
-on-says Accepted rest e = (refl, e)
+-- ---- the fuel
+
+pub fuel-says : (steps fuel : ℕ) → fuelFits steps fuel ≡ true → steps + fuel ≤ 4611686018427387904
+unfolding fuelFits
+fuel-says steps fuel e =
+    let p = both-split e in
+    omega (arith, leb-true fuel stepsMost (p .0), leb-true steps (stepsMost - fuel) (p .1))
 
 -- ---- the words
 

@@ -5,7 +5,7 @@ use Prim.Native.Nat.{ℕ}
 use Rattle.outcome.specs.declared.Refusal.{Refusal}
 use Rattle.outcome.specs.Numbers.{refusalNumber}
 use Rattle.sim.specs.declared.Simulator.{Simulator}
-use Rattle.sim.specs.declared.Answer.{Answer}
+use Rattle.course.specs.declared.Answer.{Answer}
 use Rattle.sim.specs.declared.StepAnswer.{StepAnswer}
 use Rattle.sim.specs.declared.Fresh.{Fresh}
 use Rattle.sim.specs.declared.Fresh.the-variants as New

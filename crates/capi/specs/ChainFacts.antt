@@ -4,7 +4,7 @@ use mathlib.Core.List.{List}
 use Prim.Native.Nat.{ℕ}
 use Rattle.outcome.specs.declared.Refusal.{Refusal}
 use Rattle.outcome.specs.Numbers.{refusalNumber}
-use Rattle.sim.specs.declared.Answer.{Answer}
+use Rattle.course.specs.declared.Answer.{Answer}
 use Rattle.rle.specs.declared.ChainSim.{ChainSim}
 use Rattle.rle.specs.declared.Fresh.{Fresh}
 use Rattle.rle.specs.declared.Fresh.the-variants as New

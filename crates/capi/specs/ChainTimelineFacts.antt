@@ -5,8 +5,8 @@ use Prim.Native.Nat.{ℕ}
 use Rattle.outcome.specs.declared.Outcome.{Outcome}
 use Rattle.outcome.specs.declared.Refusal.{Refusal}
 use Rattle.outcome.specs.Numbers.{refusalNumber}
-use Rattle.sim.specs.declared.Answer.{Answer}
-use Rattle.sim.specs.declared.Answer.the-variants as Ans
+use Rattle.course.specs.declared.Answer.{Answer}
+use Rattle.course.specs.declared.Answer.the-variants as Ans
 use Rattle.times.specs.Timeline.{Reply}
 use Rattle.times.specs.Kind.{WorldOf}
 use Rattle.rle_engine.specs.Kind.{chainKind}

@@ -1,4 +1,4 @@
--- What an operation answers by its check, over any kind of configuration. Definitions only.
+-- What an operation answers by its check, over any kind of configuration; and a question. Definitions only.
 use Rattle.outcome.specs.declared.Refusal.{Refusal}
 use Rattle.machine.specs.declared.Checked.{Checked}
 use Rattle.machine.specs.declared.Checked.the-variants.{Accepted, Refused}
@@ -7,3 +7,7 @@ use Rattle.machine.specs.declared.Checked.the-variants.{Accepted, Refused}
 abbrev pub answered : {C A G : Type 0} → (give : C → A → G) → (refuse : Refusal → A) → Checked → (before after : C) → A → G
 answered give refuse (Refused why) σ τ a = give σ (refuse why)
 answered give refuse Accepted σ τ a = give τ a
+
+abbrev pub askedOn : {A : Type 0} → Checked → (Refusal → A) → A → A
+askedOn (Refused why) refused answer = refused why
+askedOn Accepted refused answer = answer

@@ -1,3 +1,4 @@
+pub mod Task
 pub mod Run
 pub mod RunCases
 pub mod Answers

@@ -20,7 +20,7 @@ use Rattle.tape.specs.Growth.{extra}
 use Rattle.tape.specs.Moves.{blanked, laid, movedUp, freshOf, readOf, leaves, roomFor, grownBy, shiftOf, moveOf, actOf}
 use Rattle.tape.specs.Fits.{tapeFits}
 use Rattle.tape.specs.Questions.{blankBeyond}
-use Rattle.sim.specs.declared.Answer.the-variants.{Done, Refused}
+use Rattle.course.specs.declared.Answer.the-variants.{Done, Refused}
 use Rattle.sim.specs.Engine.{stays, staysAll, loopOf, judgeOf, lookOn, entryOf, lookWith, roomsOf, stepOf, matches, runWith, runOf}
 use Rattle.sim.specs.Operations.{bareSim, handBack, sizesFit, simFits, valueCheck, fuelFits, fuelCheck, runCheck, runAnswer, freshSizes, freshCheck, newAnswer}
 use Rattle.stacks.specs.Sides.{symbolUnder, aheadOf, grownOf, pushOf, lacks, takeOf, runFits, runsFit, sumOf}

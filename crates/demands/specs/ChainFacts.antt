@@ -23,9 +23,9 @@ use Rattle.turing.specs.Tables.{tableOf, TableOf}
 use Rattle.turing.specs.TableFacts.{accepted-table}
 use Rattle.turing.specs.RunFacts.{not-defined}
 use Rattle.turing.specs.VerdictFacts.{verdict-unique}
-use Rattle.sim.specs.declared.StopRule.{StopRule}
-use Rattle.sim.specs.declared.StopRule.the-variants.{Never}
-use Rattle.sim.specs.declared.Answer.the-variants as Ans
+use Rattle.course.specs.declared.StopRule.{StopRule}
+use Rattle.course.specs.declared.StopRule.the-variants.{Never}
+use Rattle.course.specs.declared.Answer.the-variants as Ans
 use Rattle.sim.specs.Engine.{Task, task, entryOf, matches}
 use Rattle.stacks.specs.Sides.{aheadOf}
 use Rattle.rle.specs.declared.inner.Turn.{Turn}

@@ -12,7 +12,7 @@ use Rattle.laws.specs.Position.{_⊖_, up, dn}
 use Rattle.laws.specs.PositionFacts.{ints, diff-⊖}
 use Rattle.laws.specs.ScanDown.{countFails}
 use Rattle.machine.specs.declared.Machine.{Machine}
-use Rattle.sim.specs.declared.questions.Counted.the-variants as Counted
+use Rattle.course.specs.declared.questions.Counted.the-variants as Counted
 use Rattle.rle.specs.Engine.{Conf}
 use Rattle.rle.specs.Questions.{countOf, countAnswer}
 use Rattle.sim_refines.specs.Counts.{Among, Counts}

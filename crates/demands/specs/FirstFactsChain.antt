@@ -15,13 +15,13 @@ use Rattle.machine.specs.declared.Machine.{Machine}
 use Rattle.machine.specs.declared.Checked.{Checked}
 use Rattle.machine.specs.declared.Checked.the-variants.{Accepted, Refused}
 use Rattle.machine.specs.Check.{checkedOn, demand}
-use Rattle.sim.specs.declared.StopRule.{StopRule}
-use Rattle.sim.specs.declared.Answer.the-variants as Ans
-use Rattle.sim.specs.declared.questions.Got.the-variants as Got
-use Rattle.sim.specs.declared.questions.Extent.the-variants as Extent
-use Rattle.sim.specs.declared.questions.Counted.the-variants as Counted
+use Rattle.course.specs.declared.StopRule.{StopRule}
+use Rattle.course.specs.declared.Answer.the-variants as Ans
+use Rattle.course.specs.declared.questions.Got.the-variants as Got
+use Rattle.course.specs.declared.questions.Extent.the-variants as Extent
+use Rattle.course.specs.declared.questions.Counted.the-variants as Counted
 use Rattle.sim.specs.Engine.{task}
-use Rattle.sim.specs.Questions.{askedOn}
+use Rattle.course.specs.Answers.{askedOn}
 use Rattle.stacks.specs.Sides.{Side, side}
 use Rattle.records.specs.declared.Run.{Run}
 use Rattle.records.specs.declared.Listed.{Listed}

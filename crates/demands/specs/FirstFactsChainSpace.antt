@@ -14,8 +14,8 @@ use Rattle.machine.specs.declared.Checked.{Checked}
 use Rattle.machine.specs.declared.Checked.the-variants.{Accepted}
 use Rattle.tables.specs.WellFormed.{Bytes}
 use Rattle.turing.specs.Tables.{tableOf}
-use Rattle.sim.specs.declared.StopRule.{StopRule}
-use Rattle.sim.specs.declared.Answer.the-variants as Ans
+use Rattle.course.specs.declared.StopRule.{StopRule}
+use Rattle.course.specs.declared.Answer.the-variants as Ans
 use Rattle.sim.specs.Engine.{task, matches}
 use Rattle.before.specs.Sizes.{fuelFits}
 use Rattle.rle.specs.Engine.{Conf, End, end, runOf}

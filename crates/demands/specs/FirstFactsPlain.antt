@@ -30,14 +30,14 @@ use Rattle.alphabet.specs.Encode.{allowedAt, byteAt, encodeCheck, encodeInto}
 use Rattle.alphabet.specs.EncodeFacts.{refused-place}
 use Rattle.tape.specs.Moves.{freshOf}
 use Rattle.tape.specs.Questions.{cellOf, nonBlankOf, countOf, windowOf, findOf}
-use Rattle.sim.specs.declared.StopRule.{StopRule}
-use Rattle.sim.specs.declared.Answer.the-variants as Ans
+use Rattle.course.specs.declared.StopRule.{StopRule}
+use Rattle.course.specs.declared.Answer.the-variants as Ans
 use Rattle.sim.specs.declared.StepAnswer.the-variants as StepAns
 use Rattle.sim.specs.declared.Fresh.the-variants as New
-use Rattle.sim.specs.declared.questions.Got.the-variants as Got
-use Rattle.sim.specs.declared.questions.Extent.the-variants as Extent
-use Rattle.sim.specs.declared.questions.Counted.the-variants as Counted
-use Rattle.sim.specs.declared.questions.Located.the-variants as Located
+use Rattle.course.specs.declared.questions.Got.the-variants as Got
+use Rattle.course.specs.declared.questions.Extent.the-variants as Extent
+use Rattle.course.specs.declared.questions.Counted.the-variants as Counted
+use Rattle.course.specs.declared.questions.Located.the-variants as Located
 use Rattle.sim.specs.Engine as Plain
 use Rattle.sim.specs.Operations as Plains
 use Rattle.sim.specs.Questions as Asks

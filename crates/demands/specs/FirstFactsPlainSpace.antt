@@ -20,8 +20,8 @@ use Rattle.tables.specs.WellFormed.{Bytes}
 use Rattle.turing.specs.TableMachine.{Config, entry}
 use Rattle.turing.specs.Tables.{tableOf}
 use Rattle.turing.specs.TableFacts.{accepted-table}
-use Rattle.sim.specs.declared.StopRule.{StopRule}
-use Rattle.sim.specs.declared.Answer.the-variants as Ans
+use Rattle.course.specs.declared.StopRule.{StopRule}
+use Rattle.course.specs.declared.Answer.the-variants as Ans
 use Rattle.sim.specs.declared.StepAnswer.the-variants as StepAns
 use Rattle.sim.specs.Engine.{Task, task, Conf, End, fullEnd, roomyOf, runOf, Once, onceOf}
 use Rattle.sim.specs.Operations.{bareSim, bareOf, backOf, runCheck, Given, given, ranBack, runOn, runAnswer, StepGiven, stepGiven, stepBack, stepOn, stepAnswer}

@@ -12,14 +12,14 @@ use Rattle.machine.specs.declared.Checked.{Checked}
 use Rattle.machine.specs.declared.Checked.the-variants.{Accepted, Refused}
 use Rattle.tables.specs.WellFormed.{Bytes}
 use Rattle.turing.specs.Tables.{tableOf}
-use Rattle.sim.specs.declared.StopRule.{StopRule}
-use Rattle.sim.specs.declared.Answer.the-variants as Ans
+use Rattle.course.specs.declared.StopRule.{StopRule}
+use Rattle.course.specs.declared.Answer.the-variants as Ans
 use Rattle.sim.specs.declared.StepAnswer.the-variants as StepAns
 use Rattle.sim.specs.declared.Fresh.the-variants as New
-use Rattle.sim.specs.declared.questions.Got.the-variants as Got
-use Rattle.sim.specs.declared.questions.Extent.the-variants as Extent
-use Rattle.sim.specs.declared.questions.Counted.the-variants as Counted
-use Rattle.sim.specs.declared.questions.Located.the-variants as Located
+use Rattle.course.specs.declared.questions.Got.the-variants as Got
+use Rattle.course.specs.declared.questions.Extent.the-variants as Extent
+use Rattle.course.specs.declared.questions.Counted.the-variants as Counted
+use Rattle.course.specs.declared.questions.Located.the-variants as Located
 use Rattle.sim.specs.Engine.{Conf}
 use Rattle.sim.specs.Operations.{runCheck, Given, given, runAnswer, fastAnswer, StepGiven, stepGiven, stepAnswer, Made, made, newAnswer}
 use Rattle.sim.specs.Questions.{questionCheck, getAnswer, extentAnswer, countAnswer, windowInto, findAnswer}

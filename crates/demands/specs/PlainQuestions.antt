@@ -16,7 +16,7 @@ use Rattle.symbol.specs.declared.Dir.{Dir}
 use Rattle.machine.specs.declared.Machine.{Machine}
 use Rattle.machine.specs.declared.Checked.{Checked}
 use Rattle.machine.specs.declared.Checked.the-variants.{Accepted, Refused}
-use Rattle.machine.specs.CheckFacts.{demand-says}
+use Rattle.machine.specs.CheckFacts.{demand-says, on-says}
 use Rattle.turing.specs.TableMachine.{Tape as Cells}
 use Rattle.tape.specs.declared.Tape.{Tape}
 use Rattle.tape.specs.declared.Span.{Span}
@@ -25,13 +25,13 @@ use Rattle.tape.specs.Moves.{held, noTape}
 use Rattle.tape.specs.Questions.{nonBlankOf, countOf, findOf}
 use Rattle.tape.specs.Answers.{Finds, Spans}
 use Rattle.before.specs.Sizes.{sizesFit}
-use Rattle.sim.specs.declared.questions.Got.the-variants as Got
-use Rattle.sim.specs.declared.questions.Extent.the-variants as Extent
-use Rattle.sim.specs.declared.questions.Counted.the-variants as Counted
-use Rattle.sim.specs.declared.questions.Located.the-variants as Located
+use Rattle.course.specs.declared.questions.Got.the-variants as Got
+use Rattle.course.specs.declared.questions.Extent.the-variants as Extent
+use Rattle.course.specs.declared.questions.Counted.the-variants as Counted
+use Rattle.course.specs.declared.questions.Located.the-variants as Located
 use Rattle.sim.specs.Engine.{Conf, tape1, tape2}
 use Rattle.sim.specs.Operations.{ifHas, cellsMost, bareSim, bareOf, engineCheck}
-use Rattle.sim.specs.OperationCases.{Passed, on-says, engine-says}
+use Rattle.sim.specs.OperationCases.{Passed, engine-says}
 use Rattle.sim.specs.Questions.{tapeAt, heldAt, questionCheck, askedOn, getAnswer, extentAnswer, countAnswer, windowInto, findAnswer}
 use Rattle.sim_refines.specs.Meaning.{tapeOf, has, tapeIf, configOf, FitsIf, EngineFits}
 use Rattle.sim_refines.specs.Counts.{Counts}

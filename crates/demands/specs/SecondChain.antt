@@ -20,12 +20,12 @@ use Rattle.turing.specs.TableMachine.{run, start, Halted}
 use Rattle.turing.specs.Tables.{tableOf}
 use Rattle.tape.specs.declared.Span.{Span}
 use Rattle.tape.specs.Answers.{Spans}
-use Rattle.sim.specs.declared.StopRule.{StopRule}
-use Rattle.sim.specs.declared.StopRule.the-variants as Rule
-use Rattle.sim.specs.declared.Answer.the-variants as Ans
-use Rattle.sim.specs.declared.questions.Got.the-variants as Got
-use Rattle.sim.specs.declared.questions.Extent.the-variants as Extent
-use Rattle.sim.specs.declared.questions.Counted.the-variants as Counted
+use Rattle.course.specs.declared.StopRule.{StopRule}
+use Rattle.course.specs.declared.StopRule.the-variants as Rule
+use Rattle.course.specs.declared.Answer.the-variants as Ans
+use Rattle.course.specs.declared.questions.Got.the-variants as Got
+use Rattle.course.specs.declared.questions.Extent.the-variants as Extent
+use Rattle.course.specs.declared.questions.Counted.the-variants as Counted
 use Rattle.sim.specs.Engine.{task}
 use Rattle.rle.specs.declared.ChainSim.{ChainSim}
 use Rattle.rle.specs.declared.Fresh.the-variants as New

@@ -17,9 +17,9 @@ use Rattle.outcome.specs.declared.Refusal.{Refusal}
 use Rattle.outcome.specs.declared.Refusal.the-variants as Why
 use Rattle.machine.specs.declared.Machine.{Machine}
 use Rattle.machine.specs.declared.Checked.{Checked}
-use Rattle.machine.specs.declared.Checked.the-variants.{Accepted}
+use Rattle.machine.specs.declared.Checked.the-variants.{Accepted, Refused}
 use Rattle.machine.specs.Layout.{entryCount, flagAt, byteAt, dirOf}
-use Rattle.machine.specs.Check.{within, demand, answerAt, tapeOk, entryOk, entriesCheck, sizeCheck, tableCheck}
+use Rattle.machine.specs.Check.{within, demand, checkedOn, answerAt, tapeOk, entryOk, entriesCheck, sizeCheck, tableCheck}
 use Rattle.entries.specs.Entries.{definedFor}
 
 -- ---- a test, and a scan
@@ -28,6 +28,10 @@ pub demand-says : (b : Bool) (why : Refusal) (rest : Checked) → demand b why r
 unfolding pick
 demand-says true why rest h = (refl, h)
 demand-says false why rest h = let z : _≡_ {A = ℕ} 0 1 = cc in absurd (omega arith)
+
+pub on-says : (c rest : Checked) → checkedOn c rest ≡ Accepted → (c ≡ Accepted) × (rest ≡ Accepted)
+on-says Accepted rest h = (refl, h)
+on-says (Refused why) rest h = let z : _≡_ {A = ℕ} 0 1 = cc in absurd (omega arith)
 
 pub within-says : (low high x : ℕ) → within low high x ≡ true → (low ≤ x) × (x ≤ high)
 within-says low high x h = (leb-true low x (both-split h .0), leb-true x high (both-split h .1))

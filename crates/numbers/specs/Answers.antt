@@ -14,18 +14,18 @@ use Rattle.tape.specs.declared.Span.{Span}
 use Rattle.tape.specs.declared.Span.the-variants as Span
 use Rattle.tape.specs.declared.Spot.{Spot}
 use Rattle.tape.specs.declared.Spot.the-variants as Spot
-use Rattle.sim.specs.declared.Answer.{Answer}
-use Rattle.sim.specs.declared.Answer.the-variants as Ans
+use Rattle.course.specs.declared.Answer.{Answer}
+use Rattle.course.specs.declared.Answer.the-variants as Ans
 use Rattle.sim.specs.declared.StepAnswer.{StepAnswer}
 use Rattle.sim.specs.declared.StepAnswer.the-variants as StepAns
-use Rattle.sim.specs.declared.questions.Got.{Got}
-use Rattle.sim.specs.declared.questions.Got.the-variants as Got
-use Rattle.sim.specs.declared.questions.Extent.{Extent}
-use Rattle.sim.specs.declared.questions.Extent.the-variants as Extent
-use Rattle.sim.specs.declared.questions.Counted.{Counted}
-use Rattle.sim.specs.declared.questions.Counted.the-variants as Counted
-use Rattle.sim.specs.declared.questions.Located.{Located}
-use Rattle.sim.specs.declared.questions.Located.the-variants as Located
+use Rattle.course.specs.declared.questions.Got.{Got}
+use Rattle.course.specs.declared.questions.Got.the-variants as Got
+use Rattle.course.specs.declared.questions.Extent.{Extent}
+use Rattle.course.specs.declared.questions.Extent.the-variants as Extent
+use Rattle.course.specs.declared.questions.Counted.{Counted}
+use Rattle.course.specs.declared.questions.Counted.the-variants as Counted
+use Rattle.course.specs.declared.questions.Located.{Located}
+use Rattle.course.specs.declared.questions.Located.the-variants as Located
 
 -- ---- answers: a number as the result, 0 or the refusal's, and values in the first places of a slice
 

@@ -8,8 +8,8 @@ use Rattle.symbol.specs.Kinds.{stateOf}
 use Rattle.machine.specs.declared.Machine.{Machine}
 use Rattle.tape.specs.declared.Tape.{Tape}
 use Rattle.sim.specs.declared.Simulator.{Simulator}
-use Rattle.sim.specs.declared.StopRule.{StopRule}
-use Rattle.sim.specs.declared.StopRule.the-variants as Rule
+use Rattle.course.specs.declared.StopRule.{StopRule}
+use Rattle.course.specs.declared.StopRule.the-variants as Rule
 use Rattle.rle.specs.declared.ChainSim.{ChainSim}
 use Rattle.times.specs.declared.Times.{Times}
 

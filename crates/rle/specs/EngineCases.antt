@@ -12,8 +12,9 @@ use Rattle.outcome.specs.declared.Outcome.the-variants.{Halted, OutOfFuel, Neve
 use Rattle.machine.specs.declared.Action.{Action}
 use Rattle.machine.specs.declared.Entry.{Entry}
 use Rattle.machine.specs.declared.Entry.the-variants.{Undefined, Defined}
-use Rattle.sim.specs.declared.StopRule.{StopRule}
-use Rattle.sim.specs.Engine.{Task, entryOf, matches}
+use Rattle.course.specs.declared.StopRule.{StopRule}
+use Rattle.before.specs.Look.{entryOf}
+use Rattle.course.specs.Task.{Task, matches}
 use Rattle.spans.specs.Leaps.{loopsFor, proofOf, headFor}
 use Rattle.rle.specs.declared.ChainSim.{ChainSim}
 use Rattle.rle.specs.declared.inner.Turn.{Turn}

@@ -9,7 +9,7 @@ use Rattle.machine.specs.declared.Machine.{Machine}
 use Rattle.machine.specs.declared.Checked.{Checked}
 use Rattle.machine.specs.declared.Checked.the-variants.{Accepted}
 use Rattle.machine.specs.Check.{demand, checkedOn, tableCheck}
-use Rattle.sim.specs.Operations.{stepsMost, fuelFits}
+use Rattle.before.specs.Sizes.{stepsMost, fuelFits}
 use Rattle.stacks.specs.Sides.{placesOf, cellsOf}
 pub use Rattle.tally.specs.Sums.{slack, sidesFit}
 unfoldable pub use Rattle.tally.specs.Sums.{sideFits}

@@ -14,7 +14,7 @@ use Rattle.machine.specs.declared.Machine.{Machine}
 use Rattle.machine.specs.declared.Checked.{Checked}
 use Rattle.machine.specs.declared.Checked.the-variants.{Accepted, Refused}
 use Rattle.machine.specs.Check.{tableCheck}
-use Rattle.sim.specs.Operations.{fuelFits}
+use Rattle.before.specs.Sizes.{fuelFits}
 use Rattle.stacks.specs.Sides.{placesOf, cellsOf}
 use Rattle.rle.specs.declared.ChainSim.{ChainSim}
 use Rattle.rle.specs.Engine.{Conf, conf, leftOf, rightOf}

@@ -8,6 +8,7 @@ pub mod EngineCases
 pub mod RunFacts
 pub mod LeapFacts
 pub mod RunCases
+pub mod VerdictCases
 pub mod FitsCases
 pub mod OperationCases
 pub mod QuestionCases

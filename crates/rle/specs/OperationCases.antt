@@ -14,13 +14,13 @@ use Rattle.machine.specs.declared.Checked.{Checked}
 use Rattle.machine.specs.declared.Checked.the-variants.{Accepted, Refused}
 use Rattle.machine.specs.Layout.{strideOf}
 use Rattle.machine.specs.Check.{tableCheck}
-use Rattle.machine.specs.CheckFacts.{demand-says, Ranges, ranges}
+use Rattle.machine.specs.CheckFacts.{demand-says, on-says, Ranges, ranges}
 use Rattle.machine.specs.Word.{wordCheck}
 use Rattle.machine.specs.WordFacts.{word-says}
-use Rattle.sim.specs.declared.StopRule.{StopRule}
-use Rattle.sim.specs.declared.Answer.the-variants as Ans
-use Rattle.sim.specs.Engine.{task}
-use Rattle.sim.specs.OperationCases.{on-says, fuel-says}
+use Rattle.course.specs.declared.StopRule.{StopRule}
+use Rattle.course.specs.declared.Answer.the-variants as Ans
+use Rattle.course.specs.Task.{task}
+use Rattle.before.specs.SizesCases.{fuel-says}
 use Rattle.stacks.specs.Sides.{Side, side, placesOf}
 use Rattle.stacks.specs.SideFacts.{SideOk}
 use Rattle.rle.specs.declared.Fresh.the-variants as New

@@ -7,10 +7,10 @@ use Rattle.symbol.specs.Kinds.{stateOf}
 use Rattle.machine.specs.declared.Machine.{Machine}
 use Rattle.machine.specs.declared.Checked.{Checked}
 use Rattle.machine.specs.declared.Checked.the-variants.{Accepted, Refused}
-use Rattle.sim.specs.declared.StopRule.{StopRule}
-use Rattle.sim.specs.declared.Answer.{Answer}
-use Rattle.sim.specs.declared.Answer.the-variants as Ans
-use Rattle.sim.specs.Engine.{task}
+use Rattle.course.specs.declared.StopRule.{StopRule}
+use Rattle.course.specs.declared.Answer.{Answer}
+use Rattle.course.specs.declared.Answer.the-variants as Ans
+use Rattle.course.specs.Task.{task}
 use Rattle.course.specs.Answers.{answered}
 use Rattle.stacks.specs.Sides.{Side, side, placesOf}
 pub use Rattle.tally.specs.Words.{wordOf}

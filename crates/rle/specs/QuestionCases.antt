@@ -19,9 +19,9 @@ use Rattle.machine.specs.declared.Checked.{Checked}
 use Rattle.machine.specs.declared.Checked.the-variants.{Accepted, Refused}
 use Rattle.tape.specs.declared.Span.{Span}
 use Rattle.tape.specs.declared.Span.the-variants.{Empty, Cells}
-use Rattle.sim.specs.declared.questions.Got.the-variants as Got
-use Rattle.sim.specs.declared.questions.Extent.the-variants as Extent
-use Rattle.sim.specs.declared.questions.Counted.the-variants as Counted
+use Rattle.course.specs.declared.questions.Got.the-variants as Got
+use Rattle.course.specs.declared.questions.Extent.the-variants as Extent
+use Rattle.course.specs.declared.questions.Counted.the-variants as Counted
 use Rattle.stacks.specs.Sides.{cellsOf, nearOf}
 use Rattle.rle.specs.declared.ChainSim.{ChainSim}
 use Rattle.rle.specs.Engine.{Conf, conf, leftOf, rightOf}

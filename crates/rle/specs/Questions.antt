@@ -11,13 +11,13 @@ use Rattle.symbol.specs.Places.{raisedOf}
 use Rattle.machine.specs.declared.Machine.{Machine}
 use Rattle.tape.specs.declared.Span.{Span}
 use Rattle.tape.specs.declared.Span.the-variants.{Empty, Cells}
-use Rattle.sim.specs.declared.questions.Got.{Got}
-use Rattle.sim.specs.declared.questions.Got.the-variants as Got
-use Rattle.sim.specs.declared.questions.Extent.{Extent}
-use Rattle.sim.specs.declared.questions.Extent.the-variants as Extent
-use Rattle.sim.specs.declared.questions.Counted.{Counted}
-use Rattle.sim.specs.declared.questions.Counted.the-variants as Counted
-use Rattle.sim.specs.Questions.{askedOn}
+use Rattle.course.specs.declared.questions.Got.{Got}
+use Rattle.course.specs.declared.questions.Got.the-variants as Got
+use Rattle.course.specs.declared.questions.Extent.{Extent}
+use Rattle.course.specs.declared.questions.Extent.the-variants as Extent
+use Rattle.course.specs.declared.questions.Counted.{Counted}
+use Rattle.course.specs.declared.questions.Counted.the-variants as Counted
+use Rattle.course.specs.Answers.{askedOn}
 use Rattle.stacks.specs.Sides.{cellsOf, nearOf}
 unfoldable pub use Rattle.spans.specs.Asks.{cellOn, windowOn, windowAll, countOn}
 use Rattle.rle.specs.Engine.{Conf, leftOf, rightOf}

@@ -8,7 +8,7 @@ use Rattle.symbol.specs.declared.Dir.{Dir}
 use Rattle.symbol.specs.declared.Dir.the-variants.{L, R, N}
 use Rattle.outcome.specs.declared.Outcome.{Outcome}
 use Rattle.outcome.specs.declared.Outcome.the-variants.{Full}
-use Rattle.sim.specs.Engine.{Task}
+use Rattle.course.specs.Task.{Task}
 use Rattle.stacks.specs.Sides.{placesOf}
 use Rattle.spans.specs.declared.inner.leaps.Step.{Step}
 use Rattle.spans.specs.Leaps.{headFor, Made, moved, makeOf, MakeOk}

@@ -13,8 +13,9 @@ use Rattle.outcome.specs.declared.Outcome.{Outcome}
 use Rattle.machine.specs.declared.Action.{Action}
 use Rattle.machine.specs.declared.Entry.{Entry}
 use Rattle.machine.specs.declared.Entry.the-variants.{Undefined, Defined}
-use Rattle.sim.specs.declared.StopRule.{StopRule}
-use Rattle.sim.specs.Engine.{Task, entryOf, matches}
+use Rattle.course.specs.declared.StopRule.{StopRule}
+use Rattle.before.specs.Look.{entryOf}
+use Rattle.course.specs.Task.{Task, matches}
 use Rattle.stacks.specs.Sides.{Side}
 use Rattle.spans.specs.declared.inner.leaps.Step.{Step}
 use Rattle.rle.specs.declared.ChainSim.{ChainSim}

@@ -1,18 +1,22 @@
 -- What the functions of a run and of the questions may assume. Definitions only.
 use mathlib.Core.Path.{_≡_}
+use mathlib.Core.Bool.{true}
+use mathlib.Core.List.{List}
 use Prim.Native.Nat.{ℕ, _+_, _≤_}
 use lib.ListN.{length}
 use Rattle.symbol.specs.declared.State.{State}
 use Rattle.symbol.specs.declared.Dir.{Dir}
+use Rattle.outcome.specs.declared.Outcome.{Outcome}
 use Rattle.machine.specs.declared.Machine.{Machine}
 use Rattle.machine.specs.Layout.{strideOf}
 use Rattle.stacks.specs.Sides.{placesOf, cellsOf}
 use Rattle.stacks.specs.SideFacts.{SideOk}
 use Rattle.rle.specs.declared.ChainSim.{ChainSim}
-use Rattle.sim.specs.Engine.{Task}
+use Rattle.course.specs.declared.StopRule.the-variants as Rule
+use Rattle.course.specs.Task.{Task, task}
 use Rattle.spans.specs.Leaps.{headFor}
 use Rattle.tally.specs.Tally.{tallied}
-use Rattle.rle.specs.Engine.{Conf, leftOf, rightOf, tallyOf, simWith, runOf}
+use Rattle.rle.specs.Engine.{Conf, conf, leftOf, rightOf, tallyOf, simWith, end, runOf}
 
 -- the machine's numbers, as an entry's number is made of them
 pub record TableOk (m : Machine) (stride : ℕ) : Type 0 where
@@ -55,6 +59,10 @@ pub record Going (k : Task) (stride lp rp : ℕ) (σ₀ : Conf) (fuel : ℕ) (σ
   pub rights : rp ≡ placesOf (σ .rs) (σ .rl)
   pub sizes : SameSizes σ₀ σ
   pub same : runOf k left σ ≡ runOf k fuel σ₀
+
+-- how a run without fuel ends on the value v, whatever its places hold
+pub record Judged (m : Machine) (s : List ℕ) (v : ChainSim) (o : Outcome) : Type 0 where
+  pub same : (ls ll rs rl : List ℕ) → end (conf v ls ll rs rl) o ≡ runOf (task m s true Rule.Never) 0 (conf v ls ll rs rl)
 
 -- a question
 pub record AskOk (σ : Conf) : Type 0 where

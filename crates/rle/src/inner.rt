@@ -3,11 +3,11 @@ pub mod fits;
 
 use super::ChainSim;
 use super::RunTape;
+use course::StopRule;
 use machine::Action;
 use machine::Entry;
 use machine::Machine;
 use outcome::Outcome;
-use sim::StopRule;
 use spans::inner::leaps;
 use spans::inner::leaps::Moved;
 use spans::inner::leaps::Step;
@@ -15,9 +15,10 @@ use stacks::inner as stack;
 use symbol::State;
 ghost use mathlib.Core.Path.{_≡_};
 ghost use Rattle.laws.specs.Choice.{both};
-ghost use Rattle.sim.specs.Engine.{task, entryOf};
+ghost use Rattle.before.specs.Look.{entryOf};
+ghost use Rattle.course.specs.Task.{task};
 ghost use Rattle.rle.specs.Engine.{conf, loopsOf, fueledOf, turnOf, end, runOf};
-ghost use Rattle.rle.specs.Turns.{TableOk, CountsOk, RunOk, landedBy};
+ghost use Rattle.rle.specs.Turns.{TableOk, CountsOk, RunOk, Judged, landedBy};
 
 // What comes next in a run, before it is asked whether there is space: its end, or an entry to make.
 pub enum Turn {
@@ -71,7 +72,7 @@ impl ChainSim {
         if fuel == 0 {
             return Turn::Ends(Outcome::OutOfFuel { steps });
         }
-        if sim::inner::matches(rule, state) {
+        if course::inner::matches(rule, state) {
             return Turn::Ends(Outcome::Stopped { steps });
         }
         let dir = a.dir0;
@@ -115,6 +116,30 @@ impl ChainSim {
                     return Turn::Ends(Outcome::NeverHalts { steps, proof });
                 }
                 return self.fueled(loops, rule, a, fuel);
+            }
+        }
+    }
+
+    // How a run without fuel ends here: the verdict.
+    pub fn verdict(self, m: Machine, stride: u64, table: &[u8]) -> Outcome
+        requires { ⌜ TableOk m stride ⌝ }
+        ensures { λ r. ⌜ Judged m (now (table .entry)) self r ⌝ }
+    {
+        let tape = self.tape;
+        let steps = self.steps;
+        let state = self.state;
+        let found = entry_of(m, stride, table, state, tape.cur);
+        match found {
+            Entry::Undefined => {
+                return Outcome::Halted { steps, state };
+            }
+            Entry::Defined(a) => {
+                if loops_on(state, a, tape.cur, tape.left, tape.right) {
+                    let dir = a.dir0;
+                    let proof = leaps::proof_of(state, dir);
+                    return Outcome::NeverHalts { steps, proof };
+                }
+                return Outcome::OutOfFuel { steps };
             }
         }
     }

@@ -1,9 +1,9 @@
 // The run-length engine: a machine of one tape, whose tape is two stacks of runs around the cell under the head.
+use course::Answer;
+use course::StopRule;
 use machine::Checked;
 use machine::Machine;
 use outcome::Refusal;
-use sim::Answer;
-use sim::StopRule;
 use spans::inner::word;
 use stacks::inner as stack;
 use symbol::State;

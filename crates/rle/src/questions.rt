@@ -1,10 +1,10 @@
 // Questions on an engine's tape. Each tests the table and the value first: the table check, 8, 11, 12.
 use super::ChainSim;
+use course::questions::Counted;
+use course::questions::Extent;
+use course::questions::Got;
 use machine::Checked;
 use machine::Machine;
-use sim::questions::Counted;
-use sim::questions::Extent;
-use sim::questions::Got;
 use spans::inner::asks;
 use stacks::inner as stack;
 use symbol::Symbol;

@@ -4,8 +4,8 @@ use mathlib.Core.List.{List}
 use Prim.Native.Nat.{ℕ}
 use Rattle.outcome.specs.declared.Outcome.{Outcome}
 use Rattle.machine.specs.declared.Machine.{Machine}
-use Rattle.sim.specs.declared.StopRule.the-variants as Rule
-use Rattle.sim.specs.Engine.{task}
+use Rattle.course.specs.declared.StopRule.the-variants as Rule
+use Rattle.course.specs.Task.{task}
 use Rattle.rle.specs.Engine.{Conf, End, runOf}
 use Rattle.times.specs.Kind.{verdictOr}
 

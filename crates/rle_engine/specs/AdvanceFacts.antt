@@ -7,8 +7,8 @@ use native.Mathlib.Omega.{arith}
 use Rattle.machine.specs.declared.Machine.{Machine}
 use Rattle.machine.specs.declared.Checked.the-variants.{Accepted}
 use Rattle.tables.specs.WellFormed.{Bytes}
-use Rattle.sim.specs.declared.StopRule.the-variants as Rule
-use Rattle.sim.specs.Engine.{task}
+use Rattle.course.specs.declared.StopRule.the-variants as Rule
+use Rattle.course.specs.Task.{task}
 use Rattle.rle.specs.Engine.{Conf, runOf}
 use Rattle.rle.specs.Turns.{SameSizes}
 use Rattle.rle.specs.Fits.{engineCheck}

@@ -3,10 +3,10 @@
 pub mod bytes;
 pub mod held;
 
+use course::StopRule;
 use machine::Machine;
 use outcome::Outcome;
 use rle::ChainSim;
-use sim::StopRule;
 use slots::inner as little;
 use stacks::inner as stack;
 use times::inner::is_spent;
@@ -34,7 +34,7 @@ pub enum Found {
     Holds(ChainSim),
 }
 
-// Runs without the never test; where the fuel is used, a run without fuel makes that test and gives the verdict.
+// Runs without the never test; where the fuel is used, that test gives the verdict, as a run without fuel would.
 pub fn advance(
     sim: ChainSim,
     m: Machine,
@@ -69,11 +69,9 @@ pub fn advance(
             outcome,
         };
     }
-    let told = after.run_all(m, stride, true, StopRule::Never, table, ls, ll, rs, rl, 0);
-    let stood = told.sim;
-    let verdict = told.outcome;
+    let verdict = after.verdict(m, stride, table);
     Advanced {
-        sim: stood,
+        sim: after,
         outcome: verdict,
     }
 }

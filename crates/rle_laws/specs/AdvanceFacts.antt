@@ -13,8 +13,8 @@ use Rattle.machine.specs.declared.Machine.{Machine}
 use Rattle.turing.specs.TableMachine.{run, Verdict, halts}
 use Rattle.turing.specs.Tables.{tableOf, TableOf}
 use Rattle.turing.specs.RunFacts.{run-suc}
-use Rattle.sim.specs.declared.StopRule.the-variants as Rule
-use Rattle.sim.specs.Engine.{Task, task, matches}
+use Rattle.course.specs.declared.StopRule.the-variants as Rule
+use Rattle.course.specs.Task.{Task, task, matches}
 use Rattle.rle.specs.Engine.{Conf, End, runOf}
 use Rattle.rle_refines.specs.Meaning.{configOf, ChainFits}
 use Rattle.rle_refines.specs.Statement.{after, FullAfter, Kept, Answers, verdict, halted, spent, stopped, full, Refines}

@@ -12,7 +12,7 @@ use Rattle.turing.specs.TableMachine.{Config, entry, Halted, haltedAt, outOfFue
 use Rattle.turing.specs.Tables.{TableOf}
 use Rattle.turing.specs.RunFacts.{not-defined}
 use Rattle.turing.specs.VerdictFacts.{verdict-unique}
-use Rattle.sim.specs.Engine.{Task}
+use Rattle.course.specs.Task.{Task}
 use Rattle.rle.specs.Engine.{Conf, End, runOf}
 use Rattle.rle_refines.specs.Meaning.{configOf, ChainFits, Alike}
 use Rattle.rle_refines.specs.Statement.{tableIn, after, Judged, Unproved, hasRule, isFull, Went, Answers, verdict, halted, spent, stopped, full, Refines}

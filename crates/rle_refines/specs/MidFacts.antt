@@ -14,7 +14,7 @@ use Rattle.machine.specs.declared.Entry.the-variants.{Defined}
 use Rattle.tables.specs.WellFormed.{ActionOf}
 use Rattle.turing.specs.TableMachine.{Config, readT, entry, run, Stays, Sideways, Walks, outOfFuelAt, goes}
 use Rattle.turing.specs.Tables.{TableOf}
-use Rattle.sim.specs.Engine.{Task, matches}
+use Rattle.course.specs.Task.{Task, matches}
 use Rattle.stacks.specs.Sides.{topOf, lacks}
 use Rattle.rle.specs.Engine.{Conf, leftOf, rightOf, carryOf, fullFor, noPlace, leapTo, leapOf, Leap}
 use Rattle.rle_refines.specs.Meaning.{Stack, stackOf, Stream, blanks, tail, prepend, stream, streamOf, configOf, ChainFits}

@@ -20,9 +20,9 @@ use Rattle.machine.specs.WordFacts.{word-says}
 use Rattle.tables.specs.WellFormed.{Bytes}
 use Rattle.turing.specs.TableMachine.{run, Halted}
 use Rattle.turing.specs.Tables.{tableOf}
-use Rattle.sim.specs.declared.StopRule.{StopRule}
-use Rattle.sim.specs.declared.Answer.the-variants as Ans
-use Rattle.sim.specs.Engine.{task}
+use Rattle.course.specs.declared.StopRule.{StopRule}
+use Rattle.course.specs.declared.Answer.the-variants as Ans
+use Rattle.course.specs.Task.{task}
 use Rattle.stacks.specs.Sides.{Side, side, placesOf}
 use Rattle.stacks.specs.SideFacts.{SameLengths, same-places}
 use Rattle.rle.specs.declared.ChainSim.{ChainSim}

@@ -8,8 +8,8 @@ use Rattle.outcome.specs.declared.Outcome.{Outcome}
 use Rattle.machine.specs.declared.Machine.{Machine}
 use Rattle.machine.specs.declared.Checked.the-variants.{Accepted}
 use Rattle.turing.specs.TableMachine.{start}
-use Rattle.sim.specs.declared.StopRule.{StopRule}
-use Rattle.sim.specs.Engine.{task}
+use Rattle.course.specs.declared.StopRule.{StopRule}
+use Rattle.course.specs.Task.{task}
 use Rattle.rle.specs.Engine.{Conf, end}
 use Rattle.rle.specs.Fits.{engineCheck}
 use Rattle.rle_refines.specs.Meaning.{configOf, ChainFits}

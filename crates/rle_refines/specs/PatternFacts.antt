@@ -16,7 +16,7 @@ use Rattle.machine.specs.declared.Machine.{Machine}
 use Rattle.machine.specs.declared.Action.{Action}
 use Rattle.tables.specs.WellFormed.{ActionOf}
 use Rattle.turing.specs.TableMachine.{Stays, Sideways, Beyond, Walks}
-use Rattle.sim.specs.Engine.{Task}
+use Rattle.course.specs.Task.{Task}
 use Rattle.rle.specs.Engine.{Conf, leftOf, rightOf, loopsFor, loopsOf}
 use Rattle.rle_refines.specs.Meaning.{empty, stackUpto, stackOf, blanks, stream, streamOf, tapeOf, configOf, RunsFit, ChainFits}
 use Rattle.rle_refines.specs.StackFacts.{empty-of-blank}

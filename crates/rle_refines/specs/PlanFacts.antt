@@ -17,7 +17,8 @@ use Rattle.machine.specs.declared.Entry.the-variants.{Undefined, Defined}
 use Rattle.tables.specs.WellFormed.{ActionOf}
 use Rattle.turing.specs.TableMachine.{entry, Halted, haltedAt, Walks, stays, walks, goes}
 use Rattle.turing.specs.Tables.{tableOf, TableOf}
-use Rattle.sim.specs.Engine.{Task, entryOf, matches}
+use Rattle.before.specs.Look.{entryOf}
+use Rattle.course.specs.Task.{Task, matches}
 use Rattle.spans.specs.Leaps.{timesFor}
 use Rattle.rle.specs.declared.inner.Turn.{Turn}
 use Rattle.rle.specs.Engine.{Conf, leftOf, rightOf, proofOf, chainFor, fueledOf, provedOf, turnOn, turnOf, planBy, planOf, Plan, Stop, Go}

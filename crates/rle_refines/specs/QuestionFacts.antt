@@ -20,10 +20,10 @@ use Rattle.machine.specs.declared.Checked.the-variants.{Accepted, Refused}
 use Rattle.tape.specs.declared.Span.{Span}
 use Rattle.tape.specs.declared.Span.the-variants.{Empty}
 use Rattle.tape.specs.Answers.{Spans, no-cells, range}
-use Rattle.sim.specs.declared.questions.Got.the-variants as Got
-use Rattle.sim.specs.declared.questions.Extent.the-variants as Extent
-use Rattle.sim.specs.declared.questions.Counted.the-variants as Counted
-use Rattle.sim.specs.Questions.{askedOn}
+use Rattle.course.specs.declared.questions.Got.the-variants as Got
+use Rattle.course.specs.declared.questions.Extent.the-variants as Extent
+use Rattle.course.specs.declared.questions.Counted.the-variants as Counted
+use Rattle.course.specs.Answers.{askedOn}
 use Rattle.rle.specs.Engine.{Conf, rightOf}
 use Rattle.rle.specs.Fits.{engineCheck}
 use Rattle.rle.specs.Questions.{raisedCell, windowCell, windowFrom, windowOn, windowAll, blankTape, spanOf, getAnswer, extentAnswer, countAnswer, windowInto}

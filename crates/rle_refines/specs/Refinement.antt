@@ -13,7 +13,7 @@ use Rattle.turing.specs.TableMachine.{Config, entry, run, halts, Halted}
 use Rattle.turing.specs.Tables.{TableOf}
 use Rattle.turing.specs.RunFacts.{not-defined, run-add}
 use Rattle.turing.specs.TableFacts.{accepted-table}
-use Rattle.sim.specs.Engine.{Task, task}
+use Rattle.course.specs.Task.{Task, task}
 use Rattle.rle.specs.Engine.{Conf, leapOf, End, end, onPlan, runWithin, runOf, Leap, Plan, Stop}
 use Rattle.rle_refines.specs.Meaning.{configOf, ChainFits}
 use Rattle.rle_refines.specs.Statement.{tableIn, after, Unproved, hasRule, isFull, Kept, Went, Answers, verdict, halted, spent, stopped, full, Refines, ChainRefines}

@@ -20,8 +20,8 @@ use Rattle.turing.specs.VerdictFacts.{verdict-unique}
 use Rattle.turing.specs.TapeFacts.{Bare}
 use Rattle.turing.specs.NeverFacts.{never-sound-bare}
 use Rattle.turing.specs.TableFacts.{accepted-table}
-use Rattle.sim.specs.declared.StopRule.{StopRule}
-use Rattle.sim.specs.Engine.{Task, task}
+use Rattle.course.specs.declared.StopRule.{StopRule}
+use Rattle.course.specs.Task.{Task, task}
 use Rattle.rle.specs.Engine.{Conf, leapOf, End, end, onPlan, runWithin, runOf, Plan, Stop}
 use Rattle.rle_refines.specs.Meaning.{configOf, ChainFits}
 use Rattle.rle_refines.specs.Statement.{tableIn, Judged, Answers, verdict, Refines}

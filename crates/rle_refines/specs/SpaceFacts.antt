@@ -13,7 +13,7 @@ use Rattle.outcome.specs.declared.Outcome.the-variants.{Full}
 use Rattle.turing.specs.TableMachine.{Halted}
 use Rattle.turing.specs.Tables.{TableOf}
 use Rattle.turing.specs.RunFacts.{not-defined, run-past}
-use Rattle.sim.specs.Engine.{Task, matches}
+use Rattle.course.specs.Task.{Task, matches}
 use Rattle.rle.specs.Engine.{Conf, End, runOf}
 use Rattle.rle_refines.specs.Meaning.{configOf, ChainFits}
 use Rattle.rle_refines.specs.Statement.{tableIn, after, FullAfter, FullWithin, Kept, Answers, verdict, halted, spent, stopped, full, Refines}

@@ -15,8 +15,8 @@ use Rattle.machine.specs.Check.{tableCheck}
 use Rattle.tables.specs.WellFormed.{Bytes}
 use Rattle.turing.specs.TableMachine.{Table, Config, entry, run, Halted, haltedAt, outOfFuelAt, Verdict}
 use Rattle.turing.specs.Tables.{tableOf}
-use Rattle.sim.specs.declared.StopRule.{StopRule}
-use Rattle.sim.specs.Engine.{Task, task, matches}
+use Rattle.course.specs.declared.StopRule.{StopRule}
+use Rattle.course.specs.Task.{Task, task, matches}
 use Rattle.stacks.specs.Sides.{placesOf}
 use Rattle.rle.specs.Engine.{Conf, noPlace, End, runOf}
 use Rattle.rle_refines.specs.Meaning.{configOf, ChainFits}

@@ -17,7 +17,7 @@ use Rattle.machine.specs.declared.Checked.the-variants.{Accepted}
 use Rattle.tables.specs.WellFormed.{Bytes}
 use Rattle.rle.specs.declared.ChainSim.{ChainSim}
 use Rattle.rle.specs.Engine.{Conf, conf}
-use Rattle.sim.specs.Operations.{stepsMost, fuelFits}
+use Rattle.before.specs.Sizes.{stepsMost, fuelFits}
 use Rattle.rle.specs.Fits.{sideFits, chainFits, placesFit, engineCheck, runCheck}
 use Rattle.rle.specs.OperationCases.{engine-says}
 use Rattle.times.specs.declared.Times.{Times}

@@ -7,8 +7,8 @@ use Rattle.outcome.specs.declared.Outcome.{Outcome}
 use Rattle.machine.specs.declared.Machine.{Machine}
 use Rattle.machine.specs.declared.Checked.the-variants.{Accepted}
 use Rattle.rle.specs.declared.ChainSim.{ChainSim}
-use Rattle.sim.specs.declared.Answer.{Answer}
-use Rattle.sim.specs.declared.Answer.the-variants as Ans
+use Rattle.course.specs.declared.Answer.{Answer}
+use Rattle.course.specs.declared.Answer.the-variants as Ans
 use Rattle.rle.specs.Engine.{Conf, conf}
 use Rattle.rle.specs.Fits.{engineCheck}
 use Rattle.times.specs.declared.Times.{Times}

@@ -1,10 +1,10 @@
 // A timeline over the run-length engine: seek, forward and back over slots in a lent store.
+use course::Answer;
 use machine::Checked;
 use machine::Machine;
 use outcome::Refusal;
 use rle::ChainSim;
 use rle_engine::inner as engine;
-use sim::Answer;
 use times::Times;
 use times::inner as sums;
 ghost use mathlib.Core.Path.{_≡_};

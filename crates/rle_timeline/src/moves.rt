@@ -1,11 +1,11 @@
 // Where an accepted call goes: on from where the engine stands, back to a slot and on from there, or nowhere.
 use super::Answered;
 use super::Timeline;
+use course::Answer;
 use machine::Machine;
 use outcome::Refusal;
 use rle_engine::inner as engine;
 use rle_engine::inner::Found;
-use sim::Answer;
 use times::Times;
 ghost use mathlib.Core.Path.{_≡_};
 ghost use Rattle.rle.specs.Engine.{conf};

@@ -19,8 +19,8 @@ use Rattle.tape.specs.Moves.{held}
 use Rattle.tape.specs.Questions.{countOf}
 use Rattle.tape.specs.Fits.{TapeOk}
 use Rattle.sim.specs.declared.Simulator.{Simulator}
-use Rattle.sim.specs.declared.Answer.{Answer}
-use Rattle.sim.specs.declared.Answer.the-variants as Ans
+use Rattle.course.specs.declared.Answer.{Answer}
+use Rattle.course.specs.declared.Answer.the-variants as Ans
 use Rattle.sim.specs.Operations.{engineCheck}
 use Rattle.times.specs.Timeline.{Reply, answered, seek}
 use Rattle.times.specs.Kind.{WorldOf, callOn}

@@ -10,8 +10,8 @@ use Rattle.machine.specs.declared.Machine.{Machine}
 use Rattle.tape.specs.Moves.{held}
 use Rattle.tape.specs.Questions.{countOf}
 use Rattle.sim.specs.declared.Simulator.{Simulator}
-use Rattle.sim.specs.declared.Answer.{Answer}
-use Rattle.sim.specs.declared.Answer.the-variants as Ans
+use Rattle.course.specs.declared.Answer.{Answer}
+use Rattle.course.specs.declared.Answer.the-variants as Ans
 use Rattle.times.specs.Timeline.{Reply, refused, answered, Call}
 use Rattle.times.specs.Kind.{WorldOf, callOn}
 use Rattle.sim_engine.specs.Kind.{plainKind}

@@ -10,10 +10,10 @@ use Rattle.machine.specs.declared.Machine.{Machine}
 use Rattle.machine.specs.declared.Checked.{Checked}
 use Rattle.machine.specs.declared.Checked.the-variants.{Accepted, Refused}
 use Rattle.sim.specs.declared.Simulator.{Simulator}
-use Rattle.sim.specs.declared.StopRule.{StopRule}
-use Rattle.sim.specs.declared.StopRule.the-variants as Rule
-use Rattle.sim.specs.declared.Answer.{Answer}
-use Rattle.sim.specs.declared.Answer.the-variants as Ans
+use Rattle.course.specs.declared.StopRule.{StopRule}
+use Rattle.course.specs.declared.StopRule.the-variants as Rule
+use Rattle.course.specs.declared.Answer.{Answer}
+use Rattle.course.specs.declared.Answer.the-variants as Ans
 use Rattle.sim.specs.declared.StepAnswer.{StepAnswer}
 use Rattle.sim.specs.declared.StepAnswer.the-variants as StepAns
 use Rattle.course.specs.AnswerCases.{stays-refused, gives-accepted}

@@ -3,10 +3,8 @@
 use mathlib.Core.Bool.{Bool, false}
 use mathlib.Core.List.{List}
 use Prim.Native.Nat.{ℕ, _+_}
-use lib.Dec.{eqb}
 use lib.ListN.{length}
 use Rattle.laws.specs.Choice.{pick}
-use Rattle.symbol.specs.declared.State.{State}
 use Rattle.outcome.specs.declared.NonHaltProof.{NonHaltProof}
 use Rattle.outcome.specs.declared.Outcome.{Outcome}
 use Rattle.outcome.specs.declared.Outcome.the-variants.{Halted, OutOfFuel, NeverHalts, Stopped, Full}
@@ -16,26 +14,14 @@ use Rattle.machine.specs.declared.Machine.{Machine}
 use Rattle.machine.specs.declared.Action.{Action}
 use Rattle.tape.specs.Moves.{Held, held, actOf}
 use Rattle.sim.specs.declared.Simulator.{Simulator}
-use Rattle.sim.specs.declared.StopRule.{StopRule}
-use Rattle.sim.specs.declared.StopRule.the-variants as Rule
 use Rattle.before.specs.declared.inner.look.Look.{Look}
 use Rattle.before.specs.Look.{lookAt}
 pub use Rattle.before.specs.Look.{onLook}
 unfoldable pub use Rattle.before.specs.Look.{stays, staysAll, loopOf, judgeOf, lookOn, entryOf, roomsOf}
+pub use Rattle.course.specs.Task.{Task, task}
+unfoldable pub use Rattle.course.specs.Task.{matches}
 pub use Rattle.course.specs.Run.{Steps}
 unfoldable pub use Rattle.course.specs.Run.{runWith}
-
--- ---- what stays the same through a run
-
-pub record Task : Type 0 where
-  pub machine : Machine
-  pub table : List ℕ
-  -- whether the never test is made
-  pub proves : Bool
-  pub rule : StopRule
-
-abbrev pub task : Machine → List ℕ → Bool → StopRule → Task
-task m s p r = record { machine = m; table = s; proves = p; rule = r }
 
 -- ---- the engine's value with its three buffers
 
@@ -95,10 +81,6 @@ pub record End : Type 0 where
 
 abbrev pub end : Conf → Outcome → End
 end σ o = record { at = σ; outcome = o }
-
-unfoldable pub matches : StopRule → State → Bool
-matches Rule.Never q = false
-matches (Rule.From p) q = eqb (p .0) (q .0)
 
 abbrev pub haltedEnd : Conf → End
 haltedEnd σ = end σ (Halted (σ .sim .steps) (σ .sim .state))

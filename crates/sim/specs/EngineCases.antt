@@ -13,7 +13,7 @@ use Rattle.machine.specs.declared.Action.{Action}
 use Rattle.tape.specs.declared.Tape.{Tape}
 use Rattle.tape.specs.Moves.{held, roomFor, actOf}
 use Rattle.sim.specs.declared.Simulator.{Simulator}
-use Rattle.sim.specs.declared.StopRule.the-variants as Rule
+use Rattle.course.specs.declared.StopRule.the-variants as Rule
 pub use Rattle.before.specs.LookCases.{entry-is}
 use Rattle.before.specs.declared.inner.look.Look.{Look}
 use Rattle.course.specs.RunCases as Course

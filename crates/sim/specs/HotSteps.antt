@@ -21,7 +21,7 @@ use Rattle.burst.specs.Burst.{Says, Calm, unasked, goes-on, rewrites, reads-one
 use Rattle.before.specs.declared.inner.look.Look.the-variants.{Go}
 use Rattle.before.specs.LookCases.{judge-off, look-judged}
 use Rattle.sim.specs.declared.Simulator.{Simulator}
-use Rattle.sim.specs.declared.StopRule.{StopRule}
+use Rattle.course.specs.declared.StopRule.{StopRule}
 use Rattle.sim.specs.Engine.{Task, task, Conf, conf, tape0, tape1, tape2, staysAll, judgeOf, lookWith, lookOf, roomsOf, roomyOf, stepOf, runOf}
 use Rattle.sim.specs.EngineCases.{stepped, run-next}
 use Rattle.sim.specs.Runs.{Misses, into, May}

@@ -18,13 +18,13 @@ use Rattle.machine.specs.declared.Checked.the-variants.{Accepted, Refused}
 use Rattle.machine.specs.Layout.{strideOf}
 use Rattle.machine.specs.Check.{tableCheck}
 use Rattle.machine.specs.Packing.{wordAt}
-use Rattle.machine.specs.CheckFacts.{demand-says, Ranges, ranges}
+use Rattle.machine.specs.CheckFacts.{demand-says, on-says, Ranges, ranges}
 use Rattle.tape.specs.declared.Tape.{Tape}
 use Rattle.tape.specs.Moves.{held, noTape, freshOf}
 use Rattle.tape.specs.Fits.{TapeSafe, tapeFits}
 use Rattle.tape.specs.MoveFacts.{fits-safe, none-safe}
-use Rattle.before.specs.SizesCases.{words-say}
-pub use Rattle.before.specs.SizesCases.{on-says, FreshPassed, fresh-says}
+use Rattle.before.specs.SizesCases.{words-say, fuel-says}
+pub use Rattle.before.specs.SizesCases.{FreshPassed, fresh-says}
 use Rattle.burst.specs.Words.{WordsOk}
 use Rattle.sim.specs.declared.Simulator.{Simulator}
 use Rattle.sim.specs.declared.Fresh.the-variants as New
@@ -143,12 +143,6 @@ bare-look m s σ stride p e l =
       safe1 = bare-safe (has1 m) (m .symbols) (σ .sim .t1) (σ .c1) (f2 .0) (z1 .0);
       safe2 = bare-safe (has2 m) (m .symbols) (σ .sim .t2) (σ .c2) (f2 .1) (z1 .1);
     }
-
-pub fuel-says : (steps fuel : ℕ) → fuelFits steps fuel ≡ true → steps + fuel ≤ 4611686018427387904
-unfolding fuelFits
-fuel-says steps fuel e =
-    let p = both-split e in
-    omega (arith, leb-true fuel stepsMost (p .0), leb-true steps (stepsMost - fuel) (p .1))
 
 pub run-says : (m : Machine) (s : List ℕ) (fuel : ℕ) (σ : Conf) → runCheck m s fuel σ ≡ Accepted → Passed m s σ × (σ .sim .steps + fuel ≤ 4611686018427387904)
 unfolding runCheck fuelCheck

@@ -17,9 +17,9 @@ pub use Rattle.before.specs.Sizes.{has1, has2, ifHas, cellsMost, stepsMost, bla
 unfoldable pub use Rattle.before.specs.Sizes.{sizesFit, fuelFits, wordsRight, freshSizes, freshCheck}
 use Rattle.course.specs.Answers.{answered}
 use Rattle.sim.specs.declared.Simulator.{Simulator}
-use Rattle.sim.specs.declared.StopRule.{StopRule}
-use Rattle.sim.specs.declared.Answer.{Answer}
-use Rattle.sim.specs.declared.Answer.the-variants as Ans
+use Rattle.course.specs.declared.StopRule.{StopRule}
+use Rattle.course.specs.declared.Answer.{Answer}
+use Rattle.course.specs.declared.Answer.the-variants as Ans
 use Rattle.sim.specs.declared.StepAnswer.{StepAnswer}
 use Rattle.sim.specs.declared.StepAnswer.the-variants as StepAns
 use Rattle.sim.specs.declared.Fresh.{Fresh}

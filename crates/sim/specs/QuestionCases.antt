@@ -17,7 +17,7 @@ use Rattle.outcome.specs.declared.Refusal.the-variants as Why
 use Rattle.machine.specs.declared.Machine.{Machine}
 use Rattle.machine.specs.declared.Checked.{Checked}
 use Rattle.machine.specs.declared.Checked.the-variants.{Accepted, Refused}
-use Rattle.machine.specs.CheckFacts.{demand-says, Ranges, ranges}
+use Rattle.machine.specs.CheckFacts.{demand-says, on-says, Ranges, ranges}
 use Rattle.tape.specs.declared.Tape.{Tape}
 use Rattle.tape.specs.declared.Span.{Span}
 use Rattle.tape.specs.declared.Spot.{Spot}
@@ -25,12 +25,11 @@ use Rattle.tape.specs.Moves.{held}
 use Rattle.tape.specs.Questions.{cellAt, nonBlankOf, countOf, windowOf, findOf}
 use Rattle.tape.specs.Fits.{TapeOk, TapeSafe, tapeFits}
 use Rattle.tape.specs.MoveFacts.{fits-safe}
-use Rattle.before.specs.SizesCases.{on-says}
 use Rattle.sim.specs.declared.Simulator.{Simulator}
-use Rattle.sim.specs.declared.questions.Got.the-variants as Got
-use Rattle.sim.specs.declared.questions.Extent.the-variants as Extent
-use Rattle.sim.specs.declared.questions.Counted.the-variants as Counted
-use Rattle.sim.specs.declared.questions.Located.the-variants as Located
+use Rattle.course.specs.declared.questions.Got.the-variants as Got
+use Rattle.course.specs.declared.questions.Extent.the-variants as Extent
+use Rattle.course.specs.declared.questions.Counted.the-variants as Counted
+use Rattle.course.specs.declared.questions.Located.the-variants as Located
 use Rattle.sim.specs.Engine.{Conf, conf}
 use Rattle.sim.specs.Operations.{cellsMost, ifHas, sizesFit, simFits, engineCheck}
 use Rattle.sim.specs.OperationCases.{Passed, engine-says}

@@ -16,14 +16,15 @@ use Rattle.tape.specs.declared.Tape.{Tape}
 use Rattle.tape.specs.Moves.{Held, held}
 use Rattle.tape.specs.Questions.{cellOf, nonBlankOf, countOf, windowOf, findOf}
 use Rattle.sim.specs.declared.Simulator.{Simulator}
-use Rattle.sim.specs.declared.questions.Got.{Got}
-use Rattle.sim.specs.declared.questions.Got.the-variants as Got
-use Rattle.sim.specs.declared.questions.Extent.{Extent}
-use Rattle.sim.specs.declared.questions.Extent.the-variants as Extent
-use Rattle.sim.specs.declared.questions.Counted.{Counted}
-use Rattle.sim.specs.declared.questions.Counted.the-variants as Counted
-use Rattle.sim.specs.declared.questions.Located.{Located}
-use Rattle.sim.specs.declared.questions.Located.the-variants as Located
+pub use Rattle.course.specs.Answers.{askedOn}
+use Rattle.course.specs.declared.questions.Got.{Got}
+use Rattle.course.specs.declared.questions.Got.the-variants as Got
+use Rattle.course.specs.declared.questions.Extent.{Extent}
+use Rattle.course.specs.declared.questions.Extent.the-variants as Extent
+use Rattle.course.specs.declared.questions.Counted.{Counted}
+use Rattle.course.specs.declared.questions.Counted.the-variants as Counted
+use Rattle.course.specs.declared.questions.Located.{Located}
+use Rattle.course.specs.declared.questions.Located.the-variants as Located
 use Rattle.sim.specs.Engine.{Conf}
 use Rattle.sim.specs.Operations.{engineCheck}
 
@@ -42,10 +43,6 @@ heldAt i σ = held (tapeAt i (σ .sim)) (cellsAt i (σ .c0) (σ .c1) (σ .c2))
 
 unfoldable pub questionCheck : Machine → List ℕ → ℕ → Conf → Checked
 questionCheck m s i σ = checkedOn (engineCheck m s σ) (demand (ltb i (m .tapes)) Why.Misfit Accepted)
-
-abbrev pub askedOn : {A : Type 0} → Checked → (Refusal → A) → A → A
-askedOn (Refused why) refused answer = refused why
-askedOn Accepted refused answer = answer
 
 unfoldable pub getAnswer : Machine → List ℕ → ℕ → ℤ → Conf → Got
 getAnswer m s i z σ = askedOn (questionCheck m s i σ) Got.Refused (Got.Found (symbolOf (cellOf (heldAt i σ) z)))

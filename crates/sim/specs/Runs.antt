@@ -13,7 +13,7 @@ use Rattle.burst.specs.declared.inner.hot.Hot.{Hot}
 use Rattle.burst.specs.Words.{WordsOk}
 use Rattle.several.specs.declared.inner.Wide.{Wide}
 use Rattle.sim.specs.declared.Simulator.{Simulator}
-use Rattle.sim.specs.declared.StopRule.{StopRule}
+use Rattle.course.specs.declared.StopRule.{StopRule}
 use Rattle.sim.specs.Engine.{task, Conf, conf, matches, runOf}
 use Rattle.sim.specs.Operations.{runCheck}
 use Rattle.sim.specs.Turns.{RunOk}

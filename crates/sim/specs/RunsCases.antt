@@ -10,8 +10,8 @@ use Rattle.symbol.specs.declared.State.{State}
 use Rattle.machine.specs.declared.Machine.{Machine}
 use Rattle.tape.specs.Fits.{TapeOk, TapeSafe}
 use Rattle.sim.specs.declared.Simulator.{Simulator}
-use Rattle.sim.specs.declared.StopRule.{StopRule}
-use Rattle.sim.specs.declared.StopRule.the-variants as Rule
+use Rattle.course.specs.declared.StopRule.{StopRule}
+use Rattle.course.specs.declared.StopRule.the-variants as Rule
 use Rattle.burst.specs.declared.inner.hot.Hot.{Hot}
 use Rattle.burst.specs.Burst.{HotOk, Reached}
 use Rattle.burst.specs.Words.{Packs}

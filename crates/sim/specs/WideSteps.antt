@@ -22,7 +22,7 @@ use Rattle.before.specs.LookCases.{look-judged}
 use Rattle.several.specs.declared.inner.Wide.{Wide}
 use Rattle.several.specs.Several.{Moving, SafeAll, Beat, Walk, here, more, Carried}
 use Rattle.sim.specs.declared.Simulator.{Simulator}
-use Rattle.sim.specs.declared.StopRule.{StopRule}
+use Rattle.course.specs.declared.StopRule.{StopRule}
 use Rattle.sim.specs.Engine.{Task, task, Conf, conf, tape0, tape1, tape2, lookWith, lookOf, roomsOf, roomyOf, stepOf, runOf}
 use Rattle.sim.specs.EngineCases.{stepped, run-next}
 use Rattle.sim.specs.Turns.{RunOk}

@@ -7,27 +7,12 @@ use before::inner::look::Choice;
 use machine::Action;
 use machine::Checked;
 use machine::Machine;
-use symbol::State;
 ghost use mathlib.Core.Path.{_≡_};
 ghost use Prim.Native.Nat.{_+_};
-ghost use Rattle.sim.specs.Engine.{conf, matches, stepOf};
+ghost use Rattle.sim.specs.Engine.{conf, stepOf};
 ghost use Rattle.machine.specs.declared.Checked.the-variants.{Accepted};
 ghost use Rattle.sim.specs.Operations.{given, answerOf, runCheck};
 ghost use Rattle.sim.specs.Turns.{choiceOf, LookOk, StepOk};
-
-// Whether a run's stop rule has this state.
-pub fn matches(rule: StopRule, q: State) -> bool
-    ensures { λ r. ⌜ r ≡ matches rule q ⌝ }
-{
-    match rule {
-        StopRule::Never => {
-            return false;
-        }
-        StopRule::From(p) => {
-            return p.0 == q.0;
-        }
-    }
-}
 
 impl Simulator {
     // Halted, never, fuel, space, in that order, before each step of a run.

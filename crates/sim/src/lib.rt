@@ -1,5 +1,7 @@
 // The plain engine: one step at a time on dense tapes, one to three of them.
 use before::inner::sizes;
+pub use course::Answer;
+pub use course::StopRule;
 use machine::Checked;
 use machine::Machine;
 use outcome::Outcome;
@@ -25,18 +27,6 @@ pub struct Simulator {
     pub t0: Tape,
     pub t1: Tape,
     pub t2: Tape,
-}
-
-// When a run stops besides: never, or after a step that left this state.
-pub enum StopRule {
-    Never,
-    From(State),
-}
-
-// How a run ended, or why it was refused.
-pub enum Answer {
-    Done(Outcome),
-    Refused(Refusal),
 }
 
 // The engine handed back, with the answer.

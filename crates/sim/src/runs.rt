@@ -3,7 +3,6 @@ use super::Answer;
 use super::Answered;
 use super::Simulator;
 use super::StopRule;
-use super::inner;
 use before::inner::look::Choice;
 use burst::inner::hot::Hot;
 use burst::inner::packed;
@@ -272,7 +271,7 @@ impl Simulator {
                 }
                 Choice::Go(a) => {
                     let next = at.advance(c0, c1, c2, a);
-                    if inner::matches(rule, at.state) {
+                    if course::inner::matches(rule, at.state) {
                         return stopped(next);
                     }
                     sim = next;

@@ -4,7 +4,7 @@ use mathlib.Core.List.{List}
 use Prim.Native.Nat.{ℕ}
 use Rattle.outcome.specs.declared.Outcome.{Outcome}
 use Rattle.machine.specs.declared.Machine.{Machine}
-use Rattle.sim.specs.declared.StopRule.the-variants as Rule
+use Rattle.course.specs.declared.StopRule.the-variants as Rule
 use Rattle.sim.specs.Engine.{Conf, End, end, task, runOf}
 use Rattle.sim.specs.Operations.{bareOf, backOf}
 use Rattle.times.specs.Kind.{verdictOr}

@@ -8,8 +8,8 @@ use Rattle.outcome.specs.declared.Outcome.{Outcome}
 use Rattle.machine.specs.declared.Machine.{Machine}
 use Rattle.machine.specs.declared.Checked.the-variants.{Accepted}
 use Rattle.sim.specs.declared.Simulator.{Simulator}
-use Rattle.sim.specs.declared.StopRule.the-variants as Rule
-use Rattle.sim.specs.declared.Answer.{Answer}
+use Rattle.course.specs.declared.StopRule.the-variants as Rule
+use Rattle.course.specs.declared.Answer.{Answer}
 use Rattle.sim.specs.Engine.{Conf, conf}
 use Rattle.sim.specs.Operations.{runCheck, Given, given, answerOf}
 use Rattle.sim.specs.OperationCases.{run-says}

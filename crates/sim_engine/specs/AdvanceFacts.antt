@@ -15,7 +15,7 @@ use Rattle.tape.specs.Moves.{noTape}
 use Rattle.tape.specs.Fits.{tapeFits}
 use Rattle.before.specs.declared.inner.look.Look.{Look}
 use Rattle.before.specs.declared.inner.look.Look.the-variants.{Halt, Never, Go}
-use Rattle.sim.specs.declared.StopRule.the-variants as Rule
+use Rattle.course.specs.declared.StopRule.the-variants as Rule
 use Rattle.sim.specs.Engine.{Task, task, Conf, conf, onLook, haltedEnd, neverEnd, fuelEnd, lookOf, runWith, runOf}
 use Rattle.sim.specs.Operations.{has1, has2, stepsMost, sizesFit, bareSim, bareOf, handBack, backOf, valueCheck, engineCheck, fuelFits, fuelCheck, runCheck}
 use Rattle.sim.specs.OperationCases.{Passed, engine-says}

@@ -11,8 +11,8 @@ use Rattle.machine.specs.declared.Machine.{Machine}
 use Rattle.tape.specs.declared.Tape.{Tape}
 use Rattle.tape.specs.Moves.{Held}
 use Rattle.sim.specs.declared.Simulator.{Simulator}
-use Rattle.sim.specs.declared.Answer.{Answer}
-use Rattle.sim.specs.declared.Answer.the-variants as Ans
+use Rattle.course.specs.declared.Answer.{Answer}
+use Rattle.course.specs.declared.Answer.the-variants as Ans
 use Rattle.sim.specs.Engine.{Conf}
 use Rattle.sim.specs.Operations.{sizesFit, simFits}
 use Rattle.sim_engine.specs.declared.inner.Found.{Found}

@@ -13,7 +13,7 @@ use Rattle.machine.specs.declared.Action.{Action}
 use Rattle.turing.specs.TableMachine.{Config, Halted, Verdict, halts}
 use Rattle.turing.specs.Tables.{tableOf, TableOf}
 use Rattle.before.specs.declared.inner.look.Look.{Look}
-use Rattle.sim.specs.declared.StopRule.the-variants as Rule
+use Rattle.course.specs.declared.StopRule.the-variants as Rule
 use Rattle.sim.specs.Engine.{Task, task, Conf, End, onLook, matches, haltedEnd, neverEnd, fuelEnd, fullEnd, stoppedEnd, roomyOf, stepOf, runWith, runOf}
 use Rattle.sim.specs.Operations.{bareSim, bareOf, backOf}
 use Rattle.sim.specs.OperationCases.{Passed}

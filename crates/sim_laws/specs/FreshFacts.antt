@@ -10,7 +10,7 @@ use Rattle.laws.specs.Tests.{both-split, both-true, pick-cases}
 use Rattle.machine.specs.declared.Machine.{Machine}
 use Rattle.machine.specs.declared.Checked.the-variants.{Accepted}
 use Rattle.machine.specs.Check.{within, tableCheck}
-use Rattle.machine.specs.CheckFacts.{demand-says}
+use Rattle.machine.specs.CheckFacts.{demand-says, on-says}
 use Rattle.machine.specs.Word.{wordCheck}
 use Rattle.tape.specs.Moves.{Held, held, noTape, freshOf}
 use Rattle.tape.specs.CellFacts.{length-fresh}
@@ -19,7 +19,7 @@ use Rattle.sim.specs.declared.Simulator.{Simulator}
 use Rattle.sim.specs.declared.Fresh.the-variants as New
 use Rattle.sim.specs.Engine.{conf}
 use Rattle.sim.specs.Operations.{has1, has2, ifHas, cellsMost, blankTape, made, Made, newAnswer}
-use Rattle.sim.specs.OperationCases.{Passed, on-says, fresh-says}
+use Rattle.sim.specs.OperationCases.{Passed, fresh-says}
 use Rattle.sim_refines.specs.FreshFacts.{new-accepted, new-fits}
 
 -- the sizes that a fresh engine asks for are within those that every operation asks for

@@ -21,9 +21,9 @@ use Rattle.turing.specs.TableMachine.{Config, run, entry, step, Halted}
 use Rattle.turing.specs.Tables.{tableOf}
 use Rattle.turing.specs.TableFacts.{accepted-table}
 use Rattle.turing.specs.RunFacts.{not-defined, step-act}
-use Rattle.sim.specs.declared.StopRule.{StopRule}
-use Rattle.sim.specs.declared.StopRule.the-variants as Rule
-use Rattle.sim.specs.declared.Answer.the-variants as Ans
+use Rattle.course.specs.declared.StopRule.{StopRule}
+use Rattle.course.specs.declared.StopRule.the-variants as Rule
+use Rattle.course.specs.declared.Answer.the-variants as Ans
 use Rattle.sim.specs.declared.StepAnswer.the-variants as StepAns
 use Rattle.before.specs.declared.inner.look.Look.{Look}
 use Rattle.before.specs.declared.inner.look.Look.the-variants.{Never}

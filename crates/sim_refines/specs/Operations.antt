@@ -11,7 +11,7 @@ use Rattle.machine.specs.declared.Action.{Action}
 use Rattle.machine.specs.declared.Entry.the-variants.{Defined}
 use Rattle.turing.specs.TableMachine.{entry, step, Halted}
 use Rattle.turing.specs.Tables.{tableOf}
-use Rattle.sim.specs.declared.StopRule.{StopRule}
+use Rattle.course.specs.declared.StopRule.{StopRule}
 use Rattle.sim.specs.Engine.{Conf, task, end, roomyOf}
 use Rattle.sim.specs.Operations.{bareOf, simFits}
 use Rattle.sim_refines.specs.Meaning.{configOf}

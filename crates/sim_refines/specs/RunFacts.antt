@@ -22,7 +22,7 @@ use Rattle.turing.specs.RunFacts.{run-add}
 use Rattle.turing.specs.VerdictFacts.{verdict-unique}
 use Rattle.turing.specs.NeverFacts.{never-sound-bare}
 use Rattle.turing.specs.TableFacts.{accepted-table}
-use Rattle.sim.specs.declared.StopRule.{StopRule}
+use Rattle.course.specs.declared.StopRule.{StopRule}
 use Rattle.before.specs.declared.inner.look.Look.{Look}
 use Rattle.before.specs.declared.inner.look.Look.the-variants.{Halt, Never, Go}
 use Rattle.sim.specs.Engine.{Task, task, Conf, End, onLook, matches, haltedEnd, neverEnd, fuelEnd, fullEnd, stoppedEnd, roomyOf, lookOf, stepOf, runWith, runOf}

@@ -16,7 +16,7 @@ use Rattle.machine.specs.Check.{tableCheck}
 use Rattle.tables.specs.WellFormed.{Bytes}
 use Rattle.turing.specs.TableMachine.{Table, Config, entry, run, Halted, haltedAt, outOfFuelAt, Verdict}
 use Rattle.turing.specs.Tables.{tableOf}
-use Rattle.sim.specs.declared.StopRule.{StopRule}
+use Rattle.course.specs.declared.StopRule.{StopRule}
 use Rattle.before.specs.declared.inner.look.Look.{Look}
 use Rattle.before.specs.declared.inner.look.Look.the-variants.{Halt, Never, Go}
 use Rattle.sim.specs.Engine.{Task, task, Conf, End, matches, roomyOf, runOf}

@@ -8,8 +8,8 @@ use Rattle.outcome.specs.declared.Outcome.{Outcome}
 use Rattle.machine.specs.declared.Machine.{Machine}
 use Rattle.machine.specs.declared.Checked.the-variants.{Accepted}
 use Rattle.sim.specs.declared.Simulator.{Simulator}
-use Rattle.sim.specs.declared.Answer.{Answer}
-use Rattle.sim.specs.declared.Answer.the-variants as Ans
+use Rattle.course.specs.declared.Answer.{Answer}
+use Rattle.course.specs.declared.Answer.the-variants as Ans
 use Rattle.sim.specs.Engine.{Conf, conf}
 use Rattle.sim.specs.Operations.{sizesFit, simFits, engineCheck}
 use Rattle.times.specs.declared.Times.{Times}

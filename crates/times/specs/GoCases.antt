@@ -16,7 +16,7 @@ use Rattle.machine.specs.declared.Machine.{Machine}
 use Rattle.machine.specs.declared.Checked.{Checked}
 use Rattle.machine.specs.declared.Checked.the-variants.{Accepted, Refused}
 use Rattle.machine.specs.Check.{checkedOn}
-use Rattle.machine.specs.CheckFacts.{demand-says}
+use Rattle.machine.specs.CheckFacts.{demand-says, on-says}
 use Rattle.slots.specs.Slots.{slotCount, slotOf}
 use Rattle.slots.specs.SlotFacts.{slot-inside, slot-part}
 use Rattle.times.specs.declared.Times.{Times}
@@ -106,10 +106,6 @@ module _ (X : Kind) (m : Machine) (s : List ℕ) (size : ℕ) where
     pub times : timesOk (w .times) (X .now (w .engine)) ≡ true
     pub room : w .times .most < slotCount size (w .store)
     pub top : t ≤ limit
-
-  pub on-says : (c rest : Checked) → checkedOn c rest ≡ Accepted → (c ≡ Accepted) × (rest ≡ Accepted)
-  on-says Accepted rest h = (refl, h)
-  on-says (Refused why) rest h = let z : _≡_ {A = ℕ} 0 1 = cc in absurd (omega arith)
 
   pub call-says : (t : ℕ) (w : WorldOf X) → callCheck O w t ≡ Accepted → Passed t w
   unfolding callCheck

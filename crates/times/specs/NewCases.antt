@@ -9,13 +9,12 @@ use Rattle.outcome.specs.declared.Refusal.{Refusal}
 use Rattle.machine.specs.declared.Machine.{Machine}
 use Rattle.machine.specs.declared.Checked.{Checked}
 use Rattle.machine.specs.declared.Checked.the-variants.{Accepted, Refused}
-use Rattle.machine.specs.CheckFacts.{demand-says}
+use Rattle.machine.specs.CheckFacts.{demand-says, on-says}
 use Rattle.slots.specs.Slots.{slotCount, slotOf, putSlot}
 use Rattle.slots.specs.SlotFacts.{slot-inside}
 use Rattle.times.specs.Timeline.{Reply, refused, answered, newCheck, born, onNew, new}
 use Rattle.times.specs.Kind.{Kind, WorldOf, opsOf, opsFor, newOn, storeAfter, newWith}
 use Rattle.times.specs.Sound.{worldOf}
-use Rattle.times.specs.GoCases.{on-says}
 
 -- ---- a new timeline
 
@@ -33,7 +32,7 @@ module _ (X : Kind) (m : Machine) (s : List ℕ) (size most every : ℕ) (e : X 
   pub new-inside : r ≡ Accepted → 0 * size + size ≤ length b
   unfolding newCheck
   new-inside z =
-      let a = on-says X m s size (X .check m s e) _ (sym checked ∙ z) in
+      let a = on-says (X .check m s e) _ (sym checked ∙ z) in
       let d = demand-says _ _ _ (demand-says _ _ _ (a .1) .1) in
       slot-inside size 0 b (omega (arith, ltb-true most (slotCount size b) (d .0)))
 
@@ -47,7 +46,7 @@ module _ (X : Kind) (m : Machine) (s : List ℕ) (size most every : ℕ) (e : X 
 module _ (X : Kind) (m : Machine) (s : List ℕ) (most every : ℕ) (e : X .State) (b : List ℕ) (r : Checked) (checked : r ≡ newCheck (opsFor X m s e) most every e b) where
   pub new-passed : r ≡ Accepted → X .check m s e ≡ Accepted
   unfolding newCheck
-  new-passed z = on-says X m s (X .slotSize m e) (X .check m s e) _ (sym checked ∙ z) .0
+  new-passed z = on-says (X .check m s e) _ (sym checked ∙ z) .0
 
   module _ (n : ℕ) (sized : n ≡ X .slotSize m e) (z : r ≡ Accepted) where
     pub new-room : 0 * n + n ≤ length b

@@ -1,5 +1,5 @@
 use native.Mathlib.Omega.{arith}
-use Rattle.sim.specs.Engine.{task}
+use Rattle.course.specs.Task.{task}
 use Rattle.rle.specs.Engine.{conf}
 use Rattle.rle.specs.Turns.{Going}
 use Rattle.rle.specs.RunCases.{going-start, going-ends, going-make, going-full, going-fine, going-counts, going-on}

@@ -1,4 +1,4 @@
-use Rattle.rle_engine.specs.AdvanceCases.{advance-stride, advance-ok, verdict-ok, advance-ends, advance-told}
+use Rattle.rle_engine.specs.AdvanceCases.{advance-stride, advance-ok, advance-ends, advance-told}
 use borrow.Author.Tests.{not-true, not-false}
 use borrow.Author.Needs.{needs}
 use Rattle.rle_engine.proofs.inner.advance.Statement.{statement}
@@ -28,8 +28,8 @@ same-length-4 c = search needs
 returns : tie.Need-returns
 returns c = advance-ends _ _ _ _ _ _ (c .before .before .before .before .before .before .before .before .before .before .before .run-all .ensures) _ (c .before .is-spent .ensures) (not-true _ (c .if1 .taken))
 
-run-all-requires-2 : tie.Need-run-all-requires-2
-run-all-requires-2 c κs = verdict-ok _ _ _ _ _ _ (c .before .before .before .before .before .before .before .before .before .before .before .before .before .before .before .run-all .ensures) _ (advance-ok _ _ _ _ _ (c .before .before .before .before .before .before .before .before .before .before .before .before .before .before .before .before .before .before .before .before .before .before .before .before .before .before .pre) (c .before .before .before .before .before .before .before .before .before .before .before .before .before .before .before .before .before .before .before .before .stride .ensures))
+verdict-requires : tie.Need-verdict-requires
+verdict-requires c κs = advance-ok _ _ _ _ _ (c .before .before .before .before .before .before .before .before .before .before .before .before .before .before .before .before .before .before .before .before .before .before .pre) (c .before .before .before .before .before .before .before .before .before .before .before .before .before .before .before .before .stride .ensures) .table
 
 same-length-5 : tie.Need-same-length-5
 same-length-5 c = search needs
@@ -44,7 +44,7 @@ same-length-8 : tie.Need-same-length-8
 same-length-8 c = search needs
 
 returns-2 : tie.Need-returns-2
-returns-2 c = advance-told _ _ _ _ _ _ (c .before .before .before .before .before .before .before .before .before .before .before .before .before .before .before .before .before .before .before .before .before .before .before .before .before .run-all .ensures) _ (c .before .before .before .before .before .before .before .before .before .before .before .before .before .before .before .is-spent .ensures) _ _ (not-false _ (c .before .before .before .before .before .before .before .before .before .before .before .before .before .before .if1 .left)) (c .before .before .before .before .before .before .before .before .before .run-all2 .ensures)
+returns-2 c = advance-told _ _ _ _ _ _ (c .before .before .before .before .before .before .before .before .before .before .before .before .run-all .ensures) _ (c .before .before .is-spent .ensures) _ (not-false _ (c .before .if1 .left)) (c .verdict .ensures)
 
 pub advance-spec : {M : Type 1} → statement M
 advance-spec =
@@ -58,7 +58,7 @@ advance-spec =
     same-length-3
     same-length-4
     returns
-    run-all-requires-2
+    verdict-requires
     same-length-5
     same-length-6
     same-length-7

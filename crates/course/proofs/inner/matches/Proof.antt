@@ -1,8 +1,8 @@
-use Rattle.sim.specs.Engine.{matches}
+use Rattle.course.specs.Task.{matches}
 use mathlib.Core.Path.{refl}
 use borrow.Author.Needs.{needs}
-use Rattle.sim.proofs.inner.matches.Statement.{statement}
-use Rattle.sim.proofs.inner.matches.Tie as tie
+use Rattle.course.proofs.inner.matches.Statement.{statement}
+use Rattle.course.proofs.inner.matches.Tie as tie
 
 enum-told : tie.Need-enum-told
 enum-told c = search needs
