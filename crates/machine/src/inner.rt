@@ -1,6 +1,7 @@
 // Steps of the operations that the crates above call too.
 use super::Action;
 use super::Entry;
+use super::packed::Packed;
 pub use entries::inner::entry_number;
 pub use entries::inner::stride;
 use symbol::Dir;
@@ -9,8 +10,10 @@ use symbol::Symbol;
 ghost use mathlib.Core.Path.{_≡_};
 ghost use Prim.Native.Nat.{_+_, _*_, _≤_};
 ghost use lib.ListN.{length};
+ghost use Rattle.laws.specs.Fill.{fillFrom};
 ghost use Rattle.symbol.specs.Kinds.{stateOf};
 ghost use Rattle.machine.specs.Layout.{dirOf, actionAt, entryAt};
+ghost use Rattle.machine.specs.Packing.{wordAt};
 
 // The entry of a number; past the table's end there is none.
 pub fn entry_at(table: &[u8], i: usize) -> Entry
@@ -64,4 +67,18 @@ pub fn dir_of(d: u8) -> Dir
         return Dir::R;
     }
     Dir::N
+}
+
+// The words of the table's first `count` entries, into the first places of `out`.
+pub fn pack_entries(table: &[u8], stride: u64, count: u64, out: &mut [u64])
+    requires { ⌜ count ≤ length (now out) ⌝ }
+    ensures { λ _. ⌜ now (out .exit) ≡ fillFrom (wordAt (now (table .entry)) stride) count 0 (now (out .entry)) ⌝ }
+{
+    let mut i: u64 = 0;
+    while i < count {
+        let at = i as usize;
+        let word = Packed::new(entry_at(table, at), stride);
+        out[at] = word.0;
+        i += 1;
+    }
 }

@@ -126,7 +126,7 @@ impl Machine {
                 if (out.len() as u64) < count {
                     return Checked::Refused(Refusal::OutputSize);
                 }
-                packed::pack_entries(table, self.symbols, count, out);
+                inner::pack_entries(table, self.symbols, count, out);
                 return Checked::Accepted;
             }
         }

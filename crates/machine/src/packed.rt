@@ -8,11 +8,8 @@ use symbol::State;
 use symbol::Symbol;
 ghost use mathlib.Core.Path.{_≡_};
 ghost use mathlib.Core.Bool.{not};
-ghost use Prim.Native.Nat.{_≤_};
 ghost use lib.Dec.{eqb};
-ghost use lib.ListN.{length};
-ghost use Rattle.laws.specs.Fill.{fillFrom};
-ghost use Rattle.machine.specs.Packing.{undefinedWord, packWord, wordAt, actionWord, wordDir, wordWrite, wordNext, wordRow, wordAction, wordEntry};
+ghost use Rattle.machine.specs.Packing.{undefinedWord, packWord, actionWord, wordDir, wordWrite, wordNext, wordRow, wordAction, wordEntry};
 
 // Byte 0 is the move, byte 1 the symbol written, bytes 2 and 3 the next state and bytes 4 to 7 the number
 // of that state's first entry, its row.
@@ -96,18 +93,4 @@ fn pack_action(action: Action, stride: u64) -> Packed
     let undefined = Packed::UNDEFINED;
     let word = bytes::word_of(number, action.write0.0, action.next.0, stride, undefined.0);
     Packed(word)
-}
-
-// The words of the table's first `count` entries, into the first places of `out`.
-pub(crate) fn pack_entries(table: &[u8], stride: u64, count: u64, out: &mut [u64])
-    requires { ⌜ count ≤ length (now out) ⌝ }
-    ensures { λ _. ⌜ now (out .exit) ≡ fillFrom (wordAt (now (table .entry)) stride) count 0 (now (out .entry)) ⌝ }
-{
-    let mut i: u64 = 0;
-    while i < count {
-        let at = i as usize;
-        let word = Packed::new(inner::entry_at(table, at), stride);
-        out[at] = word.0;
-        i += 1;
-    }
 }

@@ -2,7 +2,7 @@
 use mathlib.Core.Path.{_≡_}
 use mathlib.Core.Bool.{Bool, true, false}
 use mathlib.Core.List.{List}
-use Prim.Native.Nat.{ℕ, _+_, _≤_, _<_}
+use Prim.Native.Nat.{ℕ, _+_, _*_, _≤_, _<_}
 use lib.ListN.{length}
 use Rattle.symbol.specs.Kinds.{stateOf}
 use Rattle.machine.specs.declared.Machine.{Machine}
@@ -29,6 +29,14 @@ pub record WordsIf (b : Bool) (m : Machine) (s words : List ℕ) : Type 0 where
 pub record Cleared (checked : Checked) (m : Machine) (s : List ℕ) (packed : Bool) (words : List ℕ) (fuel : ℕ) (σ : Conf) : Type 0 where
   pub runs : checked ≡ Accepted → runCheck m s fuel σ ≡ Accepted
   pub words-ok : checked ≡ Accepted → WordsIf packed m s words
+
+-- a table of one tape that the words of a small run hold
+pub record Small (m : Machine) : Type 0 where
+  pub one-tape : m .tapes ≡ 1
+  pub count-in : m .states * m .symbols ≤ 256
+
+pub record SmallIf (b : Bool) (m : Machine) : Type 0 where
+  pub small : b ≡ true → Small m
 
 -- ---- one tape
 

@@ -2,12 +2,20 @@
 use mathlib.Core.Path.{_≡_, refl, sym, ap, _∙_}
 use mathlib.Core.Bool.{Bool, true, false}
 use mathlib.Core.List.{List}
-use Prim.Native.Nat.{ℕ, _+_, _-_, _≤_, _<_}
+use Prim.Native.Nat.{ℕ, _+_, _*_, _-_, _≤_, _<_}
 use native.Mathlib.Omega.{arith}
-use borrow.Author.Tests.{ne-eqb}
+use borrow.Author.Tests.{leb-true, ne-eqb}
+use lib.Dec.{leb}
+use lib.ListN.{length, getD, take}
+use lib.Seq.{length-take-le, getD-take}
+use Rattle.laws.specs.Fill.{fillFrom}
+use Rattle.laws.specs.FillFacts.{length-fill, fill-in}
 use Rattle.laws.specs.Tests.{clash}
 use Rattle.symbol.specs.declared.State.{State}
 use Rattle.machine.specs.declared.Machine.{Machine}
+use Rattle.machine.specs.declared.Checked.the-variants.{Accepted}
+use Rattle.machine.specs.Check.{tableCheck}
+use Rattle.machine.specs.Packing.{wordAt}
 use Rattle.tape.specs.Fits.{TapeOk, TapeSafe}
 use Rattle.sim.specs.declared.Simulator.{Simulator}
 use Rattle.course.specs.declared.StopRule.{StopRule}
@@ -20,7 +28,7 @@ use Rattle.sim.specs.Engine.{task, Conf, matches}
 use Rattle.sim.specs.Turns.{RunOk}
 use Rattle.sim.specs.TurnCases.{RunInv}
 use Rattle.sim.specs.HotSteps.{walked}
-use Rattle.sim.specs.Runs.{Misses, WordsIf, hotOf, into, May, MayIf, SprintOk, SpedOne, Sped}
+use Rattle.sim.specs.Runs.{Misses, WordsIf, Small, SmallIf, hotOf, into, May, MayIf, SprintOk, SpedOne, Sped}
 
 -- ---- the stop rule's state
 
@@ -144,3 +152,27 @@ words-none m s words = record { words-ok = λ z. absurd (clash z refl) }
 
 pub words-given : (b : Bool) (m : Machine) (s words : List ℕ) → WordsIf b m s words → b ≡ true → WordsIf true m s words
 words-given b m s words w e = record { words-ok = λ _. w .words-ok e }
+
+-- ---- a small table, packed into the first of 256 words
+
+module _ (m : Machine) where
+  pub small-not : SmallIf false m
+  small-not = record { small = λ z. absurd (clash z refl) }
+
+  pub small-if : m .tapes ≡ 1 → SmallIf (leb (m .states * m .symbols) 256) m
+  small-if e = record { small = λ z. record { one-tape = e; count-in = leb-true _ _ z } }
+
+  pub small-words : (s out words : List ℕ) → tableCheck m s ≡ Accepted → Small m → length out ≡ 256
+      → words ≡ fillFrom (wordAt s (m .symbols)) (m .states * m .symbols) 0 out → WordsIf true m s (take (m .states * m .symbols) words)
+  unfolding wordAt
+  small-words s out words t small room e =
+      let c : m .states * m .symbols ≤ 256 = small .count-in in
+      let l : length words ≡ length out = ap length e ∙ length-fill _ _ 0 out in
+      record {
+        words-ok = λ _. record {
+          checked = t;
+          one-tape = small .one-tape;
+          count = length-take-le _ words (omega arith);
+          holds = λ i h. getD-take _ words i 0 h ∙ rw e (fill-in _ _ 0 out i 0 (omega arith) (omega arith) (omega arith));
+        };
+      }

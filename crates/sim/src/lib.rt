@@ -18,6 +18,7 @@ mod fast;
 pub mod inner;
 pub mod questions;
 mod runs;
+mod small;
 
 // The engine's value. Its cells are lent, one buffer for each tape; fields and buffers of tapes that the machine
 // lacks are neither read nor changed.

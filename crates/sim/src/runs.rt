@@ -227,7 +227,7 @@ impl Simulator {
     }
 
     // The run over a table, or over its words where they are packed.
-    fn run_bursts(
+    pub(crate) fn run_bursts(
         self,
         m: Machine,
         stride: u64,
@@ -309,7 +309,7 @@ impl Simulator {
             Checked::Accepted => {
                 let stride = machine::inner::stride(m.tapes, m.symbols);
                 let bare = self.bare(m.tapes);
-                let ran = bare.run_bursts(
+                let ran = bare.run_over(
                     m,
                     stride,
                     proves,

@@ -1,5 +1,5 @@
 use Rattle.sim.specs.AnswerCases.{ran-refused, ran-done}
-use Rattle.sim.specs.OperationCases.{stride-ok, run-ok}
+use Rattle.sim.specs.OperationCases.{stride-ok, run-says, run-ok}
 use borrow.Author.Needs.{needs}
 use Rattle.sim.proofs.Simulator.run_checked.Statement.{statement}
 use Rattle.sim.proofs.Simulator.run_checked.Tie as tie
@@ -19,8 +19,8 @@ stride-requires c κs = stride-ok _ _ _ _ (c .before .before .before .before .be
 bare-requires : tie.Need-bare-requires
 bare-requires c κs = search needs
 
-run-bursts-requires : tie.Need-run-bursts-requires
-run-bursts-requires c κs = (run-ok _ _ _ _ _ _ _ _ _ (c .before .before .before .before .before .before .before .before .before .before .before .before .pre .runs (c .before .before .before .before .before .enum-told .given .1)) (c .before .before .before .bare .ensures) (c .before .before .before .before .stride .ensures .0) (c .before .before .before .before .stride .ensures .1), c .before .before .before .before .before .before .before .before .before .before .before .before .pre .words-ok (c .before .before .before .before .before .enum-told .given .1))
+run-over-requires : tie.Need-run-over-requires
+run-over-requires c κs = (run-ok _ _ _ _ _ _ _ _ _ (c .before .before .before .before .before .before .before .before .before .before .before .before .pre .runs (c .before .before .before .before .before .enum-told .given .1)) (c .before .before .before .bare .ensures) (c .before .before .before .before .stride .ensures .0) (c .before .before .before .before .stride .ensures .1), (c .before .before .before .before .before .before .before .before .before .before .before .before .pre .words-ok (c .before .before .before .before .before .enum-told .given .1), run-says _ _ _ _ (c .before .before .before .before .before .before .before .before .before .before .before .before .pre .runs (c .before .before .before .before .before .enum-told .given .1)) .0 .table))
 
 hand-back-requires : tie.Need-hand-back-requires
 hand-back-requires c κs = search needs
@@ -35,7 +35,7 @@ same-length-3 : tie.Need-same-length-3
 same-length-3 c = search needs
 
 returns-2 : tie.Need-returns-2
-returns-2 c = ran-done _ _ _ _ _ _ _ _ _ _ _ _ _ _ _ _ _ (c .before .before .before .before .before .before .before .before .before .before .before .before .before .before .enum-told .given .1) (c .before .before .before .before .before .before .before .before .before .before .before .before .bare .ensures) (c .before .before .before .before .before .before .before .before .run-bursts .ensures) (c .hand-back .ensures)
+returns-2 c = ran-done _ _ _ _ _ _ _ _ _ _ _ _ _ _ _ _ _ (c .before .before .before .before .before .before .before .before .before .before .before .before .before .before .enum-told .given .1) (c .before .before .before .before .before .before .before .before .before .before .before .before .bare .ensures) (c .before .before .before .before .before .before .before .before .run-over .ensures) (c .hand-back .ensures)
 
 pub run-checked-spec : {M : Type 1} → statement M
 run-checked-spec =
@@ -46,7 +46,7 @@ run-checked-spec =
     enum-told
     stride-requires
     bare-requires
-    run-bursts-requires
+    run-over-requires
     hand-back-requires
     same-length
     same-length-2

@@ -8,8 +8,8 @@ use native.Mathlib.Omega.{arith}
 use native.Mathlib.Nat.{sub-zero}
 use mathlib.Core.Path.{_≡_, refl}
 use Prim.Native.Nat.{_≤_, _-_}
-use Rattle.machine.proofs.packed.pack_entries.Statement.{statement}
-use Rattle.machine.proofs.packed.pack_entries.Tie as tie
+use Rattle.machine.proofs.inner.pack_entries.Statement.{statement}
+use Rattle.machine.proofs.inner.pack_entries.Tie as tie
 
 abbrev Inv-loop : tie.InvT-loop
 Inv-loop table stride count out₀ i₀ out i =

@@ -1,0 +1,107 @@
+// The run over a small table, which is packed first where the run is long: a step over words takes less than one over
+// the table's bytes.
+use super::Simulator;
+use super::StopRule;
+use super::runs::Ran;
+use machine::Machine;
+ghost use mathlib.Core.Path.{_≡_};
+ghost use Prim.Native.Nat.{_≤_};
+ghost use Rattle.machine.specs.declared.Checked.the-variants.{Accepted};
+ghost use Rattle.machine.specs.Check.{tableCheck};
+ghost use Rattle.sim.specs.Engine.{task, conf, end, runOf};
+ghost use Rattle.sim.specs.Turns.{RunOk};
+ghost use Rattle.sim.specs.Runs.{WordsIf, Small, SmallIf};
+
+// Whether the packing pays: a table of one tape that is not packed yet and has at most 256 entries, and fuel enough.
+fn pays(packed: bool, m: Machine, fuel: u64) -> bool
+    requires { ⌜ (m .states ≤ 65536) × (m .symbols ≤ 256) ⌝ }
+    ensures { λ r. ⌜ SmallIf r m ⌝ }
+{
+    if packed {
+        return false;
+    }
+    if m.tapes != 1 {
+        return false;
+    }
+    if fuel < 1024 {
+        return false;
+    }
+    m.states * m.symbols <= 256
+}
+
+impl Simulator {
+    // The run over the words of a small table.
+    fn run_small(
+        self,
+        m: Machine,
+        stride: u64,
+        proves: bool,
+        rule: StopRule,
+        table: &[u8],
+        c0: &mut [u8],
+        c1: &mut [u8],
+        c2: &mut [u8],
+        fuel: u64,
+    ) -> Ran
+        requires { ⌜ RunOk m stride self (now c0) (now c1) (now c2) fuel ⌝ }
+        requires { ⌜ tableCheck m (now table) ≡ Accepted ⌝ }
+        requires { ⌜ Small m ⌝ }
+        ensures { λ r. ⌜ end (conf (r .sim) (now (c0 .exit)) (now (c1 .exit)) (now (c2 .exit))) (r .outcome) ≡ runOf (task m (now (table .entry)) proves rule) fuel (conf self (now (c0 .entry)) (now (c1 .entry)) (now (c2 .entry))) ⌝ }
+    {
+        let count = m.states * m.symbols;
+        let n = count as usize;
+        let mut words: [u64; 256] = [3; 256];
+        machine::inner::pack_entries(table, m.symbols, count, &mut words);
+        self.run_bursts(
+            m,
+            stride,
+            proves,
+            rule,
+            table,
+            true,
+            &words[..n],
+            c0,
+            c1,
+            c2,
+            fuel,
+        )
+    }
+
+    // The run, over words where they are given or where the packing pays.
+    pub(crate) fn run_over(
+        self,
+        m: Machine,
+        stride: u64,
+        proves: bool,
+        rule: StopRule,
+        table: &[u8],
+        packed: bool,
+        words: &[u64],
+        c0: &mut [u8],
+        c1: &mut [u8],
+        c2: &mut [u8],
+        fuel: u64,
+    ) -> Ran
+        requires { ⌜ RunOk m stride self (now c0) (now c1) (now c2) fuel ⌝ }
+        requires { ⌜ WordsIf packed m (now table) (now words) ⌝ }
+        requires { ⌜ tableCheck m (now table) ≡ Accepted ⌝ }
+        ensures { λ r. ⌜ end (conf (r .sim) (now (c0 .exit)) (now (c1 .exit)) (now (c2 .exit))) (r .outcome) ≡ runOf (task m (now (table .entry)) proves rule) fuel (conf self (now (c0 .entry)) (now (c1 .entry)) (now (c2 .entry))) ⌝ }
+    {
+        if pays(packed, m, fuel) {
+            return self.run_small(m, stride, proves, rule, table, c0, c1, c2, fuel);
+        }
+        self.run_bursts(
+            m,
+            stride,
+            proves,
+            rule,
+            table,
+            packed,
+            words,
+            c0,
+            c1,
+            c2,
+            fuel,
+        )
+    }
+}
