@@ -29,10 +29,10 @@ use Rattle.sim_timeline.specs.Worlds.{W, begun}
 use Rattle.text.specs.Steps.{Wrote}
 use Rattle.text.specs.PrintCases.{wrote-then, wrote-put}
 use Rattle.reader.specs.declared.Reader.{Reader}
-use Rattle.reader.specs.declared.Parsed.{Parsed}
 use Rattle.reader.specs.declared.Parsed.the-variants as P
+use Rattle.reader.specs.declared.Contents.{Contents}
 use Rattle.reader.specs.Listing.{listing}
-use Rattle.reader.specs.Reading.{sofar, listingOf, ReaderOk, ParsedOk}
+use Rattle.reader.specs.Reading.{sofar, listingOf, listingIn}
 use Rattle.rows.specs.Rows.{rowsOf, rowLines, refusedLine, namesLine, output}
 use Rattle.listing.specs.declared.Listed.{Listed}
 use Rattle.listing.specs.declared.Listed.the-variants as Did
@@ -92,17 +92,14 @@ module _ (m : Machine) (s word : List ℕ) (lent : Lent) (store : List ℕ) (cal
 
 -- ---- what was read
 
-module _ (input t w c : List ℕ) (p : Parsed) (says : listingOf p t w c ≡ listing input) {o o′ : List ℕ} {r : ℕ} where
-  pub read-bad : (n : ℕ) → p ≡ P.Refused n → Wrote o 0 (refusedLine n) o′ r × (r ≤ 0 + 29) → Wrote o 0 (answerTo input) o′ r
-  unfolding answerTo answerFor listingOf
+module _ (input : List ℕ) (g : Contents) (says : listingIn g ≡ listing input) {o o′ : List ℕ} {r : ℕ} where
+  pub read-bad : (n : ℕ) → g .parsed ≡ P.Refused n → Wrote o 0 (refusedLine n) o′ r × (r ≤ 0 + 29) → Wrote o 0 (answerTo input) o′ r
+  unfolding answerTo answerFor listingIn listingOf
   read-bad n z q = rw (← says, z) (q .0)
 
-  pub read-asked : (x : Reader) → p ≡ P.Asked x → Wrote o 0 (answerOf (sofar x t w c)) o′ r → Wrote o 0 (answerTo input) o′ r
-  unfolding answerTo answerFor listingOf
+  pub read-asked : (x : Reader) → g .parsed ≡ P.Asked x → Wrote o 0 (answerOf (sofar x (g .table) (g .word) (g .calls))) o′ r → Wrote o 0 (answerTo input) o′ r
+  unfolding answerTo answerFor listingIn listingOf
   read-asked x z q = rw (← says, z) q
-
-pub asked-ok : (p : Parsed) (x : Reader) → p ≡ P.Asked x → ParsedOk p → ReaderOk x
-asked-ok p x z ok = rw z at ok
 
 -- ---- the whole
 

@@ -6,7 +6,7 @@ use mathlib.Core.Option.{Option, none, some}
 use native.Mathlib.Omega.{arith}
 use native.Mathlib.Nat.{pow-zero, pow-suc}
 use lib.Dec.{leb, ltb}
-use lib.ListN.{length, getD, length-append, length-replicate}
+use lib.ListN.{length, getD, length-append, length-replicate, length-take}
 use lib.Seq.{getD-take, length-take-le}
 use borrow.Author.Tests.{leb-true, ltb-true, lt-ltb, le-leb}
 use Rattle.laws.specs.Tests.{pick-true, pick-cases}
@@ -21,10 +21,15 @@ use Rattle.tables.specs.WellFormed.{LaidOut, WellFormed}
 use Rattle.tables.specs.CheckExact.{table-check-accepts}
 use Rattle.text.specs.Pieces.{sameList, lines}
 use Rattle.forms.specs.Forms.{firstLine, columnsLine, wordLine, headingLine, onSome, machineLine, entryLine, wordOf, callLine, given}
-use Rattle.forms.specs.FormFacts.{Good, machine-good, rule-ok}
+use Rattle.forms.specs.FormFacts.{Good, good-small, machine-good, rule-ok}
+use Rattle.forms.specs.FormCases.{length-callsOf}
 use Rattle.reader.specs.declared.Due.{Due}
 use Rattle.reader.specs.declared.Due.the-variants.{Names, Numbers, Columns, Entries, Word, Heading, Calls}
+use Rattle.reader.specs.declared.Reader.{Reader}
+use Rattle.reader.specs.declared.Contents.{Contents}
+use Rattle.reader.specs.declared.Parsed.the-variants as P
 use Rattle.reader.specs.Listing.{Sofar, tableIn, nothing, Next, on, bad, line, Listing, refused, asked, atEnd, onNext, readFrom, listing}
+use Rattle.reader.specs.Reading.{sofar, listingOf, listingIn, ReaderOk}
 use Rattle.reader.specs.WordFacts.{AllBelow, word-good}
 use Rattle.reader.specs.TableFacts.{Laid, laid-blank, define-length, laid-define}
 
@@ -178,3 +183,15 @@ module _ (s : List ℕ) (x : Sofar) (e : listing s ≡ asked x) where
       pick-true _ _ _ (le-leb (length (x .word)) 1048576 (omega (arith, k .short)))
       ∙ ap (answerAt Why.WordSymbol) (clean-none (symbolIn (x .machine .symbols) (x .word)) (length (x .word)) 0
       (λ i a b. lt-ltb (getD (x .word) i 0) (x .machine .symbols) (k .in-range i (omega arith))))
+
+-- ---- the ranges of what `read` hands back
+
+pub contents-ok : (s : List ℕ) (r : Contents) (x : Reader) → listingIn r ≡ listing s → r .parsed ≡ P.Asked x → length (r .word) ≡ 81 → ReaderOk x
+unfolding listingIn listingOf sofar
+contents-ok s r x e z h =
+    let k : Kept (sofar x (r .table) (r .word) (r .calls)) = asked-kept s _ (sym e ∙ ap (λ p. listingOf p (r .table) (r .word) (r .calls)) z) in
+    record {
+      small = good-small (k .good);
+      word-ok = omega (arith, k .short, length-take (x .word) (r .word));
+      calls-ok = omega (arith, k .few-calls, length-callsOf (x .calls) (r .calls));
+    }

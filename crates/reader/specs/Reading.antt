@@ -9,6 +9,7 @@ use Rattle.reader.specs.declared.Turn.{Turn}
 use Rattle.reader.specs.declared.Turn.the-variants as T
 use Rattle.reader.specs.declared.Parsed.{Parsed}
 use Rattle.reader.specs.declared.Parsed.the-variants as P
+use Rattle.reader.specs.declared.Contents.{Contents}
 use Rattle.reader.specs.Listing.{Sofar, Next, on, bad, Listing, refused, asked}
 
 -- the reader's value with the lent table, word and calls: the first places hold what was read
@@ -24,6 +25,10 @@ unfoldable pub listingOf : Parsed → (t w c : List ℕ) → Listing
 listingOf (P.Refused n) t w c = refused n
 listingOf (P.Asked x) t w c = asked (sofar x t w c)
 
+-- the same of what `read` hands back
+unfoldable pub listingIn : Contents → Listing
+listingIn r = listingOf (r .parsed) (r .table) (r .word) (r .calls)
+
 -- ---- ranges
 
 pub record ReaderOk (x : Reader) : Type 0 where
@@ -34,10 +39,6 @@ pub record ReaderOk (x : Reader) : Type 0 where
 abbrev pub TurnOk : Turn → Type 0
 TurnOk (T.On y) = ReaderOk y
 TurnOk T.Bad = Unit {0}
-
-abbrev pub ParsedOk : Parsed → Type 0
-ParsedOk (P.Refused n) = Unit {0}
-ParsedOk (P.Asked x) = ReaderOk x
 
 -- the lent slices' lengths
 pub record LentOk (t w c : ℕ) : Type 0 where

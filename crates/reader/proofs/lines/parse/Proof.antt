@@ -5,8 +5,8 @@ use borrow.Author.Needs.{needs}
 use lib.ListN.{length}
 use Rattle.reader.specs.ParseCases.{ParseInv, inv-start, inv-next, parse-long, parse-bad, parse-end}
 use Rattle.reader.specs.Reading.{listingOf}
-use Rattle.reader.proofs.inner.parse.Statement.{statement}
-use Rattle.reader.proofs.inner.parse.Tie as tie
+use Rattle.reader.proofs.lines.parse.Statement.{statement}
+use Rattle.reader.proofs.lines.parse.Tie as tie
 
 abbrev Inv-loop : tie.InvT-loop
 Inv-loop input table₀ word₀ calls₀ x₀ at₀ n₀ table word calls x at n =
@@ -35,7 +35,7 @@ same-length-3 c = search needs
 
 returns : tie.Need-returns Inv-loop μ-loop
 unfolding listingOf
-returns c = (search parse-long, tt)
+returns c = search parse-long
 
 sub-take-line : tie.Need-sub-take-line Inv-loop μ-loop
 sub-take-line c = search needs
@@ -66,7 +66,7 @@ same-length-6 c = search needs
 
 returns-2 : tie.Need-returns-2 Inv-loop μ-loop
 unfolding listingOf
-returns-2 c = (search (needs, parse-bad), tt)
+returns-2 c = search (needs, parse-bad)
 
 after-requires : tie.Need-after-requires Inv-loop μ-loop
 after-requires c κs = search needs
@@ -93,7 +93,7 @@ same-length-9 : tie.Need-same-length-9 Inv-loop μ-loop
 same-length-9 c = search needs
 
 returns-3 : tie.Need-returns-3 Inv-loop μ-loop
-returns-3 c = (c .finish .ensures .0 _ _ _ ∙ parse-end _ _ _ _ _ _ (omega (arith, c .before .loop-test)) (c .before .before .loop .inv .same), c .finish .ensures .1)
+returns-3 c = c .finish .ensures _ _ _ ∙ parse-end _ _ _ _ _ _ (omega (arith, c .before .loop-test)) (c .before .before .loop .inv .same)
 
 pub parse-spec : {M : Type 1} → statement M
 parse-spec =

@@ -1,7 +1,7 @@
 use borrow.Author.Needs.{needs}
 use Rattle.reader.specs.ParseCases.{at-due}
-use Rattle.reader.proofs.inner.take_line.Statement.{statement}
-use Rattle.reader.proofs.inner.take_line.Tie as tie
+use Rattle.reader.proofs.lines.take_line.Statement.{statement}
+use Rattle.reader.proofs.lines.take_line.Tie as tie
 
 enum-told : tie.Need-enum-told
 enum-told c = search needs
