@@ -1,5 +1,4 @@
 // A timeline over the run-length engine: a new one, and its calls. Its store of slots is lent as the runs are.
-use calls::chain;
 use numbers::answers;
 use numbers::engines;
 use rle_timeline::Begun;
@@ -77,7 +76,7 @@ pub extern "C" fn tm_chain_timeline_call(
         engine: engines::chain_of(*state, *cur, engine),
         times: engines::times_of(times),
     };
-    let answered = chain::moved(timeline, m, table, ls, ll, rs, rl, store, which, number);
+    let answered = timeline.call(m, table, ls, ll, rs, rl, store, which as u64, number);
     let after = answered.timeline;
     let answer = answered.answer;
     let sim = after.engine;

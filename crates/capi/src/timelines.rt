@@ -1,5 +1,4 @@
 // A timeline over the plain engine: a new one, and its calls. Its store of slots is lent as the cells are.
-use calls::plain;
 use numbers::answers;
 use numbers::engines;
 use sim_timeline::Begun;
@@ -72,7 +71,7 @@ pub extern "C" fn tm_sim_timeline_call(
         engine: engines::engine_of(*state, engine),
         times: engines::times_of(times),
     };
-    let answered = plain::moved(timeline, m, table, c0, c1, c2, store, which, number);
+    let answered = timeline.call(m, table, c0, c1, c2, store, which as u64, number);
     let after = answered.timeline;
     let answer = answered.answer;
     let sim = after.engine;

@@ -132,18 +132,7 @@ fn call(
 ) -> Gone {
     let next = settings::call_at(row, from);
     let before = gone.timeline;
-    let answered = calls::chain::moved(
-        before,
-        m,
-        table,
-        ls,
-        ll,
-        rs,
-        rl,
-        store,
-        next.which,
-        next.number,
-    );
+    let answered = before.call(m, table, ls, ll, rs, rl, store, next.which, next.number);
     expect_call(row, gone.at, answered, ls, ll, rs, rl)
 }
 

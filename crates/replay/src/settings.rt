@@ -1,5 +1,4 @@
 // What a timeline's case begins with: its settings, how many calls there are, and of each call which it is and its number.
-use super::ground;
 use super::lists;
 
 pub(crate) struct Settings {
@@ -13,7 +12,7 @@ pub(crate) struct Settings {
 }
 
 pub(crate) struct Call {
-    pub which: u8,
+    pub which: u64,
     pub number: u64,
 }
 
@@ -32,7 +31,7 @@ pub(crate) fn read(row: &[u64], at: usize) -> Settings {
 
 pub(crate) fn call_at(row: &[u64], at: usize) -> Call {
     Call {
-        which: ground::low(lists::number(row, at)),
+        which: lists::number(row, at),
         number: lists::number(row, lists::past(at, 1)),
     }
 }

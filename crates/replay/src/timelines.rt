@@ -125,17 +125,7 @@ fn call(
 ) -> Gone {
     let next = settings::call_at(row, from);
     let before = gone.timeline;
-    let answered = calls::plain::moved(
-        before,
-        m,
-        table,
-        c0,
-        c1,
-        c2,
-        store,
-        next.which,
-        next.number,
-    );
+    let answered = before.call(m, table, c0, c1, c2, store, next.which, next.number);
     expect_call(row, gone.at, answered, m.tapes, c0, c1, c2)
 }
 

@@ -9,7 +9,7 @@ use times::Times;
 use times::inner as sums;
 ghost use mathlib.Core.Path.{_≡_};
 ghost use Rattle.rle.specs.Engine.{conf};
-ghost use Rattle.times.specs.Timeline.{seek, forward, back};
+ghost use Rattle.times.specs.Timeline.{seek, forward, back, callFor};
 ghost use Rattle.times.specs.Kind.{callOn, newWith};
 ghost use Rattle.rle_engine.specs.Kind.{chainKind};
 ghost use Rattle.rle_timeline.specs.Worlds.{W, replied, begun};
@@ -139,6 +139,26 @@ impl Timeline {
     {
         let sim = self.engine;
         let target = sums::back_to(sim.steps, n);
+        self.seek(m, table, ls, ll, rs, rl, store, target)
+    }
+
+    // The call meant by two numbers: seek for 0, forward for 1, else back.
+    pub fn call(
+        self,
+        m: Machine,
+        table: &[u8],
+        ls: &mut [u8],
+        ll: &mut [u64],
+        rs: &mut [u8],
+        rl: &mut [u64],
+        store: &mut [u8],
+        which: u64,
+        number: u64,
+    ) -> Answered
+        ensures { λ r. ⌜ replied (r .answer) (W (r .timeline) (now (ls .exit)) (now (ll .exit)) (now (rs .exit)) (now (rl .exit)) (now (store .exit))) ≡ callOn chainKind m (now (table .entry)) (W self (now (ls .entry)) (now (ll .entry)) (now (rs .entry)) (now (rl .entry)) (now (store .entry))) (callFor which number) ⌝ }
+    {
+        let sim = self.engine;
+        let target = sums::target_of(which, sim.steps, number);
         self.seek(m, table, ls, ll, rs, rl, store, target)
     }
 }

@@ -3,7 +3,6 @@ use super::printing;
 use machine::Machine;
 use sim::Answer;
 use sim::Simulator;
-use sim_timeline::Answered;
 use sim_timeline::Timeline;
 use text::inner as write;
 ghost use mathlib.Core.Path.{_≡_};
@@ -13,10 +12,7 @@ ghost use Rattle.machine.specs.declared.Checked.the-variants.{Accepted};
 ghost use Rattle.tape.specs.Fits.{TapeOk};
 ghost use Rattle.sim.specs.Engine.{conf};
 ghost use Rattle.sim.specs.Operations.{engineCheck};
-ghost use Rattle.times.specs.Timeline.{callFor};
-ghost use Rattle.times.specs.Kind.{callOn};
-ghost use Rattle.sim_engine.specs.Kind.{plainKind};
-ghost use Rattle.sim_timeline.specs.Worlds.{W, replied};
+ghost use Rattle.sim_timeline.specs.Worlds.{W};
 ghost use Rattle.text.specs.Steps.{Wrote};
 ghost use Rattle.forms.specs.Answers.{callsOf};
 ghost use Rattle.rows.specs.Rows.{rowOf, rowsOf, rowsOn, lentIn, replyOf, refusedLine, rowLine, rowLines};
@@ -46,29 +42,6 @@ fn row(out: &mut [u8], at: usize, answer: Answer, sim: Simulator, cells: &[u8]) 
     }
 }
 
-// Seek for 0, forward for 1, else back.
-fn call(
-    timeline: Timeline,
-    m: Machine,
-    table: &[u8],
-    c0: &mut [u8],
-    c1: &mut [u8],
-    c2: &mut [u8],
-    store: &mut [u8],
-    kind: u64,
-    number: u64,
-) -> Answered
-    ensures { λ r. ⌜ replied (r .answer) (W (r .timeline) (now (c0 .exit)) (now (c1 .exit)) (now (c2 .exit)) (now (store .exit))) ≡ callOn plainKind m (now (table .entry)) (W timeline (now (c0 .entry)) (now (c1 .entry)) (now (c2 .entry)) (now (store .entry))) (callFor kind number) ⌝ }
-{
-    if kind == 0 {
-        return timeline.seek(m, table, c0, c1, c2, store, number);
-    }
-    if kind == 1 {
-        return timeline.forward(m, table, c0, c1, c2, store, number);
-    }
-    timeline.back(m, table, c0, c1, c2, store, number)
-}
-
 // Makes the first n calls, one after another, and prints a row for each. The cells and the store are left as the last
 // call leaves them.
 pub fn rows(
@@ -93,7 +66,7 @@ pub fn rows(
     while i < n {
         let kind = calls[2 * i];
         let number = calls[2 * i + 1];
-        let answered = call(line, m, table, c0, c1, c2, store, kind, number);
+        let answered = line.call(m, table, c0, c1, c2, store, kind, number);
         line = answered.timeline;
         let answer = answered.answer;
         let sim = line.engine;

@@ -9,7 +9,7 @@ use times::Times;
 use times::inner as sums;
 ghost use mathlib.Core.Path.{_≡_};
 ghost use Rattle.sim.specs.Engine.{conf};
-ghost use Rattle.times.specs.Timeline.{seek, forward, back};
+ghost use Rattle.times.specs.Timeline.{seek, forward, back, callFor};
 ghost use Rattle.times.specs.Kind.{callOn, newWith};
 ghost use Rattle.sim_engine.specs.Kind.{plainKind};
 ghost use Rattle.sim_timeline.specs.Worlds.{W, replied, begun};
@@ -135,6 +135,25 @@ impl Timeline {
     {
         let sim = self.engine;
         let target = sums::back_to(sim.steps, n);
+        self.seek(m, table, c0, c1, c2, store, target)
+    }
+
+    // The call meant by two numbers: seek for 0, forward for 1, else back.
+    pub fn call(
+        self,
+        m: Machine,
+        table: &[u8],
+        c0: &mut [u8],
+        c1: &mut [u8],
+        c2: &mut [u8],
+        store: &mut [u8],
+        which: u64,
+        number: u64,
+    ) -> Answered
+        ensures { λ r. ⌜ replied (r .answer) (W (r .timeline) (now (c0 .exit)) (now (c1 .exit)) (now (c2 .exit)) (now (store .exit))) ≡ callOn plainKind m (now (table .entry)) (W self (now (c0 .entry)) (now (c1 .entry)) (now (c2 .entry)) (now (store .entry))) (callFor which number) ⌝ }
+    {
+        let sim = self.engine;
+        let target = sums::target_of(which, sim.steps, number);
         self.seek(m, table, c0, c1, c2, store, target)
     }
 }

@@ -2,7 +2,7 @@
 use mathlib.Core.Path.{_≡_}
 use mathlib.Core.Bool.{Bool}
 use mathlib.Core.List.{List}
-use Prim.Native.Nat.{ℕ, _+_, _-_, _*_, _/_, _≤_, min, max}
+use Prim.Native.Nat.{ℕ, zero, suc, _+_, _-_, _*_, _/_, _≤_, min, max}
 use lib.Dec.{leb, ltb, eqb}
 use lib.ListN.{length}
 use Rattle.laws.specs.Choice.{pick}
@@ -28,6 +28,12 @@ stopFor t v p = max (min t (due v)) p
 -- the target of a forward call, or 2^62 + 1 where it is over 2^62: all such are refused alike
 unfoldable pub forwardTo : (p n : ℕ) → ℕ
 forwardTo p n = pick (leb p limit) (pick (leb n (limit - p)) (p + n) (limit + 1)) (limit + 1)
+
+-- and that of the call meant by two numbers
+unfoldable pub targetTo : (which p n : ℕ) → ℕ
+targetTo zero p n = n
+targetTo (suc zero) p n = forwardTo p n
+targetTo (suc (suc k)) p n = p - n
 
 -- ---- one slot more, thinned where there are more than m: the value, and the store
 

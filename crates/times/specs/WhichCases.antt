@@ -1,20 +1,31 @@
--- Which call was made, where two numbers say which. Assumes nothing.
-use mathlib.Core.Path.{_≡_, refl}
+-- Which call was made, where two numbers say which: its target, and the call as a seek there. Assumes nothing.
+use mathlib.Core.Path.{_≡_, refl, _∙_, ap}
 use mathlib.Core.List.{List}
-use Prim.Native.Nat.{ℕ, zero, suc}
+use Prim.Native.Nat.{ℕ, zero, suc, _-_}
 use Rattle.outcome.specs.declared.Outcome.{Outcome}
 use Rattle.machine.specs.declared.Machine.{Machine}
-use Rattle.times.specs.Timeline.{Reply, seek, forward, back, callFor}
+use Rattle.times.specs.Timeline.{Reply, seek, callFor}
 use Rattle.times.specs.Kind.{Kind, WorldOf, callOn}
+use Rattle.times.specs.Due.{forwardTo, targetTo}
+use Rattle.times.specs.CallCases.{forward-on, back-on}
+
+pub target-seek : (k p n : ℕ) → k ≡ 0 → n ≡ targetTo k p n
+unfolding targetTo
+target-seek k p n z = rw z
+
+pub target-forward : (k p n g : ℕ) → k ≡ 1 → g ≡ forwardTo p n → g ≡ targetTo k p n
+unfolding targetTo
+target-forward k p n g z e = rw z e
+
+pub target-back : (k p n g : ℕ) → (k ≡ 0 → ⊥) → (k ≡ 1 → ⊥) → g ≡ p - n → g ≡ targetTo k p n
+unfolding targetTo
+target-back zero p n g a b e = absurd (a refl)
+target-back (suc zero) p n g a b e = absurd (b refl)
+target-back (suc (suc k)) p n g a b e = e
 
 module _ (X : Kind) (m : Machine) (s : List ℕ) (w : WorldOf X) (y : Reply Outcome × WorldOf X) where
-  pub was-seek : (k n : ℕ) → k ≡ 0 → y ≡ callOn X m s w (seek n) → y ≡ callOn X m s w (callFor k n)
-  was-seek k n z e = rw z e
-
-  pub was-forward : (k n : ℕ) → k ≡ 1 → y ≡ callOn X m s w (forward n) → y ≡ callOn X m s w (callFor k n)
-  was-forward k n z e = rw z e
-
-  pub was-back : (k n : ℕ) → (k ≡ 0 → ⊥) → (k ≡ 1 → ⊥) → y ≡ callOn X m s w (back n) → y ≡ callOn X m s w (callFor k n)
-  was-back zero n h g e = absurd (h refl)
-  was-back (suc zero) n h g e = absurd (g refl)
-  was-back (suc (suc k)) n h g e = e
+  pub which-on : (k n g : ℕ) → y ≡ callOn X m s w (seek g) → g ≡ targetTo k (X .now (w .engine)) n → y ≡ callOn X m s w (callFor k n)
+  unfolding targetTo
+  which-on zero n g p q = p ∙ ap (λ t. callOn X m s w (seek t)) q
+  which-on (suc zero) n g p q = forward-on X m s w y n g p q
+  which-on (suc (suc k)) n g p q = back-on X m s w y n g p q

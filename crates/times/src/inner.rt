@@ -9,7 +9,7 @@ ghost use Rattle.machine.specs.Check.{within};
 ghost use Rattle.times.specs.Ops.{limit};
 ghost use Rattle.times.specs.Timeline.{timesOk, slotFor, oneMore, firstCheck, laterCheck};
 ghost use Rattle.times.specs.Kind.{spent};
-ghost use Rattle.times.specs.Due.{dueOf, isDue, stopFor, forwardTo, Thinned, TimesFit, ThinOk, RecordOk};
+ghost use Rattle.times.specs.Due.{dueOf, isDue, stopFor, forwardTo, targetTo, Thinned, TimesFit, ThinOk, RecordOk};
 
 pub fn max(a: u64, b: u64) -> u64
     ensures { λ r. ⌜ r ≡ Prim.Native.Nat.max a b ⌝ }
@@ -89,6 +89,19 @@ pub fn back_to(p: u64, n: u64) -> u64
         return 0;
     }
     p - n
+}
+
+// The target of the call meant by two numbers, made at step p: seek for 0, forward for 1, else back.
+pub fn target_of(which: u64, p: u64, n: u64) -> u64
+    ensures { λ r. ⌜ r ≡ targetTo which p n ⌝ }
+{
+    if which == 0 {
+        return n;
+    }
+    if which == 1 {
+        return forward_to(p, n);
+    }
+    back_to(p, n)
 }
 
 // Whether a run was out of fuel.

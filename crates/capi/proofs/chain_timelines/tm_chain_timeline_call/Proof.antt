@@ -12,8 +12,8 @@ chain-of-requires c κs = search needs
 times-of-requires : tie.Need-times-of-requires
 times-of-requires c κs = search needs
 
-moved-requires : tie.Need-moved-requires
-moved-requires c κs = search needs
+call-requires : tie.Need-call-requires
+call-requires c κs = search needs
 
 put-chain-requires : tie.Need-put-chain-requires
 put-chain-requires c κs = search needs
@@ -42,7 +42,7 @@ same-length-5 c = search needs
 returns : tie.Need-returns
 returns c =
     rw (← c .before .before .before .before .before .before .before .before .before .before .before .before .before .before .before .before .before .before .before .before .before .before .before .before .before .before .before .before .before .before .machine-of .ensures, ← c .before .before .before .before .before .before .before .before .before .before .before .before .before .before .before .before .before .before .before .before .before .before .before .before .before .before .chain-of .ensures, ← c .before .before .before .before .before .before .before .before .before .before .before .before .before .before .before .before .before .before .before .before .before .before .before .before .times-of .ensures)
-    (chain-timeline-called _ _ _ _ _ _ _ _ _ _ _ _ _ _ (c .before .before .before .before .before .before .before .before .before .before .before .before .before .before .before .before .before .before .moved .result .answer) (c .before .before .before .before .put-chain .ensures) (c .before .before .put-times .ensures) (c .before .before .before .before .before .before .before .before .before .before .before .before .before .before .before .before .before .before .moved .ensures) (c .tell-answer .ensures .0) (c .tell-answer .ensures .1))
+    (chain-timeline-called _ _ _ _ _ _ _ _ _ _ _ _ _ _ (c .before .before .before .before .before .before .before .before .before .before .before .before .before .before .before .before .before .before .call .result .answer) (c .before .before .before .before .put-chain .ensures) (c .before .before .put-times .ensures) (c .before .before .before .before .before .before .before .before .before .before .before .before .before .before .before .before .before .before .call .ensures) (c .tell-answer .ensures .0) (c .tell-answer .ensures .1))
 
 pub tm-chain-timeline-call-spec : {M : Type 1} → statement M
 tm-chain-timeline-call-spec =
@@ -51,7 +51,7 @@ tm-chain-timeline-call-spec =
     machine-of-requires
     chain-of-requires
     times-of-requires
-    moved-requires
+    call-requires
     put-chain-requires
     put-times-requires
     tell-answer-requires

@@ -12,8 +12,8 @@ engine-of-requires c κs = search needs
 times-of-requires : tie.Need-times-of-requires
 times-of-requires c κs = search needs
 
-moved-requires : tie.Need-moved-requires
-moved-requires c κs = search needs
+call-requires : tie.Need-call-requires
+call-requires c κs = search needs
 
 put-engine-requires : tie.Need-put-engine-requires
 put-engine-requires c κs = search needs
@@ -39,7 +39,7 @@ same-length-4 c = search needs
 returns : tie.Need-returns
 returns c =
     rw (← c .before .before .before .before .before .before .before .before .before .before .before .before .before .before .before .before .before .before .before .before .before .before .before .before .before .before .machine-of .ensures, ← c .before .before .before .before .before .before .before .before .before .before .before .before .before .before .before .before .before .before .before .before .before .before .before .engine-of .ensures, ← c .before .before .before .before .before .before .before .before .before .before .before .before .before .before .before .before .before .before .before .before .before .times-of .ensures)
-    (timeline-called _ _ _ _ _ _ _ _ _ _ _ _ _ (c .before .before .before .before .before .before .before .before .before .before .before .before .before .before .before .before .moved .result .answer) (c .before .before .before .before .put-engine .ensures) (c .before .before .put-times .ensures) (c .before .before .before .before .before .before .before .before .before .before .before .before .before .before .before .before .moved .ensures) (c .tell-answer .ensures .0) (c .tell-answer .ensures .1))
+    (timeline-called _ _ _ _ _ _ _ _ _ _ _ _ _ (c .before .before .before .before .before .before .before .before .before .before .before .before .before .before .before .before .call .result .answer) (c .before .before .before .before .put-engine .ensures) (c .before .before .put-times .ensures) (c .before .before .before .before .before .before .before .before .before .before .before .before .before .before .before .before .call .ensures) (c .tell-answer .ensures .0) (c .tell-answer .ensures .1))
 
 pub tm-sim-timeline-call-spec : {M : Type 1} → statement M
 tm-sim-timeline-call-spec =
@@ -48,7 +48,7 @@ tm-sim-timeline-call-spec =
     machine-of-requires
     engine-of-requires
     times-of-requires
-    moved-requires
+    call-requires
     put-engine-requires
     put-times-requires
     tell-answer-requires
