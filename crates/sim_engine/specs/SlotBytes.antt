@@ -9,8 +9,8 @@ use lib.Seq.{paste, ext-getD, getD-take, getD-drop, length-take-le, length-paste
 use Rattle.laws.specs.Tests.{pick-cases, pick-true}
 use Rattle.tape.specs.declared.Tape.{Tape}
 use Rattle.tape.specs.Moves.{Held}
-use Rattle.tape.specs.Fits.{tapeFits}
-use Rattle.tape.specs.FitFacts.{TapeFits, fits-says, fits-holds}
+use Rattle.tape.specs.Fits.{tapeFits, TapeFits}
+use Rattle.tape.specs.FitFacts.{fits-says, fits-holds}
 use Rattle.slots.specs.Bytes.{get32, put32, Agree, Apart}
 use Rattle.slots.specs.ByteFacts.{agree-then, length-put32, put32-agree, get32-agree, get-put32, paste-agree}
 use Rattle.slots.specs.SlotFacts.{paste-same}

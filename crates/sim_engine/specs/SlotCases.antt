@@ -15,8 +15,8 @@ use Rattle.machine.specs.declared.Machine.{Machine}
 use Rattle.machine.specs.declared.Checked.the-variants.{Accepted}
 use Rattle.tape.specs.declared.Tape.{Tape}
 use Rattle.tape.specs.Moves.{Held, held}
-use Rattle.tape.specs.Fits.{tapeFits}
-use Rattle.tape.specs.FitFacts.{TapeFits, fits-says}
+use Rattle.tape.specs.Fits.{tapeFits, TapeFits}
+use Rattle.tape.specs.FitFacts.{fits-says}
 use Rattle.slots.specs.Bytes.{put16, put64}
 use Rattle.sim.specs.declared.Simulator.{Simulator}
 use Rattle.sim.specs.Engine.{Conf, conf}

@@ -8,7 +8,7 @@ use Rattle.machine.specs.declared.Machine.{Machine}
 use Rattle.turing.specs.TableMachine.{Tape, Config, blankTape}
 use Rattle.tape.specs.Moves.{Held, noTape}
 use Rattle.tape.specs.Questions.{cellOf}
-use Rattle.tape.specs.FitFacts.{TapeFits}
+use Rattle.tape.specs.Fits.{TapeFits}
 use Rattle.sim.specs.Engine.{Conf, tape0, tape1, tape2}
 
 -- ---- "An engine holds a configuration when state, steps and, on each tape, head, lowest, highest and every cell agree,

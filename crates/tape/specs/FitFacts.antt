@@ -10,17 +10,7 @@ use Rattle.laws.specs.ScanFacts.{all-says, all-holds}
 use Rattle.laws.specs.Tests.{both-split, both-true}
 use Rattle.symbol.specs.Kinds.{symbolIn}
 use Rattle.tape.specs.declared.Tape.{Tape}
-use Rattle.tape.specs.Fits.{shapeFits, tapeFits, TapeOk}
-
-pub record TapeFits (k : ℕ) (t : Tape) (c : List ℕ) : Type 0 where
-  pub least : 32 ≤ t .len
-  pub most : t .len ≤ length c
-  pub head-in : t .head < t .len
-  pub origin-in : t .origin < t .len
-  pub low-head : t .lowest ≤ t .head
-  pub head-high : t .head ≤ t .highest
-  pub high-in : t .highest < t .len
-  pub symbols : (i : ℕ) → i < t .len → getD c i 0 < k
+use Rattle.tape.specs.Fits.{shapeFits, tapeFits, TapeFits, TapeOk}
 
 -- the same of a Bool that a callee returned
 pub shape-len : (t : Tape) (cap : ℕ) (r : Bool) → r ≡ shapeFits t cap → r ≡ true → t .len ≤ cap

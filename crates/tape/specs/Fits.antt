@@ -3,7 +3,7 @@ use mathlib.Core.Bool.{Bool}
 use mathlib.Core.List.{List}
 use Prim.Native.Nat.{ℕ, _≤_, _<_}
 use lib.Dec.{ltb, leb}
-use lib.ListN.{length}
+use lib.ListN.{length, getD}
 use Rattle.laws.specs.Choice.{both}
 use Rattle.laws.specs.Scan.{allIn}
 use Rattle.symbol.specs.Kinds.{symbolIn}
@@ -23,6 +23,17 @@ shapeFits t cap =
 -- "symbols below k": of the first len cells, those past are not looked at
 unfoldable pub tapeFits : (k : ℕ) → Tape → List ℕ → Bool
 tapeFits k t c = both (shapeFits t (length c)) (allIn (symbolIn k c) (t .len) 0)
+
+-- the same, part by part
+pub record TapeFits (k : ℕ) (t : Tape) (c : List ℕ) : Type 0 where
+  pub least : 32 ≤ t .len
+  pub most : t .len ≤ length c
+  pub head-in : t .head < t .len
+  pub origin-in : t .origin < t .len
+  pub low-head : t .lowest ≤ t .head
+  pub head-high : t .head ≤ t .highest
+  pub high-in : t .highest < t .len
+  pub symbols : (i : ℕ) → i < t .len → getD c i 0 < k
 
 -- true of every tape that fits, and of one that the machine lacks, whose numbers are 0
 pub record TapeOk (t : Tape) (c : List ℕ) : Type 0 where

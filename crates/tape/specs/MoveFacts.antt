@@ -17,8 +17,8 @@ use Rattle.tape.specs.declared.Tape.{Tape}
 use Rattle.tape.specs.Growth.{extra}
 use Rattle.tape.specs.GrowthFacts.{extra-room, extra-within}
 use Rattle.tape.specs.Moves.{Held, held, freshOf, noTape, readOf, writeOf, leaves, roomFor, grownBy, growOf, shiftOf, shifted, moveOf, actOf}
-use Rattle.tape.specs.Fits.{tapeFits, TapeOk, TapeSafe}
-use Rattle.tape.specs.FitFacts.{TapeFits, fits-says, fits-ok}
+use Rattle.tape.specs.Fits.{tapeFits, TapeFits, TapeOk, TapeSafe}
+use Rattle.tape.specs.FitFacts.{fits-says, fits-ok}
 use Rattle.tape.specs.MoveCases.{room-says, grown-stays}
 use Rattle.tape.specs.CellFacts.{length-fresh, fresh-low, fresh-word, fresh-high, length-grown, GrownCell, old, new-low, new-high, grown-holds}
 
