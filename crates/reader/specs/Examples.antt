@@ -54,6 +54,9 @@ pub record Examples : Type 0 where
       ≡ 1 ∷ 1 ∷ 0 ∷ 1 ∷ 0 ∷ 0 ∷ 25 ∷ 0 ∷ 1 ∷ 1 ∷ 0 ∷ 1 ∷ 0 ∷ 0 ∷ 24 ∷ 0 ∷ 1 ∷ 0 ∷ 0 ∷ 1 ∷ 0 ∷ 0 ∷ 24 ∷ 0 ∷ 1 ∷ 2 ∷ 0 ∷ 1 ∷ 0 ∷ 0 ∷ 25 ∷ 0
       ∷ 0 ∷ 0 ∷ 0 ∷ 0 ∷ 0 ∷ 0 ∷ 0 ∷ 0 ∷ 0 ∷ 0 ∷ 0 ∷ 0 ∷ 0 ∷ 0 ∷ 0 ∷ 0 ∷ []
   pub whole-calls : calls (listing (upTo10 ++ bytes "seek 3\nforward 100\nback 2\nseek 0\n")) ≡ seek 3 ∷ forward 100 ∷ back 2 ∷ seek 0 ∷ []
+  -- "Entry lines come in any order; there may be none"
+  pub any-order : entries (listing (upTo3 ++ bytes "1 1 1 R 2\n0 1 1 L 1\n1 0 1 L 0\n0 0 1 R 1\nword\n\ncall number\n")) ≡ entries (listing upTo10)
+  pub no-entries : badLine (listing (upTo3 ++ bytes "word\n\ncall number\n")) ≡ 0
   -- "the last newline may be missing"; "no call lines"; a call's number of 64 bits; a word
   pub unended : calls (listing (upTo10 ++ bytes "seek 3")) ≡ seek 3 ∷ []
   pub no-calls : badLine (listing upTo10) ≡ 0
@@ -82,6 +85,8 @@ examples =
     record {
       whole-table = refl;
       whole-calls = refl;
+      any-order = refl;
+      no-entries = refl;
       unended = refl;
       no-calls = refl;
       largest = refl;
