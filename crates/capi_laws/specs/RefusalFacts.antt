@@ -7,9 +7,7 @@ use lib.ListN.{getD, set}
 use Rattle.outcome.specs.declared.Outcome.{Outcome}
 use Rattle.outcome.specs.declared.Refusal.{Refusal}
 use Rattle.outcome.specs.declared.Refusal.the-variants.{Tapes, Symbols, States, Start, TableSize, Entry, PackedWords, SeveralTapes, WordLength, WordSymbol, BufferSize, Misfit, StepLimit, Settings, StoreSize, Slot, Glyph, OutputSize}
-use Rattle.outcome.specs.declared.Place.{Place}
-use Rattle.outcome.specs.declared.Place.the-variants.{At, Unsaid}
-use Rattle.outcome.specs.Numbers.{refusalNumber, placeOf}
+use Rattle.outcome.specs.Numbers.{refusalNumber}
 use Rattle.machine.specs.declared.Checked.{Checked}
 use Rattle.machine.specs.declared.Checked.the-variants.{Accepted, Refused}
 use Rattle.course.specs.declared.Answer.{Answer}
@@ -39,7 +37,7 @@ use Rattle.rle_engine.specs.Kind.{chainKind}
 use Rattle.sim_timeline.specs.Worlds as PlainTimes
 use Rattle.rle_timeline.specs.Worlds as ChainTimes
 use Rattle.numbers.specs.Engines.{engineOf, withEngine, chainOf, timesFrom}
-use Rattle.numbers.specs.Answers.{placeOut, refusedOut, checkedCode, checkedOut, gotCode, gotOut, countedCode, countedOut, extentCode, extentOut, locatedCode, locatedOut}
+use Rattle.numbers.specs.Answers.{refusedOut, checkedCode, checkedOut, gotCode, gotOut, countedCode, countedOut, extentCode, extentOut, locatedCode, locatedOut}
 use Rattle.capi.specs.Calls.{call, newCall, stepCall, ranCall}
 use Rattle.capi.specs.Chains.{chainCall, chainNewCall, chainRanCall}
 use Rattle.capi.specs.Timelines.{timelineNewCall, timelineCall, movedCall}
@@ -47,37 +45,39 @@ use Rattle.capi.specs.ChainTimelines.{chainTimelineCall, chainMovedCall}
 use Rattle.demands.specs.FirstClaims.{ofFresh, ofAnswer, ofStep, ofChain}
 use Rattle.demands.specs.FirstTimeline.{ofReply}
 use Rattle.capi_laws.specs.RoundTrips.{engine-kept, chain-kept, times-kept}
-use Rattle.capi_laws.specs.Refusals.{Unchanged, Asks, Fills, Runs, ChainRuns, Begins, Moves, ChainMoves}
+use Rattle.capi_laws.specs.Refusals.{OutKept, Unchanged, Asks, Fills, Runs, ChainRuns, Begins, Moves, ChainMoves}
 
 -- ---- `out`
 
-placed : (p : Place) (out : List ℕ) → placeOut p out ≡ set out 0 (getD (placeOut p out) 0 0)
-placed (At i) [] = refl
-placed (At i) (x ∷ xs) = refl
-placed Unsaid out = sym (set-getD out 0 0)
+whole : (n : ℕ) (out : List ℕ) → OutKept n out out
+whole n out = record { rest = sym (set-getD out 0 0); unnamed = λ a b c. refl }
 
-unnamed : (why : Refusal) (out : List ℕ) → ¬ (refusalNumber why ≡ 6) → ¬ (refusalNumber why ≡ 10) → ¬ (refusalNumber why ≡ 17) → refusedOut why out ≡ out
-unnamed Tapes out a b c = refl
-unnamed Symbols out a b c = refl
-unnamed States out a b c = refl
-unnamed Start out a b c = refl
-unnamed TableSize out a b c = refl
-unnamed (Entry i) out a b c = absurd (a refl)
-unnamed PackedWords out a b c = refl
-unnamed SeveralTapes out a b c = refl
-unnamed WordLength out a b c = refl
-unnamed (WordSymbol i) out a b c = absurd (b refl)
-unnamed BufferSize out a b c = refl
-unnamed Misfit out a b c = refl
-unnamed StepLimit out a b c = refl
-unnamed Settings out a b c = refl
-unnamed StoreSize out a b c = refl
-unnamed Slot out a b c = refl
-unnamed (Glyph i) out a b c = absurd (c refl)
-unnamed OutputSize out a b c = refl
+placed : (i : ℕ) (out : List ℕ) → set out 0 i ≡ set out 0 (getD (set out 0 i) 0 0)
+placed i [] = refl
+placed i (x ∷ xs) = refl
+
+told : (why : Refusal) (out : List ℕ) → OutKept (refusalNumber why) out (refusedOut why out)
+told Tapes out = whole 1 out
+told Symbols out = whole 2 out
+told States out = whole 3 out
+told Start out = whole 4 out
+told TableSize out = whole 5 out
+told (Entry i) out = record { rest = placed i out; unnamed = λ a b c. absurd (a refl) }
+told PackedWords out = whole 7 out
+told SeveralTapes out = whole 8 out
+told WordLength out = whole 9 out
+told (WordSymbol i) out = record { rest = placed i out; unnamed = λ a b c. absurd (b refl) }
+told BufferSize out = whole 11 out
+told Misfit out = whole 12 out
+told StepLimit out = whole 13 out
+told Settings out = whole 14 out
+told StoreSize out = whole 15 out
+told Slot out = whole 16 out
+told (Glyph i) out = record { rest = placed i out; unnamed = λ a b c. absurd (c refl) }
+told OutputSize out = whole 18 out
 
 turned : {X : Type 0} {asItWas : List ℕ → X} {left : X} (why : Refusal) (out : List ℕ) → left ≡ asItWas (refusedOut why out) → Unchanged (refusalNumber why) out asItWas left
-turned why out k = record { after = refusedOut why out; told = record { rest = placed (placeOf why) out; unnamed = unnamed why out }; kept = k }
+turned why out k = record { after = refusedOut why out; told = told why out; kept = k }
 
 -- ---- checks and questions
 

@@ -1,5 +1,5 @@
 -- What a function exported with C linkage leaves where it refuses: "A refusal leaves everything lent or passed as it was." Definitions only.
--- Each part is about the definition that the contract of its function cites, for every value lent or passed.
+-- Each part is about the definition that the contract of its function cites, for every value lent or passed. What is lent for reading alone no call can write.
 use mathlib.Core.Path.{_≡_}
 use mathlib.Core.List.{List}
 use Prim.Native.Nat.{ℕ}
