@@ -1,0 +1,4 @@
+pub mod RoundTrips
+pub mod Refusals
+pub mod RefusalFacts
+pub mod Exports
