@@ -104,18 +104,17 @@ fn next_block(left: usize) -> usize
 }
 
 // Slot `from` into slot `to`, below it, block by block.
-pub fn move_slot(store: &mut [u8], size: usize, from: usize, to: usize)
+fn move_slot(store: &mut [u8], block: &mut [u8; 1024], size: usize, from: usize, to: usize)
     requires { ⌜ from * size + size ≤ length (now store) ⌝ }
     requires { ⌜ to < from ⌝ }
     ensures { λ _. ⌜ now (store .exit) ≡ moveSlot size from to (now (store .entry)) ⌝ }
 {
     let a = from * size;
     let b = to * size;
-    let mut block: [u8; 1024] = [0; 1024];
     let mut j = 0;
     while j < size {
         let n = next_block(size - j);
-        move_block(store, &mut block, a + j, b + j, n);
+        move_block(store, block, a + j, b + j, n);
         j += n;
     }
 }
@@ -126,9 +125,10 @@ pub fn thin(store: &mut [u8], size: usize, k: usize)
     requires { ⌜ k ≤ 512 ⌝ }
     ensures { λ _. ⌜ now (store .exit) ≡ thinBy (moveSlot size) k (now (store .entry)) ⌝ }
 {
+    let mut block: [u8; 1024] = [0; 1024];
     let mut i = 0;
     while i < k {
-        move_slot(store, size, 2 * (i + 1), i + 1);
+        move_slot(store, &mut block, size, 2 * (i + 1), i + 1);
         i += 1;
     }
 }

@@ -11,10 +11,10 @@ use Rattle.slots.proofs.inner.move_slot.Statement.{statement}
 use Rattle.slots.proofs.inner.move_slot.Tie as tie
 
 abbrev Inv-loop : tie.InvT-loop
-Inv-loop store₀ size from to a b block₀ j₀ store block j = (j ≤ size) × (b + size ≤ a) × (length store ≡ length store₀) × (length block ≡ 1024) × (store ≡ copied size from to store₀ j)
+Inv-loop store₀ block₀ size from to a b j₀ store block j = (j ≤ size) × (b + size ≤ a) × (length store ≡ length store₀) × (store ≡ copied size from to store₀ j)
 
 abbrev μ-loop : tie.MeasureT-loop
-μ-loop store₀ size from to a b block₀ j₀ store block j = size - j
+μ-loop store₀ block₀ size from to a b j₀ store block j = size - j
 
 mul-a : tie.Need-mul-a Inv-loop μ-loop
 mul-a c = search needs
@@ -23,16 +23,13 @@ mul-b : tie.Need-mul-b Inv-loop μ-loop
 mul-b c = record { fits = omega (arith, mul-le-mul-right (c .before .args .size) (c .before .pre .1)) }
 
 loop-holds : tie.Need-loop-holds Inv-loop μ-loop
-loop-holds c = (omega arith, omega (arith, mul-le-mul-right (c .before .args .size) (c .before .pre .1)), refl, refl, search copied-none)
+loop-holds c = (omega arith, omega (arith, mul-le-mul-right (c .before .args .size) (c .before .pre .1)), refl, search copied-none)
 
 sub-next-block : tie.Need-sub-next-block Inv-loop μ-loop
 sub-next-block c = search needs
 
 next-block-requires : tie.Need-next-block-requires Inv-loop μ-loop
 next-block-requires c κs = search needs
-
-slice-aggregate-move-block : tie.Need-slice-aggregate-move-block Inv-loop μ-loop
-slice-aggregate-move-block c = search needs
 
 add-move-block : tie.Need-add-move-block Inv-loop μ-loop
 add-move-block c = search needs
@@ -51,16 +48,15 @@ loop-less c = search needs
 
 loop-again : tie.Need-loop-again Inv-loop μ-loop
 loop-again c =
-    let at-next = c .before .before .before .before .before .before in
+    let at-next = c .before .before .before .before .before in
     let at-loop = at-next .before .before in
     let at-start = at-loop .before .before in (
       omega arith,
       omega arith,
       search needs,
-      search needs,
       move-turn (at-start .args .size) (at-start .args .from) (at-start .args .to) (at-start .args .store .now)
           (at-loop .loop .store) _ (at-loop .loop .j) (at-next .next-block .result)
-          (at-start .pre .0) (at-start .pre .1) (omega arith) (at-loop .loop .inv .4) (c .before .before .before .move-block .ensures),
+          (at-start .pre .0) (at-start .pre .1) (omega arith) (at-loop .loop .inv .3) (c .before .before .move-block .ensures),
     )
 
 same-length : tie.Need-same-length Inv-loop μ-loop
@@ -80,7 +76,6 @@ move-slot-spec =
     loop-holds
     sub-next-block
     next-block-requires
-    slice-aggregate-move-block
     add-move-block
     add-move-block-2
     move-block-requires

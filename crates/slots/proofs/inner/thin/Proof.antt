@@ -10,10 +10,10 @@ use Rattle.slots.proofs.inner.thin.Statement.{statement}
 use Rattle.slots.proofs.inner.thin.Tie as tie
 
 abbrev Inv-loop : tie.InvT-loop
-Inv-loop store₀ size k i₀ store i = (i ≤ k) × (length store ≡ length store₀) × (store ≡ thinBy (moveSlot size) i store₀)
+Inv-loop store₀ size k block₀ i₀ store block i = (i ≤ k) × (length store ≡ length store₀) × (store ≡ thinBy (moveSlot size) i store₀)
 
 abbrev μ-loop : tie.MeasureT-loop
-μ-loop store₀ size k i₀ store i = k - i
+μ-loop store₀ size k block₀ i₀ store block i = k - i
 
 loop-holds : tie.Need-loop-holds Inv-loop μ-loop
 unfolding thinBy
