@@ -12,11 +12,11 @@ fn say(what: &[u8], number: u64) {
 }
 
 // Every operation takes every input: what it turns away gets a number, and nothing lent has changed.
-pub fn refused(why: Refusal) {
+pub(crate) fn refused(why: Refusal) {
     say(b"refused ", why.number() as u64);
 }
 
-pub fn told(call: &[u8], answer: Answer) {
+pub(crate) fn told(call: &[u8], answer: Answer) {
     io::write_all(1, call);
     match answer {
         Answer::Refused(why) => refused(why),
@@ -31,14 +31,14 @@ pub fn told(call: &[u8], answer: Answer) {
 }
 
 // The engine came back with its answer, and is handed on for the next call.
-pub fn ran(call: &[u8], answered: sim::Answered) -> Simulator {
+pub(crate) fn ran(call: &[u8], answered: sim::Answered) -> Simulator {
     let answer = answered.answer;
     told(call, answer);
     answered.sim
 }
 
 // Likewise the timeline.
-pub fn moved(call: &[u8], answered: sim_timeline::Answered) -> Timeline {
+pub(crate) fn moved(call: &[u8], answered: sim_timeline::Answered) -> Timeline {
     let answer = answered.answer;
     told(call, answer);
     answered.timeline

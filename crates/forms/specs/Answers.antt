@@ -4,7 +4,7 @@ use mathlib.Core.List.{List, [], _∷_, _++_}
 use mathlib.Core.Option.{Option, none, some}
 use lib.ListN.{getD, take}
 use Rattle.machine.specs.declared.Machine.{Machine}
-use Rattle.times.specs.Timeline.{Call, callFor}
+use Rattle.times.specs.Timeline.{Call, seek, forward, back, callFor}
 use Rattle.forms.specs.declared.Rule.{Rule}
 use Rattle.forms.specs.declared.MachineLine.{MachineLine}
 use Rattle.forms.specs.declared.MachineLine.the-variants as ML
@@ -33,6 +33,13 @@ wordIn C.Bad w = none
 unfoldable pub callIn : CallLine → Option Call
 callIn (CL.Of c) = some (callFor (c .kind) (c .number))
 callIn CL.Bad = none
+
+-- the numbers by which a call is told: 0 for seek, 1 for forward, 2 for back
+unfoldable pub callCode : Option Call → CallLine
+callCode (some (seek n)) = CL.Of (record { kind = 0; number = n })
+callCode (some (forward n)) = CL.Of (record { kind = 1; number = n })
+callCode (some (back n)) = CL.Of (record { kind = 2; number = n })
+callCode none = CL.Bad
 
 -- call i of a slice of numbers: its kind at 2i, its number at 2i + 1
 abbrev pub callAt : List ℕ → ℕ → Call

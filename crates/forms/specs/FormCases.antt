@@ -32,7 +32,7 @@ use Rattle.forms.specs.declared.CallLine.{CallLine}
 use Rattle.forms.specs.declared.CallLine.the-variants as CL
 use Rattle.forms.specs.declared.Count.the-variants as C
 use Rattle.forms.specs.Forms.{onSome, machineLine, entryLine, symbolsOf, wordOf, place, given, actionOf, define}
-use Rattle.forms.specs.Answers.{machineIn, ruleIn, wordIn, callIn, callsOf, Small, RuleOk}
+use Rattle.forms.specs.Answers.{machineIn, ruleIn, wordIn, callIn, callCode, callsOf, Small, RuleOk}
 use Rattle.forms.specs.FormFacts.{below-lt, rule-ok, machine-good, good-small}
 
 -- ---- what a callee read
@@ -71,6 +71,10 @@ entry-ok m l e r p q = rule-ok m l e (sym p ∙ ap ruleIn q)
 pub machine-small : (l : List ℕ) (m : Machine) (r : MachineLine) → machineIn r ≡ machineLine l → r ≡ ML.Of m → Small m
 unfolding machineIn
 machine-small l m r p q = good-small (machine-good l m (sym p ∙ ap machineIn q))
+
+-- an answer that is its call's numbers
+pub coded : (r : CallLine) (x : Option Call) → r ≡ callCode (callIn r) → callIn r ≡ x → (r ≡ callCode x) × (callIn r ≡ x)
+coded r x e p = (e ∙ ap callCode p, p)
 
 -- ---- `give` and `store`
 

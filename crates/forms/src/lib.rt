@@ -5,7 +5,7 @@ use text::fields;
 ghost use mathlib.Core.Path.{_≡_};
 ghost use Rattle.text.specs.Pieces.{field, sameList};
 ghost use Rattle.forms.specs.Forms.{firstLine, columnsLine, wordLine, headingLine, machineOk, machineLine, move, entryLine, callLine};
-ghost use Rattle.forms.specs.Answers.{machineIn, ruleIn, callIn};
+ghost use Rattle.forms.specs.Answers.{machineIn, ruleIn, callIn, callCode};
 
 pub mod inner;
 
@@ -179,7 +179,7 @@ fn move_at(l: &[u8], k: usize) -> Num
 }
 
 pub fn call_line(l: &[u8]) -> CallLine
-    ensures { λ r. ⌜ callIn r ≡ callLine (now (l .entry)) ⌝ }
+    ensures { λ r. ⌜ (r ≡ callCode (callLine (now (l .entry)))) × (callIn r ≡ callLine (now (l .entry))) ⌝ }
 {
     if fields::count_fields(l) != 2 {
         return CallLine::Bad;

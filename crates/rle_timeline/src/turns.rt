@@ -143,7 +143,7 @@ impl Timeline {
     }
 
     pub(crate) fn advance_to(
-        self,
+        mut self,
         m: Machine,
         table: &[u8],
         ls: &mut [u8],
@@ -157,9 +157,8 @@ impl Timeline {
         requires { ⌜ LoopOk chainKind size (Fits m (now table) size) target (W self (now ls) (now ll) (now rs) (now rl) (now store)) ⌝ }
         ensures { λ r. ⌜ (r .outcome, W (r .timeline) (now (ls .exit)) (now (ll .exit)) (now (rs .exit)) (now (rl .exit)) (now (store .exit))) ≡ wayOf chainKind m (now (table .entry)) size target (W self (now (ls .entry)) (now (ll .entry)) (now (rs .entry)) (now (rl .entry)) (now (store .entry))) ⌝ }
     {
-        let mut timeline = self;
         loop {
-            let turn = timeline.turn(m, table, ls, ll, rs, rl, store, size, target);
+            let turn = self.turn(m, table, ls, ll, rs, rl, store, size, target);
             let next = turn.timeline;
             if turn.done {
                 let outcome = turn.outcome;
@@ -168,7 +167,7 @@ impl Timeline {
                     outcome,
                 };
             }
-            timeline = next;
+            self = next;
         }
     }
 }

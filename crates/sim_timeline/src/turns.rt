@@ -139,7 +139,7 @@ impl Timeline {
     }
 
     pub(crate) fn advance_to(
-        self,
+        mut self,
         m: Machine,
         table: &[u8],
         c0: &mut [u8],
@@ -152,9 +152,8 @@ impl Timeline {
         requires { ⌜ LoopOk plainKind size (Fits m (now table) size) target (W self (now c0) (now c1) (now c2) (now store)) ⌝ }
         ensures { λ r. ⌜ (r .outcome, W (r .timeline) (now (c0 .exit)) (now (c1 .exit)) (now (c2 .exit)) (now (store .exit))) ≡ wayOf plainKind m (now (table .entry)) size target (W self (now (c0 .entry)) (now (c1 .entry)) (now (c2 .entry)) (now (store .entry))) ⌝ }
     {
-        let mut timeline = self;
         loop {
-            let turn = timeline.turn(m, table, c0, c1, c2, store, size, target);
+            let turn = self.turn(m, table, c0, c1, c2, store, size, target);
             let next = turn.timeline;
             if turn.done {
                 let outcome = turn.outcome;
@@ -163,7 +162,7 @@ impl Timeline {
                     outcome,
                 };
             }
-            timeline = next;
+            self = next;
         }
     }
 }

@@ -13,7 +13,7 @@ ghost use Rattle.text.specs.Pieces.{fields, field, sameList};
 ghost use Rattle.text.specs.Steps.{IsField};
 
 // From index `start` to before `end`.
-pub struct Span {
+pub(crate) struct Span {
     pub start: usize,
     pub end: usize,
 }
@@ -41,7 +41,7 @@ fn step_of(b: u8) -> usize
 }
 
 // Where field k of a line stands; empty at the end where the line has no such field.
-pub fn field_at(l: &[u8], k: usize) -> Span
+pub(crate) fn field_at(l: &[u8], k: usize) -> Span
     ensures { λ r. ⌜ IsField (now (l .entry)) k (r .start) (r .end) ⌝ }
 {
     let mut at = 0;

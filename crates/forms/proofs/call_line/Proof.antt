@@ -1,6 +1,8 @@
+use mathlib.Core.Path.{refl}
 use borrow.Author.Needs.{needs}
 use Rattle.forms.specs.Forms.{callLine}
-use Rattle.forms.specs.Answers.{callIn}
+use Rattle.forms.specs.Answers.{callIn, callCode}
+use Rattle.forms.specs.FormCases.{coded}
 use Rattle.text.specs.Chain.{chain}
 use Rattle.forms.proofs.call_line.Statement.{statement}
 use Rattle.forms.proofs.call_line.Tie as tie
@@ -9,8 +11,8 @@ count-fields-requires : tie.Need-count-fields-requires
 count-fields-requires c κs = search needs
 
 returns : tie.Need-returns
-unfolding callLine callIn
-returns c = search chain depth 12
+unfolding callLine callIn callCode
+returns c = coded _ _ refl (search chain depth 12)
 
 number-at-requires : tie.Need-number-at-requires
 number-at-requires c κs = search needs
@@ -22,8 +24,8 @@ enum-told : tie.Need-enum-told
 enum-told c = search needs
 
 returns-2 : tie.Need-returns-2
-unfolding callLine callIn
-returns-2 c = search chain depth 12
+unfolding callLine callIn callCode
+returns-2 c = coded _ _ refl (search chain depth 12)
 
 slice-aggregate-field-is : tie.Need-slice-aggregate-field-is
 slice-aggregate-field-is c = search needs
@@ -32,8 +34,8 @@ field-is-requires : tie.Need-field-is-requires
 field-is-requires c κs = search needs
 
 returns-3 : tie.Need-returns-3
-unfolding callLine callIn
-returns-3 c = search chain depth 12
+unfolding callLine callIn callCode
+returns-3 c = coded _ _ refl (search chain depth 12)
 
 slice-aggregate-field-is-2 : tie.Need-slice-aggregate-field-is-2
 slice-aggregate-field-is-2 c = search needs
@@ -42,8 +44,8 @@ field-is-requires-2 : tie.Need-field-is-requires-2
 field-is-requires-2 c κs = search needs
 
 returns-4 : tie.Need-returns-4
-unfolding callLine callIn
-returns-4 c = search chain depth 12
+unfolding callLine callIn callCode
+returns-4 c = coded _ _ refl (search chain depth 12)
 
 slice-aggregate-field-is-3 : tie.Need-slice-aggregate-field-is-3
 slice-aggregate-field-is-3 c = search needs
@@ -52,12 +54,12 @@ field-is-requires-3 : tie.Need-field-is-requires-3
 field-is-requires-3 c κs = search needs
 
 returns-5 : tie.Need-returns-5
-unfolding callLine callIn
-returns-5 c = search chain depth 12
+unfolding callLine callIn callCode
+returns-5 c = coded _ _ refl (search chain depth 12)
 
 returns-6 : tie.Need-returns-6
-unfolding callLine callIn
-returns-6 c = search chain depth 12
+unfolding callLine callIn callCode
+returns-6 c = coded _ _ refl (search chain depth 12)
 
 pub call-line-spec : {M : Type 1} → statement M
 call-line-spec =

@@ -10,10 +10,10 @@ use Rattle.rle_timeline.proofs.Timeline.advance_to.Statement.{statement
 use Rattle.rle_timeline.proofs.Timeline.advance_to.Tie as tie
 
 abbrev Inv-loop : tie.InvT-loop
-Inv-loop m table ls₀ ll₀ rs₀ rl₀ store₀ size target timeline₀ ls ll rs rl store timeline = (LoopInv chainKind m table size (Fits m table size) target (W timeline₀ ls₀ ll₀ rs₀ rl₀ store₀) (W timeline ls ll rs rl store)) × (length ls ≡ length ls₀) × (length ll ≡ length ll₀) × (length rs ≡ length rs₀) × (length rl ≡ length rl₀) × (length store ≡ length store₀)
+Inv-loop self₀ m table ls₀ ll₀ rs₀ rl₀ store₀ size target self ls ll rs rl store = (LoopInv chainKind m table size (Fits m table size) target (W self₀ ls₀ ll₀ rs₀ rl₀ store₀) (W self ls ll rs rl store)) × (length ls ≡ length ls₀) × (length ll ≡ length ll₀) × (length rs ≡ length rs₀) × (length rl ≡ length rl₀) × (length store ≡ length store₀)
 
 abbrev μ-loop : tie.MeasureT-loop
-μ-loop m table ls₀ ll₀ rs₀ rl₀ store₀ size target timeline₀ ls ll rs rl store timeline = target - timeline .engine .steps
+μ-loop self₀ m table ls₀ ll₀ rs₀ rl₀ store₀ size target self ls ll rs rl store = target - self .engine .steps
 
 loop-holds : tie.Need-loop-holds Inv-loop μ-loop
 loop-holds c = (loop-start chainKind _ _ _ _ _ _ (c .before .before .before .before .before .before .pre), refl, refl, refl, refl, refl)

@@ -10,10 +10,10 @@ use Rattle.sim_timeline.proofs.Timeline.advance_to.Statement.{statement
 use Rattle.sim_timeline.proofs.Timeline.advance_to.Tie as tie
 
 abbrev Inv-loop : tie.InvT-loop
-Inv-loop m table c0₀ c1₀ c2₀ store₀ size target timeline₀ c0 c1 c2 store timeline = (LoopInv plainKind m table size (Fits m table size) target (W timeline₀ c0₀ c1₀ c2₀ store₀) (W timeline c0 c1 c2 store)) × (length c0 ≡ length c0₀) × (length c1 ≡ length c1₀) × (length c2 ≡ length c2₀) × (length store ≡ length store₀)
+Inv-loop self₀ m table c0₀ c1₀ c2₀ store₀ size target self c0 c1 c2 store = (LoopInv plainKind m table size (Fits m table size) target (W self₀ c0₀ c1₀ c2₀ store₀) (W self c0 c1 c2 store)) × (length c0 ≡ length c0₀) × (length c1 ≡ length c1₀) × (length c2 ≡ length c2₀) × (length store ≡ length store₀)
 
 abbrev μ-loop : tie.MeasureT-loop
-μ-loop m table c0₀ c1₀ c2₀ store₀ size target timeline₀ c0 c1 c2 store timeline = target - timeline .engine .steps
+μ-loop self₀ m table c0₀ c1₀ c2₀ store₀ size target self c0 c1 c2 store = target - self .engine .steps
 
 loop-holds : tie.Need-loop-holds Inv-loop μ-loop
 loop-holds c = (loop-start plainKind _ _ _ _ _ _ (c .before .before .before .before .before .pre), refl, refl, refl, refl)
