@@ -35,7 +35,9 @@ use Rattle.sim.specs.Questions.{questionCheck, getAnswer, extentAnswer, countAn
 use Rattle.sim_refines.specs.Meaning.{configOf}
 use Rattle.sim_refines.specs.Counts.{Counts}
 use Rattle.sim_refines.specs.Operations.{HandedBack, RunHolds, StepHolds}
-use Rattle.sim_refines.specs.FreshFacts.{new-holds, new-fits}
+use Rattle.sim_refines.specs.Lent.{PastKept}
+use Rattle.sim_refines.specs.FreshFacts.{new-holds, new-fits, new-past}
+use Rattle.sim_refines.specs.PastFacts.{run-kept, fast-kept, step-kept}
 use Rattle.sim_refines.specs.OperationFacts.{run-holds, run-never-halts, fast-agrees, fast-done, step-holds, step-handed-back}
 use Rattle.demands.specs.PlainClaims.{tapeOn}
 use Rattle.demands.specs.PlainQuestions.{plain-gets, plain-spans, plain-counts, plain-windows, plain-finds}
@@ -59,6 +61,13 @@ pub record PlainEngine : Type 0 where
       → fastAnswer m s words rule fuel σ ≡ runAnswer m s rule fuel σ
   pub fast-runs : (m : Machine) (s words : List ℕ) (rule : StopRule) (fuel : ℕ) (σ τ : Conf) (o : Outcome)
       → fastAnswer m s words rule fuel σ ≡ given τ (Ans.Done o) → runAnswer m s rule fuel σ ≡ given τ (Ans.Done o)
+  -- "Bytes of the lent buffer past the length are never read; those past a call's final length stay.": past the length that each tape has afterwards a fresh
+  -- engine, a run, a fast run and a step leave each buffer as it was (PastKept), whatever they answer
+  pub fresh-past : (m : Machine) (s w c0 c1 c2 : List ℕ) (v : Simulator) (d0 d1 d2 : List ℕ) → newAnswer m s w c0 c1 c2 ≡ made (New.Made v) d0 d1 d2
+      → PastKept c0 c1 c2 (conf v d0 d1 d2)
+  pub run-past : (m : Machine) (s : List ℕ) (rule : StopRule) (fuel : ℕ) (σ : Conf) → PastKept (σ .c0) (σ .c1) (σ .c2) (runAnswer m s rule fuel σ .at)
+  pub fast-past : (m : Machine) (s words : List ℕ) (rule : StopRule) (fuel : ℕ) (σ : Conf) → PastKept (σ .c0) (σ .c1) (σ .c2) (fastAnswer m s words rule fuel σ .at)
+  pub step-past : (m : Machine) (s : List ℕ) (σ : Conf) → PastKept (σ .c0) (σ .c1) (σ .c2) (stepAnswer m s σ .at)
   -- "`get`, `non_blank`, `count_non_blank`, `window` and `find_non_blank` answer over all of i64; a cell outside is blank": the questions answer what tape i of
   -- the configuration held has. At a position the cell; of the non-blank cells the smallest range (Spans) and the number (Counts)
   pub gets : (m : Machine) (s : List ℕ) (i : ℕ) (σ : Conf) (z : ℤ) (x : Symbol) → getAnswer m s i z σ ≡ Got.Found x → x .0 ≡ tapeOn i (configOf m σ) .cell z
@@ -79,6 +88,10 @@ plain-engine = record {
   never = λ m s b rule fuel σ τ n p e. run-never-halts m s b rule fuel σ τ (NeverHalts n p) e n p refl;
   fast = fast-agrees;
   fast-runs = λ m s words rule fuel σ τ o e. fast-done m s words rule fuel σ τ o e;
+  fresh-past = new-past;
+  run-past = λ m s rule fuel σ. run-kept m s σ rule fuel;
+  fast-past = λ m s words rule fuel σ. fast-kept m s σ words rule fuel;
+  step-past = step-kept;
   gets = plain-gets;
   spans = plain-spans;
   counts = plain-counts;
