@@ -6,6 +6,7 @@ use lib.ListN.{length, getD}
 use Rattle.machine.specs.declared.Machine.{Machine}
 use Rattle.tape.specs.Moves.{Held}
 use Rattle.sim.specs.Engine.{Conf, tape0, tape1, tape2}
+use Rattle.sim.specs.Operations.{Given, StepGiven}
 
 -- ---- "those past a call's final length stay"
 
@@ -34,3 +35,12 @@ pub record SameLive (m : Machine) (σ τ : Conf) : Type 0 where
   pub cells0 : SameFirst (τ .sim .t0 .len) (σ .c0) (τ .c0)
   pub cells1 : 1 < m .tapes → SameFirst (τ .sim .t1 .len) (σ .c1) (τ .c1)
   pub cells2 : 2 < m .tapes → SameFirst (τ .sim .t2 .len) (σ .c2) (τ .c2)
+
+-- two answers of runs, and of steps: the same one, and such engines again
+pub record SameGiven (m : Machine) (x y : Given) : Type 0 where
+  pub answer : x .answer ≡ y .answer
+  pub at : SameLive m (x .at) (y .at)
+
+pub record SameStepGiven (m : Machine) (x y : StepGiven) : Type 0 where
+  pub answer : x .answer ≡ y .answer
+  pub at : SameLive m (x .at) (y .at)

@@ -10,6 +10,9 @@ pub mod Refinement
 pub mod RunFacts
 pub mod BareFacts
 pub mod PastFacts
+pub mod LiveFacts
+pub mod BesideFacts
+pub mod SameFacts
 pub mod FreshFacts
 pub mod OperationFacts
 pub mod CountFacts
