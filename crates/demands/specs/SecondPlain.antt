@@ -40,6 +40,10 @@ use Rattle.sim_refines.specs.FreshFacts.{new-holds, new-fits, new-past}
 use Rattle.sim_refines.specs.PastFacts.{run-kept, fast-kept, step-kept}
 use Rattle.sim_refines.specs.SameFacts.{run-same, fast-same, step-same}
 use Rattle.sim_refines.specs.OperationFacts.{run-holds, run-never-halts, fast-agrees, fast-done, step-holds, step-handed-back}
+use Rattle.times.specs.Timeline.{Call}
+use Rattle.times.specs.Kind.{WorldOf, callOn}
+use Rattle.sim_engine.specs.Kind.{plainKind}
+use Rattle.sim_laws.specs.PastFacts.{call-past}
 use Rattle.demands.specs.PlainClaims.{tapeOn}
 use Rattle.demands.specs.PlainLive.{get-live, span-live, count-live, window-live, find-live}
 use Rattle.demands.specs.PlainQuestions.{plain-gets, plain-spans, plain-counts, plain-windows, plain-finds}
@@ -74,13 +78,14 @@ pub record PlainEngine : Type 0 where
   pub count-live : (m : Machine) (s : List ℕ) (i : ℕ) (σ τ : Conf) → SameLive m σ τ → countAnswer m s i σ ≡ countAnswer m s i τ
   pub window-live : (m : Machine) (s : List ℕ) (i : ℕ) (σ τ : Conf) → SameLive m σ τ → (z : ℤ) (out : List ℕ) → windowInto m s i z σ out ≡ windowInto m s i z τ out
   pub find-live : (m : Machine) (s : List ℕ) (i : ℕ) (σ τ : Conf) → SameLive m σ τ → (z : ℤ) (d : Dir) → findAnswer m s i z d σ ≡ findAnswer m s i z d τ
-  -- "those past a call's final length stay": past the length that each tape has afterwards a fresh engine, a run, a fast run and a step leave each buffer as it
-  -- was (PastKept), whatever they answer
+  -- "those past a call's final length stay": past the length that each tape has afterwards a fresh engine, a run, a fast run, a step and a timeline's call leave
+  -- each buffer as it was (PastKept), whatever they answer
   pub fresh-past : (m : Machine) (s w c0 c1 c2 : List ℕ) (v : Simulator) (d0 d1 d2 : List ℕ) → newAnswer m s w c0 c1 c2 ≡ made (New.Made v) d0 d1 d2
       → PastKept c0 c1 c2 (conf v d0 d1 d2)
   pub run-past : (m : Machine) (s : List ℕ) (rule : StopRule) (fuel : ℕ) (σ : Conf) → PastKept (σ .c0) (σ .c1) (σ .c2) (runAnswer m s rule fuel σ .at)
   pub fast-past : (m : Machine) (s words : List ℕ) (rule : StopRule) (fuel : ℕ) (σ : Conf) → PastKept (σ .c0) (σ .c1) (σ .c2) (fastAnswer m s words rule fuel σ .at)
   pub step-past : (m : Machine) (s : List ℕ) (σ : Conf) → PastKept (σ .c0) (σ .c1) (σ .c2) (stepAnswer m s σ .at)
+  pub call-past : (m : Machine) (s : List ℕ) (w : WorldOf plainKind) (c : Call) → PastKept (w .engine .c0) (w .engine .c1) (w .engine .c2) (callOn plainKind m s w c .1 .engine)
   -- "`get`, `non_blank`, `count_non_blank`, `window` and `find_non_blank` answer over all of i64; a cell outside is blank": the questions answer what tape i of
   -- the configuration held has. At a position the cell; of the non-blank cells the smallest range (Spans) and the number (Counts)
   pub gets : (m : Machine) (s : List ℕ) (i : ℕ) (σ : Conf) (z : ℤ) (x : Symbol) → getAnswer m s i z σ ≡ Got.Found x → x .0 ≡ tapeOn i (configOf m σ) .cell z
@@ -113,6 +118,7 @@ plain-engine = record {
   run-past = λ m s rule fuel σ. run-kept m s σ rule fuel;
   fast-past = λ m s words rule fuel σ. fast-kept m s σ words rule fuel;
   step-past = step-kept;
+  call-past = call-past;
   gets = plain-gets;
   spans = plain-spans;
   counts = plain-counts;

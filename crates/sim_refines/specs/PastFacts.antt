@@ -151,28 +151,33 @@ once-goes m s σ = by (lookWith m s false σ)
 
 -- ---- the operations
 
--- of a tape that the machine lacks the whole buffer stays
-back-stays : (b : Bool) (t u : Tape) (c d : List ℕ) → Acts (held (pick b t noTape) c) (held u d) → PastStays c (held (pick b u t) d)
+-- what stayed before stays; of a tape that the machine lacks the whole buffer does
+back-stays : (b : Bool) (t u : Tape) (before c d : List ℕ) → PastStays before (held t c) → Acts (held (pick b t noTape) c) (held u d) → PastStays before (held (pick b u t) d)
 unfolding pick
-back-stays true t u c d a = a .on .past
-back-stays false t u c d a = λ i l. a .on .past i (omega (arith, a .none refl))
+back-stays true t u before c d p a = λ i l. a .on .past i l ∙ p i (omega (arith, a .on .longer))
+back-stays false t u before c d p a = λ i l. a .on .past i (omega (arith, a .none refl)) ∙ p i l
 
-back-kept : (m : Machine) (σ e : Conf) → Goes (bareOf m σ) e → PastKept (σ .c0) (σ .c1) (σ .c2) (backOf m σ e)
-unfolding bareSim handBack
-back-kept m σ e g = record {
-  past0 = g .acts0 .on .past;
-  past1 = back-stays (has m 1) (σ .sim .t1) (e .sim .t1) (σ .c1) (e .c1) (g .acts1);
-  past2 = back-stays (has m 2) (σ .sim .t2) (e .sim .t2) (σ .c2) (e .c2) (g .acts2);
-}
+module _ (c0 c1 c2 : List ℕ) (m : Machine) (σ : Conf) (p : PastKept c0 c1 c2 σ) where
+  back-kept : (e : Conf) → Goes (bareOf m σ) e → PastKept c0 c1 c2 (backOf m σ e)
+  unfolding bareSim handBack pick
+  back-kept e g = record {
+    past0 = back-stays true (σ .sim .t0) (e .sim .t0) c0 (σ .c0) (e .c0) (p .past0) (g .acts0);
+    past1 = back-stays (has m 1) (σ .sim .t1) (e .sim .t1) c1 (σ .c1) (e .c1) (p .past1) (g .acts1);
+    past2 = back-stays (has m 2) (σ .sim .t2) (e .sim .t2) c2 (σ .c2) (e .c2) (p .past2) (g .acts2);
+  }
 
--- after a refusal all stays
-refused-kept : (σ : Conf) → PastKept (σ .c0) (σ .c1) (σ .c2) σ
-refused-kept σ = record { past0 = λ i l. refl; past1 = λ i l. refl; past2 = λ i l. refl }
+  -- a run on the tapes that the machine has
+  pub ran-kept : (k : Task) (fuel : ℕ) → PastKept c0 c1 c2 (backOf m σ (runOf k fuel (bareOf m σ) .at))
+  ran-kept k fuel = back-kept _ (run-goes k fuel (bareOf m σ))
+
+-- before a call all is as it was, and after a refusal
+pub kept-all : (σ : Conf) → PastKept (σ .c0) (σ .c1) (σ .c2) σ
+kept-all σ = record { past0 = λ i l. refl; past1 = λ i l. refl; past2 = λ i l. refl }
 
 module _ (m : Machine) (s : List ℕ) (σ : Conf) where
   answer-kept : (c : Checked) (p : Bool) (rule : StopRule) (fuel : ℕ) → PastKept (σ .c0) (σ .c1) (σ .c2) (answerOf c m s p rule fuel σ .at)
-  answer-kept (Refused why) p rule fuel = refused-kept σ
-  answer-kept Accepted p rule fuel = back-kept m σ _ (run-goes (task m s p rule) fuel (bareOf m σ))
+  answer-kept (Refused why) p rule fuel = kept-all σ
+  answer-kept Accepted p rule fuel = ran-kept _ _ _ m σ (kept-all σ) (task m s p rule) fuel
 
   pub run-kept : (rule : StopRule) (fuel : ℕ) → PastKept (σ .c0) (σ .c1) (σ .c2) (runAnswer m s rule fuel σ .at)
   unfolding runAnswer
@@ -187,5 +192,5 @@ module _ (m : Machine) (s : List ℕ) (σ : Conf) where
   step-kept = by (runCheck m s 1 σ)
     where
       by : (c : Checked) → PastKept (σ .c0) (σ .c1) (σ .c2) (stepOn c σ (stepBack m σ (onceOf m s (bareOf m σ))) .at)
-      by (Refused why) = refused-kept σ
-      by Accepted = back-kept m σ _ (once-goes m s (bareOf m σ))
+      by (Refused why) = kept-all σ
+      by Accepted = back-kept _ _ _ m σ (kept-all σ) _ (once-goes m s (bareOf m σ))
