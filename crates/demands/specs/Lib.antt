@@ -16,6 +16,7 @@ pub mod FirstTimelines
 pub mod First
 pub mod PlainClaims
 pub mod PlainQuestions
+pub mod PlainLive
 pub mod SecondPlain
 pub mod ChainClaims
 pub mod ChainFacts

@@ -85,17 +85,17 @@ most-has false n e f = absurd (clash e refl)
 
 module _ (m : Machine) (s : List ℕ) (i : ℕ) (σ : Conf) where
   -- the machine has the tape that is asked for, and the engine fits
-  asked-says : questionCheck m s i σ ≡ Accepted → (i < m .tapes) × Passed m s σ
+  pub asked-says : questionCheck m s i σ ≡ Accepted → (i < m .tapes) × Passed m s σ
   unfolding questionCheck
   asked-says c =
       let p = on-says (engineCheck m s σ) _ c in
       (ltb-true i (m .tapes) (demand-says _ _ _ (p .1) .0), engine-says m s σ (p .0))
 
   module _ (there : i < m .tapes) where
-    has-1 : eqb i 1 ≡ true → has m 1 ≡ true
+    pub has-1 : eqb i 1 ≡ true → has m 1 ≡ true
     has-1 b = lt-ltb 1 (m .tapes) (omega (arith, eqb-true i 1 b))
 
-    has-2 : eqb i 0 ≡ false → eqb i 1 ≡ false → has m 2 ≡ true
+    pub has-2 : eqb i 0 ≡ false → eqb i 1 ≡ false → has m 2 ≡ true
     has-2 a b =
         let x : ¬ (i ≡ 0) = eqb-false i 0 a in
         let y : ¬ (i ≡ 1) = eqb-false i 1 b in

@@ -11,7 +11,7 @@ use Rattle.demands.specs.SecondPlain.{PlainEngine, plain-engine}
 use Rattle.demands.specs.SecondChain.{ChainEngine, chain-engine}
 
 pub record SecondDemand : Type 0 where
-  -- the plain engine: fresh, runs, steps, never, the fast run, the questions
+  -- the plain engine: fresh, runs, steps, never, the fast run, what lies past the lengths of its tapes, the questions
   pub plain : PlainEngine
   -- the run-length engine: the same of fresh, runs and never; macro steps, how fuel was cut, space, empty sides; the questions
   pub chain : ChainEngine

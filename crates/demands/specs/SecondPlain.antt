@@ -35,9 +35,17 @@ use Rattle.sim.specs.Questions.{questionCheck, getAnswer, extentAnswer, countAn
 use Rattle.sim_refines.specs.Meaning.{configOf}
 use Rattle.sim_refines.specs.Counts.{Counts}
 use Rattle.sim_refines.specs.Operations.{HandedBack, RunHolds, StepHolds}
-use Rattle.sim_refines.specs.FreshFacts.{new-holds, new-fits}
+use Rattle.sim_refines.specs.Lent.{PastKept, SameLive, SameGiven, SameStepGiven}
+use Rattle.sim_refines.specs.FreshFacts.{new-holds, new-fits, new-past}
+use Rattle.sim_refines.specs.PastFacts.{run-kept, fast-kept, step-kept}
+use Rattle.sim_refines.specs.SameFacts.{run-same, fast-same, step-same}
 use Rattle.sim_refines.specs.OperationFacts.{run-holds, run-never-halts, fast-agrees, fast-done, step-holds, step-handed-back}
+use Rattle.times.specs.Timeline.{Call}
+use Rattle.times.specs.Kind.{WorldOf, callOn}
+use Rattle.sim_engine.specs.Kind.{plainKind}
+use Rattle.sim_laws.specs.PastFacts.{call-past}
 use Rattle.demands.specs.PlainClaims.{tapeOn}
+use Rattle.demands.specs.PlainLive.{get-live, span-live, count-live, window-live, find-live}
 use Rattle.demands.specs.PlainQuestions.{plain-gets, plain-spans, plain-counts, plain-windows, plain-finds}
 
 pub record PlainEngine : Type 0 where
@@ -59,6 +67,25 @@ pub record PlainEngine : Type 0 where
       → fastAnswer m s words rule fuel σ ≡ runAnswer m s rule fuel σ
   pub fast-runs : (m : Machine) (s words : List ℕ) (rule : StopRule) (fuel : ℕ) (σ τ : Conf) (o : Outcome)
       → fastAnswer m s words rule fuel σ ≡ given τ (Ans.Done o) → runAnswer m s rule fuel σ ≡ given τ (Ans.Done o)
+  -- "Bytes of the lent buffer past the length are never read": engines of one value with buffers of the same lengths and the same cells up to the length of
+  -- each tape that the machine has (SameLive) get the same answer, refusals too, and are such engines again (SameGiven): a run, a fast run, a step, the questions
+  pub run-live : (m : Machine) (s : List ℕ) (rule : StopRule) (fuel : ℕ) (σ τ : Conf) → SameLive m σ τ → SameGiven m (runAnswer m s rule fuel σ) (runAnswer m s rule fuel τ)
+  pub fast-live : (m : Machine) (s words : List ℕ) (rule : StopRule) (fuel : ℕ) (σ τ : Conf) → SameLive m σ τ
+      → SameGiven m (fastAnswer m s words rule fuel σ) (fastAnswer m s words rule fuel τ)
+  pub step-live : (m : Machine) (s : List ℕ) (σ τ : Conf) → SameLive m σ τ → SameStepGiven m (stepAnswer m s σ) (stepAnswer m s τ)
+  pub get-live : (m : Machine) (s : List ℕ) (i : ℕ) (σ τ : Conf) → SameLive m σ τ → (z : ℤ) → getAnswer m s i z σ ≡ getAnswer m s i z τ
+  pub span-live : (m : Machine) (s : List ℕ) (i : ℕ) (σ τ : Conf) → SameLive m σ τ → extentAnswer m s i σ ≡ extentAnswer m s i τ
+  pub count-live : (m : Machine) (s : List ℕ) (i : ℕ) (σ τ : Conf) → SameLive m σ τ → countAnswer m s i σ ≡ countAnswer m s i τ
+  pub window-live : (m : Machine) (s : List ℕ) (i : ℕ) (σ τ : Conf) → SameLive m σ τ → (z : ℤ) (out : List ℕ) → windowInto m s i z σ out ≡ windowInto m s i z τ out
+  pub find-live : (m : Machine) (s : List ℕ) (i : ℕ) (σ τ : Conf) → SameLive m σ τ → (z : ℤ) (d : Dir) → findAnswer m s i z d σ ≡ findAnswer m s i z d τ
+  -- "those past a call's final length stay": past the length that each tape has afterwards a fresh engine, a run, a fast run, a step and a timeline's call leave
+  -- each buffer as it was (PastKept), whatever they answer
+  pub fresh-past : (m : Machine) (s w c0 c1 c2 : List ℕ) (v : Simulator) (d0 d1 d2 : List ℕ) → newAnswer m s w c0 c1 c2 ≡ made (New.Made v) d0 d1 d2
+      → PastKept c0 c1 c2 (conf v d0 d1 d2)
+  pub run-past : (m : Machine) (s : List ℕ) (rule : StopRule) (fuel : ℕ) (σ : Conf) → PastKept (σ .c0) (σ .c1) (σ .c2) (runAnswer m s rule fuel σ .at)
+  pub fast-past : (m : Machine) (s words : List ℕ) (rule : StopRule) (fuel : ℕ) (σ : Conf) → PastKept (σ .c0) (σ .c1) (σ .c2) (fastAnswer m s words rule fuel σ .at)
+  pub step-past : (m : Machine) (s : List ℕ) (σ : Conf) → PastKept (σ .c0) (σ .c1) (σ .c2) (stepAnswer m s σ .at)
+  pub call-past : (m : Machine) (s : List ℕ) (w : WorldOf plainKind) (c : Call) → PastKept (w .engine .c0) (w .engine .c1) (w .engine .c2) (callOn plainKind m s w c .1 .engine)
   -- "`get`, `non_blank`, `count_non_blank`, `window` and `find_non_blank` answer over all of i64; a cell outside is blank": the questions answer what tape i of
   -- the configuration held has. At a position the cell; of the non-blank cells the smallest range (Spans) and the number (Counts)
   pub gets : (m : Machine) (s : List ℕ) (i : ℕ) (σ : Conf) (z : ℤ) (x : Symbol) → getAnswer m s i z σ ≡ Got.Found x → x .0 ≡ tapeOn i (configOf m σ) .cell z
@@ -79,6 +106,19 @@ plain-engine = record {
   never = λ m s b rule fuel σ τ n p e. run-never-halts m s b rule fuel σ τ (NeverHalts n p) e n p refl;
   fast = fast-agrees;
   fast-runs = λ m s words rule fuel σ τ o e. fast-done m s words rule fuel σ τ o e;
+  run-live = λ m s rule fuel σ τ a. run-same m σ τ a s rule fuel;
+  fast-live = λ m s words rule fuel σ τ a. fast-same m σ τ a s words rule fuel;
+  step-live = λ m s σ τ a. step-same m σ τ a s;
+  get-live = get-live;
+  span-live = span-live;
+  count-live = count-live;
+  window-live = window-live;
+  find-live = find-live;
+  fresh-past = new-past;
+  run-past = λ m s rule fuel σ. run-kept m s σ rule fuel;
+  fast-past = λ m s words rule fuel σ. fast-kept m s σ words rule fuel;
+  step-past = step-kept;
+  call-past = call-past;
   gets = plain-gets;
   spans = plain-spans;
   counts = plain-counts;

@@ -16,7 +16,7 @@ use Rattle.sim_engine.specs.RoundTrip.{SameSizes, InBuffers, unpack-pack}
 use Rattle.sim_engine.specs.PackFacts.{pack-length}
 use Rattle.sim_engine.specs.AdvanceFacts.{advance-fits, advance-length0, advance-length1, advance-length2}
 use Rattle.sim_laws.specs.Family.{meanOf}
-use Rattle.sim_laws.specs.MeanFacts.{same-mean}
+use Rattle.sim_laws.specs.MeanFacts.{taken-same, same-mean}
 
 -- u passes the check of every operation, and its buffers are as long as those of e
 pub record FitsLike (m : Machine) (s : List ℕ) (e u : Conf) : Type 0 where
@@ -55,9 +55,9 @@ module _ (m : Machine) (s : List ℕ) (e : Conf) where
     kept-mean v b = same-mean m v u (record {
       state = ap (λ (q : State). q .0) (b .state);
       steps = b .steps;
-      alike0 = record { numbers = b .numbers0; cells = b .cells0; room = b .length0 ∙ same-sizes .same0 };
-      alike1 = λ h. record { numbers = b .numbers1 h; cells = b .cells1 h; room = b .length1 ∙ same-sizes .same1 h };
-      alike2 = λ h. record { numbers = b .numbers2 h; cells = b .cells2 h; room = b .length2 ∙ same-sizes .same2 h };
+      alike0 = record { numbers = b .numbers0; cells = taken-same _ _ _ (b .cells0); room = b .length0 ∙ same-sizes .same0 };
+      alike1 = λ h. record { numbers = b .numbers1 h; cells = taken-same _ _ _ (b .cells1 h); room = b .length1 ∙ same-sizes .same1 h };
+      alike2 = λ h. record { numbers = b .numbers2 h; cells = taken-same _ _ _ (b .cells2 h); room = b .length2 ∙ same-sizes .same2 h };
     })
 
     kept-fits : (v : Conf) → InBuffers m s u t v → FitsLike m s e v

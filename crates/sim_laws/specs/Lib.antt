@@ -5,6 +5,7 @@ pub mod StepFacts
 pub mod AdvanceFacts
 pub mod MeanFacts
 pub mod FitFacts
+pub mod PastFacts
 pub mod FreshFacts
 pub mod Parts
 pub mod Instance

@@ -2,41 +2,31 @@
 use mathlib.Core.Path.{_≡_, refl, sym, ap, _∙_}
 use mathlib.Core.Bool.{Bool, true, false}
 use mathlib.Core.List.{List}
-use Prim.Native.Nat.{ℕ, _<_}
-use lib.IntN.{ℤ}
-use lib.ListN.{length, take, getD}
+use Prim.Native.Nat.{ℕ}
+use lib.ListN.{take, getD}
 use lib.Seq.{getD-take}
 use Rattle.machine.specs.declared.Machine.{Machine}
 use Rattle.turing.specs.TapeFacts.{tape-≡}
 use Rattle.tape.specs.declared.Tape.{Tape}
 use Rattle.tape.specs.Moves.{Held, held}
-use Rattle.tape.specs.Questions.{cellOf}
-use Rattle.tape.specs.CellPlaces.{Place, below, inside, past, place, cell-in, cell-below, cell-past}
 use Rattle.sim.specs.Engine.{Conf, tape0, tape1, tape2}
 use Rattle.sim_refines.specs.Meaning.{tapeOf, has, tapeIf}
+use Rattle.sim_refines.specs.Lent.{SameFirst}
+use Rattle.sim_refines.specs.LiveFacts.{Alike, alike-reads, cell-same}
 use Rattle.sim_laws.specs.Family.{extentOf, extentIf, meanOf}
 
--- ---- one tape: the same numbers, the same cells up to its length, and a buffer of the same length
+-- ---- one tape: the same numbers, the same cells up to its length, and a buffer of the same length (Alike)
 
-pub record Alike (g h : Held) : Type 0 where
-  pub numbers : g .tape ≡ h .tape
-  pub cells : take (h .tape .len) (g .cells) ≡ take (h .tape .len) (h .cells)
-  pub room : length (g .cells) ≡ length (h .cells)
+-- cells that were taken off the buffers' fronts alike are the same
+pub taken-same : (n : ℕ) (c d : List ℕ) → take n c ≡ take n d → SameFirst n c d
+taken-same n c d e i l = sym (getD-take n c i 0 l) ∙ ap (λ x. getD x i 0) e ∙ getD-take n d i 0 l
 
-live-tape : (t : Tape) (c d : List ℕ) → take (t .len) c ≡ take (t .len) d → tapeOf (held t c) ≡ tapeOf (held t d)
-live-tape t c d e = tape-≡ (tapeOf (held t c)) (tapeOf (held t d)) (λ z. by z (place (t .origin) (t .len) z)) refl refl refl
-  where
-    same : (i : ℕ) → i < t .len → getD c i 0 ≡ getD d i 0
-    same i l = sym (getD-take (t .len) c i 0 l) ∙ ap (λ x. getD x i 0) e ∙ getD-take (t .len) d i 0 l
-
-    by : (z : ℤ) → Place (t .origin) (t .len) z → cellOf (held t c) z ≡ cellOf (held t d) z
-    by z (below b) = cell-below _ _ _ z b ∙ sym (cell-below _ _ _ z b)
-    by z (past b) = cell-past _ _ _ z b ∙ sym (cell-past _ _ _ z b)
-    by z (inside i b q) = cell-in _ _ _ z i b q ∙ same i b ∙ sym (cell-in _ _ _ z i b q)
+live-tape : (t : Tape) (c d : List ℕ) → SameFirst (t .len) c d → tapeOf (held t c) ≡ tapeOf (held t d)
+live-tape t c d e = tape-≡ (tapeOf (held t c)) (tapeOf (held t d)) (cell-same t c d e) refl refl refl
 
 module _ (g h : Held) (a : Alike g h) where
   alike-tape : tapeOf g ≡ tapeOf h
-  alike-tape = ap (λ t. tapeOf (held t (g .cells))) (a .numbers) ∙ live-tape (h .tape) (g .cells) (h .cells) (a .cells)
+  alike-tape = alike-reads tapeOf g h a (live-tape (h .tape) (g .cells) (h .cells) (a .cells))
 
   alike-extent : extentOf g ≡ extentOf h
   alike-extent = λ i. record { len = a .numbers i .len; head = a .numbers i .head; buffer = a .room i }

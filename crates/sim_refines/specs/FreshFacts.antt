@@ -26,8 +26,10 @@ use Rattle.sim.specs.Engine.{Conf, conf, tape0, tape1, tape2}
 use Rattle.sim.specs.Operations.{has1, has2, handBack, simFits, freshCheck, made, madeWith, freshOn, Made, newAnswer}
 use Rattle.sim.specs.OperationCases.{FreshPassed, fresh-says}
 use Rattle.sim_refines.specs.Meaning.{tapeOf, has, tapeIf, configOf, FitsIf, EngineFits}
+use Rattle.sim_refines.specs.Lent.{PastKept}
 use Rattle.sim_refines.specs.TapeFacts.{fresh-tape}
 use Rattle.sim_refines.specs.BareFacts.{back-fits}
+use Rattle.sim_refines.specs.PastFacts.{word-stays, blank-stays}
 
 -- ---- an engine on fresh tapes
 
@@ -120,3 +122,10 @@ module _ (m : Machine) (s w c0 c1 c2 : List ℕ) (v : Simulator) (d0 d1 d2 : Lis
 
       same : handBack (m .tapes) v v ≡ v
       same = λ i. record { state = v .state; steps = v .steps; t0 = v .t0; t1 = either (has m 1) (v .t1) i; t2 = either (has m 2) (v .t2) i }
+
+  pub new-past : PastKept c0 c1 c2 engine
+  new-past = record {
+    past0 = word-stays w c0 (tape0 engine) is0;
+    past1 = blank-stays (has m 1) c1 (tape1 engine) is1;
+    past2 = blank-stays (has m 2) c2 (tape2 engine) is2;
+  }

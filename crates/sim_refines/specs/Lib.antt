@@ -2,12 +2,17 @@ pub mod Meaning
 pub mod Statement
 pub mod Operations
 pub mod Counts
+pub mod Lent
 pub mod TapeFacts
 pub mod StepFacts
 pub mod LookFacts
 pub mod Refinement
 pub mod RunFacts
 pub mod BareFacts
+pub mod PastFacts
+pub mod LiveFacts
+pub mod BesideFacts
+pub mod SameFacts
 pub mod FreshFacts
 pub mod OperationFacts
 pub mod CountFacts
