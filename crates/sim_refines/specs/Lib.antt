@@ -10,5 +10,6 @@ pub mod RunFacts
 pub mod BareFacts
 pub mod FreshFacts
 pub mod OperationFacts
+pub mod RuleFacts
 pub mod CountFacts
 pub mod QuestionFacts
