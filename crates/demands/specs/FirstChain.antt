@@ -1,9 +1,9 @@
 -- THE FIRST DEMAND of the run-length engine. Each part is about the definitions that the contracts of its operations cite.
 use mathlib.Core.Path.{_≡_}
 use mathlib.Core.Logic.{_↔_}
-use mathlib.Core.Bool.{false}
+use mathlib.Core.Bool.{true, false}
 use mathlib.Core.List.{List, [], _∷_}
-use Prim.Native.Nat.{ℕ, _+_, _<_}
+use Prim.Native.Nat.{ℕ, _+_, _<_, _^_}
 use lib.IntN.{ℤ}
 use lib.ListN.{length}
 use Rattle.outcome.specs.declared.Outcome.the-variants.{OutOfFuel, Full}
@@ -23,11 +23,12 @@ use Rattle.records.specs.declared.Listed.{Listed}
 use Rattle.records.specs.declared.Listed.the-variants as Listed
 use Rattle.rle.specs.declared.Fresh.the-variants as New
 use Rattle.rle.specs.Engine.{Conf}
-use Rattle.rle.specs.Fits.{engineCheck, runCheck}
+use Rattle.rle.specs.Fits.{chainFits, engineCheck, runCheck}
 use Rattle.rle.specs.Operations.{Given, given, runAnswer, Made, made, newAnswer}
 use Rattle.rle.specs.Questions.{getAnswer, extentAnswer, countAnswer, windowInto}
 use Rattle.rle.specs.Records.{leftAnswer, leftInto, rightAnswer, rightInto}
-use Rattle.rle_refines.specs.Meaning.{configOf, Alike}
+use Rattle.rle_refines.specs.Meaning.{configOf, ChainFits, leftEnd, rightEnd, Near, Alike}
+use Rattle.rle_refines.specs.FitFacts.{fits-holds, holds-fits, ends-near}
 use Rattle.demands.specs.ChainFacts.{full-stands, full-there}
 use Rattle.demands.specs.FirstClaims.{TurnsAway, ofChain, ofAnswer, ofGot, ofExtent, ofCounted, ofListed}
 use Rattle.demands.specs.FirstTests.{chainNewTests, chainRunTests, chainAskTests, chainListTests}
@@ -62,6 +63,13 @@ pub record ChainOperations : Type 0 where
   pub right : (m : Machine) (s : List ℕ) (σ : Conf) (out : List Run)
       → TurnsAway (1 ∷ 2 ∷ 3 ∷ 4 ∷ 5 ∷ 6 ∷ 8 ∷ 11 ∷ 12 ∷ 18 ∷ []) (chainListTests m s σ (σ .sim .tape .right) (length out)) (λ (x : Listed × List Run). ofListed (x .0))
       (λ why. (Listed.Refused why, out)) (rightAnswer m s (length out) σ, rightInto m s σ out)
+  -- ---- "12 an engine value that doesn't fit": what chainFits of the tests asks
+
+  -- "Fits: state below n, steps to 2^62, symbols below k. .. Chain: the stack rule, each side's sum, and its furthest cell's distance from 0, at most steps + 2^20,
+  -- lowest ≤ head ≤ highest, all within steps of 0, macro steps at most steps." (ChainFits)
+  pub fits : (m : Machine) (σ : Conf) → (chainFits m σ ≡ true) ↔ ChainFits m σ
+  -- and then a side's furthest cell lies within steps + 2^20 of 0, on either side of 0
+  pub near : (m : Machine) (σ : Conf) → ChainFits m σ → Near (σ .sim .steps + 2 ^ 20) (leftEnd σ) × Near (σ .sim .steps + 2 ^ 20) (rightEnd σ)
   -- ---- "Lack of space stops a run before the step that needs it, earlier steps kept."
 
   -- a run that ends for lack of space has made so many steps of the table machine, and the next one is full (EndsFull)
@@ -88,6 +96,8 @@ chain-operations = record {
   window = chain-window-turns;
   left = chain-left-turns;
   right = chain-right-turns;
+  fits = λ m σ. (fits-holds m σ, holds-fits m σ);
+  near = ends-near;
   full = chain-full;
   full-exact = λ m s b rule fuel σ c l v r. (full-there m s b rule fuel σ σ (σ .sim .steps), full-stands m s b fuel σ c rule l v r);
   full-onward = chain-onward;

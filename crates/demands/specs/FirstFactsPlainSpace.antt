@@ -32,14 +32,14 @@ use Rattle.sim_refines.specs.Refinement.{plain-refines}
 use Rattle.sim_refines.specs.RunFacts.{run-twice}
 use Rattle.sim_refines.specs.Operations as Claims
 use Rattle.sim_refines.specs.Operations.{RunHolds, StepHolds}
-use Rattle.sim_refines.specs.BareFacts.{config-bare, bare-back, bare-fits}
+use Rattle.sim_refines.specs.BareFacts.{config-bare, bare-back, back-bare, bare-fits}
 use Rattle.sim_refines.specs.OperationFacts.{run-holds, step-holds}
 use Rattle.demands.specs.ChainFacts.{not-full-verdict}
 use Rattle.demands.specs.FirstClaims.{ofAnswer, ofStep}
 use Rattle.demands.specs.FirstSpace.{GoesOn, EndsFull, PlainFull}
 use Rattle.demands.specs.FirstFacts.{plain-run-first}
 use Rattle.demands.specs.FirstFactsPlain.{plain-run-turns, plain-step-turns}
-use Rattle.demands.specs.FirstFactsSpace.{lacks-some, some-lacks, back-bare, full-ends, once-full, fuel-verdict}
+use Rattle.demands.specs.FirstFactsSpace.{lacks-some, some-lacks, full-ends, full-once, once-full, fuel-verdict}
 
 -- ---- an answer that is no refusal was accepted
 
@@ -193,3 +193,14 @@ module _ (m : Machine) (s : List ℕ) (bytes : Bytes s) where
 
     pub plain-step-full : (τ ≡ σ) × PlainFull m s σ
     plain-step-full = (step-still, step-lacks refl (step-holds m s bytes σ τ Step.Full done))
+
+  -- the next step is full exactly where the step says so, and leaves the engine and every cell as they were
+  module _ (σ : Conf) (accepted : runCheck m s 1 σ ≡ Accepted) where
+    step-stands : PlainFull m s σ → stepAnswer m s σ ≡ stepGiven σ (StepAns.Done Step.Full)
+    step-stands g =
+        step-is m s σ accepted
+        ∙ ap (stepBack m σ) (full-once m s (bareOf m σ) (bare-fits m σ (run-says m s 1 σ accepted .0 .fits)) (g .act) (ap (entry (tableOf m s)) (config-bare m σ) ∙ g .has) (some-lacks m σ (g .act) (g .full)))
+        ∙ ap (λ (x : Conf). stepGiven x (StepAns.Done Step.Full)) (back-bare m σ)
+
+    pub plain-step-stands : (stepAnswer m s σ ≡ stepGiven σ (StepAns.Done Step.Full)) ↔ PlainFull m s σ
+    plain-step-stands = (λ e. plain-step-full σ σ e .1, step-stands)

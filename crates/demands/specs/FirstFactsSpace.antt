@@ -20,16 +20,18 @@ use Rattle.machine.specs.declared.Entry.{Entry}
 use Rattle.machine.specs.declared.Entry.the-variants.{Defined}
 use Rattle.tables.specs.WellFormed.{ActionOf}
 use Rattle.turing.specs.TableMachine.{Table, Config, entry, outOfFuelAt, Verdict, halts, stays, walks, goes}
+use Rattle.turing.specs.Tables.{tableOf}
 use Rattle.turing.specs.RunFacts.{not-defined}
 use Rattle.turing.specs.VerdictFacts.{verdict-unique}
 use Rattle.tape.specs.declared.Tape.{Tape}
 use Rattle.tape.specs.Growth.{extra}
 use Rattle.tape.specs.Moves.{Held, held, noTape, leaves, roomFor}
+use Rattle.course.specs.declared.StopRule.the-variants as Rule
 use Rattle.before.specs.declared.inner.look.Look.{Look}
 use Rattle.before.specs.declared.inner.look.Look.the-variants.{Halt, Never, Go}
-use Rattle.sim.specs.Engine.{Task, Conf, conf, End, onLook, haltedEnd, neverEnd, fullEnd, stoppedEnd, matches, lookWith, roomsOf, roomyOf, stepOf, runWith, runOf, Once, once, onceOf}
-use Rattle.sim.specs.Operations.{bareSim, bareOf, handBack, backOf}
-use Rattle.sim_refines.specs.Meaning.{has, FitsIf, EngineFits}
+use Rattle.sim.specs.Engine.{Task, task, Conf, End, onLook, haltedEnd, neverEnd, fullEnd, stoppedEnd, matches, lookWith, roomsOf, roomyOf, stepOf, runWith, runOf, Once, once, onceOf}
+use Rattle.sim.specs.Operations.{bareSim, bareOf}
+use Rattle.sim_refines.specs.Meaning.{has, configOf, FitsIf, EngineFits}
 use Rattle.sim_refines.specs.Statement.{tableIn, heldBy, Judged, Sees, no-entry, loops, goes-on}
 use Rattle.sim_refines.specs.LookFacts.{look-sees}
 use Rattle.demands.specs.FirstSpace.{OffEnd, TapeFull, OnSomeTape, on0, on1, on2}
@@ -118,22 +120,10 @@ module _ (m : Machine) (σ : Conf) (a : Action) where
   some-lacks (on1 l f) = both-last _ _ (both-first _ _ (if-full (has m 1) (σ .sim .t1) (σ .c1) (a .dir1) (lt-ltb 1 (m .tapes) l) f))
   some-lacks (on2 l f) = both-last _ _ (both-last _ _ (if-full (has m 2) (σ .sim .t2) (σ .c2) (a .dir2) (lt-ltb 2 (m .tapes) l) f))
 
--- ---- what is handed back where nothing was done
-
-pub back-bare : (m : Machine) (σ : Conf) → backOf m σ (bareOf m σ) ≡ σ
-unfolding handBack bareSim
-back-bare m σ = λ i. conf (record {
-  state = σ .sim .state;
-  steps = σ .sim .steps;
-  t0 = σ .sim .t0;
-  t1 = again (has m 1) (σ .sim .t1) i;
-  t2 = again (has m 2) (σ .sim .t2) i;
-}) (σ .c0) (σ .c1) (σ .c2)
-  where
-    again : (b : Bool) (t : Tape) → pick b (pick b t noTape) t ≡ t
-    again b t = pick-cases b (pick b t noTape) t (λ (x : Tape). x ≡ t) (λ z. pick-true b t noTape z) (λ z. refl)
-
 -- ---- a run, and a step, whose next step is full
+
+same-act : (x : Entry) (a b : Action) → x ≡ Defined b → x ≡ Defined a → b ≡ a
+same-act x a b h g = cc
 
 module _ (k : Task) (σ : Conf) (f : EngineFits (k .machine) σ) (a : Action) (reads : entry (tableIn k) (heldBy k σ) ≡ Defined a)
     (going : Judged k (heldBy k σ) (outOfFuelAt (heldBy k σ))) (lacks : roomyOf σ a ≡ false) where
@@ -141,16 +131,25 @@ module _ (k : Task) (σ : Conf) (f : EngineFits (k .machine) σ) (a : Action) (r
   unfolding runOf runWith
   full-ends fuel = by (look-sees k σ f)
     where
-      same : (x : Entry) (b : Action) → x ≡ Defined b → x ≡ Defined a → b ≡ a
-      same x b h g = cc
-
       on : Action → End
       on b = pick (roomyOf σ b) (pick (matches (k .rule) (σ .sim .state)) (stoppedEnd (stepOf σ b)) (runOf k fuel (stepOf σ b))) (fullEnd σ)
 
       by : {l : Look} → Sees k (heldBy k σ) l → onLook l (haltedEnd σ) (neverEnd σ) on ≡ fullEnd σ
       by (no-entry h) = absurd (not-defined _ a h reads)
       by (loops p t v) = let e = verdict-unique _ _ _ _ _ v going in let z : _≡_ {A = ℕ} 0 1 = cc in absurd (omega arith)
-      by (goes-on b e u) = let q : b ≡ a = same (entry (tableIn k) (heldBy k σ)) b e reads in pick-false _ _ _ (ap (roomyOf σ) q ∙ lacks)
+      by (goes-on b e u) = let q : b ≡ a = same-act (entry (tableIn k) (heldBy k σ)) a b e reads in pick-false _ _ _ (ap (roomyOf σ) q ∙ lacks)
+
+-- the step asks for no verdict
+pub full-once : (m : Machine) (s : List ℕ) (σ : Conf) → EngineFits m σ → (a : Action) → entry (tableOf m s) (configOf m σ) ≡ Defined a → roomyOf σ a ≡ false
+    → onceOf m s σ ≡ once σ Step.Full
+unfolding onceOf
+full-once m s σ f a reads lacks = by (look-sees (task m s false Rule.Never) σ f)
+  where
+    by : {l : Look} → Sees (task m s false Rule.Never) (configOf m σ) l
+        → onLook l (once σ Step.Halted) (λ p. once σ Step.Halted) (λ b. pick (roomyOf σ b) (once (stepOf σ b) Step.Running) (once σ Step.Full)) ≡ once σ Step.Full
+    by (no-entry h) = absurd (not-defined _ a h reads)
+    by (loops p t v) = absurd (clash t refl)
+    by (goes-on b e u) = let q : b ≡ a = same-act (entry (tableOf m s) (configOf m σ)) a b e reads in pick-false _ _ _ (ap (roomyOf σ) q ∙ lacks)
 
 -- a step that says full has changed nothing
 pub once-full : (m : Machine) (s : List ℕ) (σ : Conf) → onceOf m s σ .status ≡ Step.Full → onceOf m s σ .at ≡ σ

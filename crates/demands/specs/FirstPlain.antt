@@ -1,6 +1,7 @@
 -- THE FIRST DEMAND of the plain engine. Each part is about the definitions that the contracts of its operations cite.
 use mathlib.Core.Path.{_≡_}
 use mathlib.Core.Logic.{_↔_}
+use mathlib.Core.Bool.{true}
 use mathlib.Core.List.{List, [], _∷_}
 use Prim.Native.Nat.{ℕ, _+_, _<_}
 use lib.IntN.{ℤ}
@@ -21,15 +22,16 @@ use Rattle.course.specs.declared.questions.Extent.the-variants as Extent
 use Rattle.course.specs.declared.questions.Counted.the-variants as Counted
 use Rattle.course.specs.declared.questions.Located.the-variants as Located
 use Rattle.sim.specs.Engine.{Conf}
-use Rattle.sim.specs.Operations.{runCheck, Given, given, runAnswer, fastAnswer, StepGiven, stepGiven, stepAnswer, Made, made, newAnswer}
+use Rattle.sim.specs.Operations.{bareOf, simFits, runCheck, Given, given, runAnswer, fastAnswer, StepGiven, stepGiven, stepAnswer, Made, made, newAnswer}
 use Rattle.sim.specs.Questions.{questionCheck, getAnswer, extentAnswer, countAnswer, windowInto, findAnswer}
-use Rattle.sim_refines.specs.Meaning.{configOf}
+use Rattle.sim_refines.specs.Meaning.{configOf, EngineFits}
+use Rattle.sim_refines.specs.BareFacts.{bare-fits, fits-bare}
 use Rattle.sim_refines.specs.OperationFacts.{fast-done}
 use Rattle.demands.specs.FirstClaims.{TurnsAway, ofFresh, ofAnswer, ofStep, ofGot, ofExtent, ofCounted, ofLocated}
 use Rattle.demands.specs.FirstTests.{plainNewTests, plainRunTests, plainFastTests, plainAskTests}
 use Rattle.demands.specs.FirstSpace.{GoesOn, EndsFull, PlainFull}
 use Rattle.demands.specs.FirstFactsPlain.{plain-new-turns, plain-step-turns, plain-run-turns, plain-fast-turns, plain-get-turns, plain-extent-turns, plain-count-turns, plain-window-turns, plain-find-turns}
-use Rattle.demands.specs.FirstFactsPlainSpace.{plain-full, plain-stands, plain-onward, plain-step-full}
+use Rattle.demands.specs.FirstFactsPlainSpace.{plain-full, plain-stands, plain-onward, plain-step-full, plain-step-stands}
 
 pub record PlainOperations : Type 0 where
   -- ---- "A refusal carries document 01's number and changes nothing."
@@ -60,6 +62,11 @@ pub record PlainOperations : Type 0 where
       (questionCheck m s i σ, windowInto m s i z σ out)
   pub find-non-blank : (m : Machine) (s : List ℕ) (i : ℕ) (z : ℤ) (d : Dir) (σ : Conf)
       → TurnsAway (1 ∷ 2 ∷ 3 ∷ 4 ∷ 5 ∷ 6 ∷ 11 ∷ 12 ∷ []) (plainAskTests m s σ i) ofLocated Located.Refused (findAnswer m s i z d σ)
+  -- ---- "12 an engine value that doesn't fit": what plainFits of the tests asks
+
+  -- "Fits: state below n, steps to 2^62, symbols below k. Plain, each tape: length from 32 to the buffer's, head and origin below it, lowest ≤ head ≤ highest, all
+  -- inside." (EngineFits, of the tapes that the machine has)
+  pub fits : (m : Machine) (σ : Conf) → (simFits m (σ .sim) (σ .c0) (σ .c1) (σ .c2) ≡ true) ↔ EngineFits m (bareOf m σ)
   -- ---- "Lack of space stops a run before the step that needs it, earlier steps kept."
 
   -- a run that ends for lack of space has made so many steps of the table machine, and the next one is full (EndsFull); so too the fast run
@@ -75,6 +82,9 @@ pub record PlainOperations : Type 0 where
       → runCheck m s (a + b) σ ≡ Accepted → 0 < b → PlainFull m s τ → runAnswer m s rule (a + b) σ ≡ given τ (Ans.Done (Full n))
   -- a full step changes nothing
   pub step-full : (m : Machine) (s : List ℕ) → Bytes s → (σ τ : Conf) → stepAnswer m s σ ≡ stepGiven τ (StepAns.Done Step.Full) → (τ ≡ σ) × PlainFull m s σ
+  -- "full exactly when that passes the buffer, on any tape": where it is accepted, the step says so exactly where it is full; a proved loop is not looked for
+  pub step-full-exact : (m : Machine) (s : List ℕ) → Bytes s → (σ : Conf) → runCheck m s 1 σ ≡ Accepted
+      → (stepAnswer m s σ ≡ stepGiven σ (StepAns.Done Step.Full)) ↔ PlainFull m s σ
 
 pub plain-operations : PlainOperations
 plain-operations = record {
@@ -87,9 +97,11 @@ plain-operations = record {
   count-non-blank = plain-count-turns;
   window = plain-window-turns;
   find-non-blank = plain-find-turns;
+  fits = λ m σ. (bare-fits m σ, fits-bare m σ);
   full = plain-full;
   fast-full = λ m s words b rule fuel σ τ n e. plain-full m s b rule fuel σ τ n (fast-done m s words rule fuel σ τ (Full n) e);
   full-exact = plain-stands;
   full-onward = plain-onward;
   step-full = plain-step-full;
+  step-full-exact = plain-step-stands;
 }

@@ -8,6 +8,7 @@ use lib.IntN.{ℤ, pos, _+ℤ_}
 use lib.ListN.{length, getD}
 use lib.Signed.{_<ℤ_}
 use Rattle.laws.specs.Position.{dn}
+use Rattle.symbol.specs.declared.State.{State}
 use Rattle.symbol.specs.declared.Symbol.{Symbol}
 use Rattle.symbol.specs.declared.Dir.the-variants.{L, R}
 use Rattle.outcome.specs.declared.NonHaltProof.{NonHaltProof}
@@ -39,6 +40,7 @@ use Rattle.rle_refines.specs.Statement.{FullWithin}
 use Rattle.rle_refines.specs.Operations.{RunHolds}
 use Rattle.rle_refines.specs.PatternFacts.{empty-exact}
 use Rattle.rle_refines.specs.OperationFacts.{engine-says, run-holds, run-never-halts, new-holds}
+use Rattle.rle_refines.specs.RuleFacts.{run-off}
 use Rattle.rle_refines.specs.QuestionFacts.{get-is, extent-is, window-into}
 use Rattle.demands.specs.ChainClaims.{MacroStep}
 use Rattle.demands.specs.ChainQuestions.{chain-counts}
@@ -52,6 +54,9 @@ pub record ChainEngine : Type 0 where
   -- "The stop rule is tested before the macro step, after fuel and before space."
   pub runs : (m : Machine) (s : List ℕ) → Bytes s → (rule : StopRule) (fuel : ℕ) (σ τ : Conf) (o : Outcome)
       → runAnswer m s rule fuel σ ≡ given τ (Ans.Done o) → RunHolds m s rule fuel σ τ o
+  -- "(none, or a `from` state, one not below n never matching)": by such a state a run answers as by none
+  pub rules : (m : Machine) (s : List ℕ) → Bytes s → (p : State) (fuel : ℕ) (σ : Conf) → m .states ≤ p .0
+      → runAnswer m s (Rule.From p) fuel σ ≡ runAnswer m s Rule.Never fuel σ
   -- where the answer is never, the table machine halts at no step
   pub never : (m : Machine) (s : List ℕ) → Bytes s → (rule : StopRule) (fuel : ℕ) (σ τ : Conf) (n : ℕ) (p : NonHaltProof)
       → runAnswer m s rule fuel σ ≡ given τ (Ans.Done (NeverHalts n p)) → (j : ℕ) → ¬ (Halted (tableOf m s) (run (tableOf m s) j (configOf σ)))
@@ -85,6 +90,7 @@ pub chain-engine : ChainEngine
 chain-engine = record {
   fresh = λ m s w ls ll rs rl v rs′ rl′ e. let h = new-holds m s w ls ll rs rl v rs′ rl′ e in (h .holds, h .accepted);
   runs = run-holds;
+  rules = run-off;
   never = λ m s b rule fuel σ τ n p e. run-never-halts m s b rule fuel σ τ (NeverHalts n p) e n p refl;
   macro-steps = macro-step;
   cuts = cut-same;

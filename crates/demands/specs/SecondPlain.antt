@@ -6,6 +6,7 @@ use Prim.Native.Nat.{ℕ, _≤_, _<_, _^_}
 use lib.IntN.{ℤ, pos, _+ℤ_}
 use lib.ListN.{length, getD}
 use Rattle.laws.specs.Position.{dn}
+use Rattle.symbol.specs.declared.State.{State}
 use Rattle.symbol.specs.declared.Symbol.{Symbol}
 use Rattle.symbol.specs.declared.Dir.{Dir}
 use Rattle.outcome.specs.declared.NonHaltProof.{NonHaltProof}
@@ -22,6 +23,7 @@ use Rattle.tape.specs.declared.Spot.{Spot}
 use Rattle.tape.specs.Answers.{Finds, Spans}
 use Rattle.sim.specs.declared.Simulator.{Simulator}
 use Rattle.course.specs.declared.StopRule.{StopRule}
+use Rattle.course.specs.declared.StopRule.the-variants as Rule
 use Rattle.course.specs.declared.Answer.the-variants as Ans
 use Rattle.sim.specs.declared.StepAnswer.the-variants as StepAns
 use Rattle.sim.specs.declared.Fresh.the-variants as New
@@ -40,6 +42,7 @@ use Rattle.sim_refines.specs.FreshFacts.{new-holds, new-fits, new-past}
 use Rattle.sim_refines.specs.PastFacts.{run-kept, fast-kept, step-kept}
 use Rattle.sim_refines.specs.SameFacts.{run-same, fast-same, step-same}
 use Rattle.sim_refines.specs.OperationFacts.{run-holds, run-never-halts, fast-agrees, fast-done, step-holds, step-handed-back}
+use Rattle.sim_refines.specs.RuleFacts.{run-off, fast-off}
 use Rattle.times.specs.Timeline.{Call}
 use Rattle.times.specs.Kind.{WorldOf, callOn}
 use Rattle.sim_engine.specs.Kind.{plainKind}
@@ -56,6 +59,9 @@ pub record PlainEngine : Type 0 where
   -- "`run`: halted, never, fuel, space, in that order, before each step. .. A run with a stop rule .. stops after the matching step."
   pub runs : (m : Machine) (s : List ℕ) → Bytes s → (rule : StopRule) (fuel : ℕ) (σ τ : Conf) (o : Outcome)
       → runAnswer m s rule fuel σ ≡ given τ (Ans.Done o) → RunHolds m s rule fuel σ τ o
+  -- "(none, or a `from` state, one not below n never matching)": by such a state a run answers as by none
+  pub rules : (m : Machine) (s : List ℕ) → Bytes s → (p : State) (fuel : ℕ) (σ : Conf) → m .states ≤ p .0
+      → runAnswer m s (Rule.From p) fuel σ ≡ runAnswer m s Rule.Never fuel σ
   -- "`step` makes one step without the middle two and answers running, halted or full.": one step of the table machine, or none where it has halted or lacks space
   pub steps : (m : Machine) (s : List ℕ) → Bytes s → (σ τ : Conf) (x : Status)
       → stepAnswer m s σ ≡ stepGiven τ (StepAns.Done x) → StepHolds m s σ τ x × HandedBack m σ τ
@@ -67,6 +73,9 @@ pub record PlainEngine : Type 0 where
       → fastAnswer m s words rule fuel σ ≡ runAnswer m s rule fuel σ
   pub fast-runs : (m : Machine) (s words : List ℕ) (rule : StopRule) (fuel : ℕ) (σ τ : Conf) (o : Outcome)
       → fastAnswer m s words rule fuel σ ≡ given τ (Ans.Done o) → runAnswer m s rule fuel σ ≡ given τ (Ans.Done o)
+  -- nor does a state not below n match in the fast run
+  pub fast-rules : (m : Machine) (s words : List ℕ) → Bytes s → (p : State) (fuel : ℕ) (σ : Conf) → m .states ≤ p .0
+      → fastAnswer m s words (Rule.From p) fuel σ ≡ fastAnswer m s words Rule.Never fuel σ
   -- "Bytes of the lent buffer past the length are never read": engines of one value with buffers of the same lengths and the same cells up to the length of
   -- each tape that the machine has (SameLive) get the same answer, refusals too, and are such engines again (SameGiven): a run, a fast run, a step, the questions
   pub run-live : (m : Machine) (s : List ℕ) (rule : StopRule) (fuel : ℕ) (σ τ : Conf) → SameLive m σ τ → SameGiven m (runAnswer m s rule fuel σ) (runAnswer m s rule fuel τ)
@@ -102,10 +111,12 @@ pub plain-engine : PlainEngine
 plain-engine = record {
   fresh = λ m s w c0 c1 c2 v d0 d1 d2 e. (new-holds m s w c0 c1 c2 v d0 d1 d2 e, new-fits m s w c0 c1 c2 v d0 d1 d2 e);
   runs = λ m s b rule fuel σ τ o e. run-holds m s b rule fuel σ τ o e;
+  rules = run-off;
   steps = λ m s b σ τ x e. (step-holds m s b σ τ x e, step-handed-back m s b σ τ x e);
   never = λ m s b rule fuel σ τ n p e. run-never-halts m s b rule fuel σ τ (NeverHalts n p) e n p refl;
   fast = fast-agrees;
   fast-runs = λ m s words rule fuel σ τ o e. fast-done m s words rule fuel σ τ o e;
+  fast-rules = λ m s words b p fuel σ off. fast-off m s b p fuel σ off words;
   run-live = λ m s rule fuel σ τ a. run-same m σ τ a s rule fuel;
   fast-live = λ m s words rule fuel σ τ a. fast-same m σ τ a s words rule fuel;
   step-live = λ m s σ τ a. step-same m σ τ a s;

@@ -2,17 +2,20 @@
 use mathlib.Core.Path.{_≡_, sym, _∙_}
 use mathlib.Core.Bool.{Bool, true, false, not}
 use mathlib.Core.List.{List}
-use Prim.Native.Nat.{ℕ, zero, suc, _-_, _<_, _≤_}
+use Prim.Native.Nat.{ℕ, zero, suc, _+_, _-_, _<_, _≤_, _^_}
 use native.Mathlib.Decide.{ℕ-discrete}
 use native.Mathlib.Omega.{arith}
 use borrow.Author.Tests.{leb-true, ltb-true, eqb-false, ne-eqb, lt-ltb, le-leb, not-true}
+use lib.IntN.{ℤ, pos, negsuc}
+use Rattle.laws.specs.Position.{_⊖_, up, dn}
+use Rattle.laws.specs.PositionFacts.{diff-⊖}
 use Rattle.laws.specs.ScanFacts.{all-says, all-holds}
 use Rattle.laws.specs.Tests.{both-split, both-true}
 use Rattle.machine.specs.declared.Machine.{Machine}
 use Rattle.stacks.specs.Sides.{Side, placesOf, runFits, runsFit}
 use Rattle.rle.specs.Engine.{Conf, leftOf, rightOf}
 use Rattle.rle.specs.Fits.{zeroAt, sideFits, headFits, reachFits, countsFit, chainFits}
-use Rattle.rle_refines.specs.Meaning.{stackUpto, RunsFit, SideFits, ChainFits}
+use Rattle.rle_refines.specs.Meaning.{stackUpto, RunsFit, SideFits, ChainFits, leftEnd, rightEnd, Near}
 use Rattle.rle_refines.specs.SideFacts.{top-is}
 
 -- ---- the runs
@@ -99,3 +102,20 @@ module _ (m : Machine) (σ : Conf) where
     where
       near : zeroAt - σ .sim .steps ≤ σ .sim .lowest
       near = omega (arith, f .low-near)
+
+-- ---- "its furthest cell's distance from 0"
+
+-- index i near index o, as a position where o is 0
+near-zero : (n i o : ℕ) → o ≤ i + n → i ≤ o + n → Near n (i ⊖ o)
+near-zero n i o low high = by (i ⊖ o) (diff-⊖ i o)
+  where
+    by : (z : ℤ) → up z + o ≡ i + dn z → Near n z
+    by (pos x) e = (omega arith, omega arith)
+    by (negsuc x) e = (omega arith, omega arith)
+
+-- away from the head it is left-far and right-far; towards 0 and past it, that the head is near
+pub ends-near : (m : Machine) (σ : Conf) → ChainFits m σ → Near (σ .sim .steps + 2 ^ 20) (leftEnd σ) × Near (σ .sim .steps + 2 ^ 20) (rightEnd σ)
+ends-near m σ f = (
+  near-zero _ _ _ (omega (arith, f .left-far)) (omega (arith, f .head-high, f .high-near)),
+  near-zero _ _ _ (omega (arith, f .low-near, f .low-head)) (omega (arith, f .right-far)),
+)

@@ -18,6 +18,7 @@ pub mod CutFacts
 pub mod FitFacts
 pub mod FreshFacts
 pub mod OperationFacts
+pub mod RuleFacts
 pub mod EndFacts
 pub mod CellFacts
 pub mod SpanFacts

@@ -122,6 +122,17 @@ pub record ChainFits (m : Machine) (σ : Conf) : Type 0 where
   pub left-far : 2 ^ 63 + cellsOf (leftOf σ) ≤ σ .sim .tape .head + σ .sim .steps + 2 ^ 20
   pub right-far : σ .sim .tape .head + cellsOf (rightOf σ) ≤ 2 ^ 63 + σ .sim .steps + 2 ^ 20
 
+-- "its furthest cell": the last one of a side's bottom run, as a position; of a side without runs the head's
+abbrev pub leftEnd : Conf → ℤ
+leftEnd σ = σ .sim .tape .head ⊖ (2 ^ 63 + cellsOf (leftOf σ))
+
+abbrev pub rightEnd : Conf → ℤ
+rightEnd σ = (σ .sim .tape .head + cellsOf (rightOf σ)) ⊖ 2 ^ 63
+
+-- "distance from 0, at most": on either side of 0
+abbrev pub Near : ℕ → ℤ → Type 0
+Near n z = (dn z ≤ n) × (up z ≤ n)
+
 -- ---- all is the same but the number of macro steps, and what lies past the live runs
 
 pub record Alike (σ τ : Conf) : Type 0 where

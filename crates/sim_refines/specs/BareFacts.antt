@@ -1,13 +1,13 @@
 -- Tapes that the machine lacks: 0 while the engine runs, the caller's own afterwards. The configuration held is the same, and what fits
 -- for the operations' check fits for the theorem. Assumes nothing.
-use mathlib.Core.Path.{_≡_, refl, sym}
+use mathlib.Core.Path.{_≡_, refl, sym, subst}
 use mathlib.Core.Bool.{Bool, true, false}
 use mathlib.Core.List.{List}
 use Prim.Native.Nat.{ℕ}
 use native.Mathlib.Omega.{arith}
 use borrow.Author.Tests.{leb-true, ltb-true, le-ltb, lt-ltb, le-leb}
 use Rattle.laws.specs.Choice.{pick}
-use Rattle.laws.specs.Tests.{both-split, both-true, pick-false}
+use Rattle.laws.specs.Tests.{both-split, both-true, pick-cases, pick-true, pick-false}
 use Rattle.machine.specs.declared.Machine.{Machine}
 use Rattle.tape.specs.declared.Tape.{Tape}
 use Rattle.tape.specs.Moves.{held, noTape}
@@ -52,6 +52,20 @@ bare-back m σ e f = λ i. conf (record {
   t2 = back-if (has m 2) (σ .sim .t2) (e .sim .t2) (e .c2) (m .symbols) (f .fits2) i;
 }) (e .c0) (e .c1) (e .c2)
 
+-- what is handed back where nothing was done
+pub back-bare : (m : Machine) (σ : Conf) → backOf m σ (bareOf m σ) ≡ σ
+unfolding handBack bareSim
+back-bare m σ = λ i. conf (record {
+  state = σ .sim .state;
+  steps = σ .sim .steps;
+  t0 = σ .sim .t0;
+  t1 = again (has m 1) (σ .sim .t1) i;
+  t2 = again (has m 2) (σ .sim .t2) i;
+}) (σ .c0) (σ .c1) (σ .c2)
+  where
+    again : (b : Bool) (t : Tape) → pick b (pick b t noTape) t ≡ t
+    again b t = pick-cases b (pick b t noTape) t (λ (x : Tape). x ≡ t) (λ z. pick-true b t noTape z) (λ z. refl)
+
 -- ---- the check's rule of fitting, and the one of the theorem
 
 fits-if : (has : Bool) (k : ℕ) (t : Tape) (c : List ℕ) → ifHas has (tapeFits k t c) ≡ true → FitsIf has k (held (pick has t noTape) c)
@@ -86,6 +100,10 @@ back-fits m σ e f =
     (both-true (le-leb _ _ (f .steps-in))
     (both-true (fits-holds (m .symbols) (e .sim .t0) (e .c0) (f .fits0))
     (both-true (if-fits (has m 1) (m .symbols) (σ .sim .t1) (e .sim .t1) (e .c1) (f .fits1)) (if-fits (has m 2) (m .symbols) (σ .sim .t2) (e .sim .t2) (e .c2) (f .fits2)))))
+
+-- and back: what fits without the caller's own fields passes the check with them
+pub fits-bare : (m : Machine) (σ : Conf) → EngineFits m (bareOf m σ) → simFits m (σ .sim) (σ .c0) (σ .c1) (σ .c2) ≡ true
+fits-bare m σ f = subst (λ (τ : Conf). simFits m (τ .sim) (τ .c0) (τ .c1) (τ .c2) ≡ true) (back-bare m σ) (back-fits m σ (bareOf m σ) f)
 
 pub handed-back : (m : Machine) (σ e : Conf) → Kept m (bareOf m σ) e → HandedBack m σ (backOf m σ e)
 unfolding handBack

@@ -15,5 +15,6 @@ pub mod BesideFacts
 pub mod SameFacts
 pub mod FreshFacts
 pub mod OperationFacts
+pub mod RuleFacts
 pub mod CountFacts
 pub mod QuestionFacts
