@@ -12,9 +12,8 @@ use Rattle.turing.specs.Tables.{tableOf}
 use Rattle.sim.specs.Engine.{Task}
 use Rattle.stacks.specs.Sides.{aheadOf}
 use Rattle.rle.specs.Engine.{Conf, leapOf, runOf, Leap}
-use Rattle.rle_refines.specs.Meaning.{configOf}
+use Rattle.rle_refines.specs.Meaning.{configOf, aheadOn}
 use Rattle.rle_refines.specs.Statement.{tableIn, Went}
-use Rattle.rle_refines.specs.LeapFacts.{aheadOn}
 use Rattle.demands.specs.FirstSpace.{GoesOn}
 
 -- "the entry keeps the state and moves"

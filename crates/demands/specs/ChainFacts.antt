@@ -33,11 +33,11 @@ use Rattle.rle.specs.Engine.{Conf, leftOf, rightOf, chainFor, loopsOf, stepOf, 
 use Rattle.rle.specs.RunFacts.{run-ends, run-goes}
 use Rattle.rle.specs.Fits.{runCheck}
 use Rattle.rle.specs.Operations.{given, runOn, runAnswer}
-use Rattle.rle_refines.specs.Meaning.{configOf, Alike}
+use Rattle.rle_refines.specs.Meaning.{configOf, Alike, aheadOn}
 use Rattle.rle_refines.specs.Statement.{FullWithin, Went, Answers, verdict, halted, spent, stopped, full, Refines}
 use Rattle.rle_refines.specs.Canonical.{full-exact, not-full}
 use Rattle.rle_refines.specs.PlanFacts as P
-use Rattle.rle_refines.specs.LeapFacts.{aheadOn, entry-at}
+use Rattle.rle_refines.specs.LeapFacts.{entry-at}
 use Rattle.rle_refines.specs.PatternFacts.{Sees, unsure, stay, walk, loop-sees}
 use Rattle.rle_refines.specs.PlanFacts.{Plans, plan-right}
 use Rattle.rle_refines.specs.MidFacts.{leapt-macros}

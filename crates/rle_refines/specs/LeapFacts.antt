@@ -15,7 +15,7 @@ use Rattle.stacks.specs.Sides.{Side, placesOf, lacks}
 use Rattle.rle.specs.Engine.{Conf, leftOf, rightOf, Carried, carryOf, fullFor, noPlace, leapTo, leapOf, Leap}
 use Rattle.rle.specs.Turns.{SameSizes}
 use Rattle.rle.specs.LeapFacts.{leap-sizes}
-use Rattle.rle_refines.specs.Meaning.{stackOf, Stream, tail, prepend, stream, streamOf, tapeAround, tapeOf, configOf, SideFits, ChainFits}
+use Rattle.rle_refines.specs.Meaning.{stackOf, Stream, tail, prepend, stream, streamOf, tapeAround, tapeOf, configOf, SideFits, ChainFits, behindOf, aheadOn}
 use Rattle.rle_refines.specs.Statement.{isFull, Kept}
 use Rattle.rle_refines.specs.StackFacts.{take, Reach}
 use Rattle.rle_refines.specs.SideFacts.{Carries, carry-holds}
@@ -25,18 +25,6 @@ use Rattle.rle_refines.specs.WalkFacts.{at, walk, stand}
 -- an entry of one tape, made n times in a row
 abbrev pub leap : Action → (n : ℕ) → Leap
 leap a n = record { write = a .write0 .0; dir = a .dir0; next = a .next; repeats = n }
-
--- ---- the side behind a move, and the one ahead
-
-abbrev pub behindOf : Dir → Conf → Side
-behindOf L σ = rightOf σ
-behindOf R σ = leftOf σ
-behindOf N σ = leftOf σ
-
-abbrev pub aheadOn : Dir → Conf → Side
-aheadOn L σ = leftOf σ
-aheadOn R σ = rightOf σ
-aheadOn N σ = rightOf σ
 
 pub by-way : {P : Type 0} (x : Dir) → (Sideways x → P) → (x ≡ N → P) → P
 by-way L f g = f tt

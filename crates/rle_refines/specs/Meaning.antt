@@ -5,6 +5,8 @@ use Prim.Native.Nat.{ℕ, zero, suc, _+_, _≤_, _<_, _^_}
 use lib.IntN.{ℤ, pos, negsuc}
 use lib.ListN.{getD}
 use Rattle.laws.specs.Position.{_⊖_, up, dn}
+use Rattle.symbol.specs.declared.Dir.{Dir}
+use Rattle.symbol.specs.declared.Dir.the-variants.{L, R, N}
 use Rattle.machine.specs.declared.Machine.{Machine}
 use Rattle.turing.specs.TableMachine.{Tape, Config, blankTape}
 use Rattle.stacks.specs.Sides.{Side, placesOf, cellsOf}
@@ -132,6 +134,18 @@ rightEnd σ = (σ .sim .tape .head + cellsOf (rightOf σ)) ⊖ 2 ^ 63
 -- "distance from 0, at most": on either side of 0
 abbrev pub Near : ℕ → ℤ → Type 0
 Near n z = (dn z ≤ n) × (up z ≤ n)
+
+-- ---- the side behind a move, and the one ahead
+
+abbrev pub behindOf : Dir → Conf → Side
+behindOf L σ = rightOf σ
+behindOf R σ = leftOf σ
+behindOf N σ = leftOf σ
+
+abbrev pub aheadOn : Dir → Conf → Side
+aheadOn L σ = leftOf σ
+aheadOn R σ = rightOf σ
+aheadOn N σ = rightOf σ
 
 -- ---- all is the same but the number of macro steps, and what lies past the live runs
 

@@ -17,12 +17,12 @@ use Rattle.turing.specs.Tables.{TableOf}
 use Rattle.course.specs.Task.{Task, matches}
 use Rattle.stacks.specs.Sides.{topOf, lacks}
 use Rattle.rle.specs.Engine.{Conf, leftOf, rightOf, carryOf, fullFor, noPlace, leapTo, leapOf, Leap}
-use Rattle.rle_refines.specs.Meaning.{Stack, stackOf, Stream, blanks, tail, prepend, stream, streamOf, configOf, ChainFits}
+use Rattle.rle_refines.specs.Meaning.{Stack, stackOf, Stream, blanks, tail, prepend, stream, streamOf, configOf, ChainFits, behindOf, aheadOn}
 use Rattle.rle_refines.specs.Statement.{tableIn, after, Judged, Unproved, hasRule, isFull, FullAfter, Kept}
 use Rattle.rle_refines.specs.Canonical.{same-action, FullIn, not-full, full-same}
 use Rattle.rle_refines.specs.StackFacts.{prepend-blank, take, Reach}
 use Rattle.rle_refines.specs.SideFacts.{Carries}
-use Rattle.rle_refines.specs.LeapFacts.{leap, behindOf, aheadOn, by-way, read-held, entry-at, Over, over-reach, sides, leap-holds, leap-keeps}
+use Rattle.rle_refines.specs.LeapFacts.{leap, by-way, read-held, entry-at, Over, over-reach, sides, leap-holds, leap-keeps}
 use Rattle.rle_refines.specs.PatternFacts.{stays-says, walks-says, walks-blank}
 use Rattle.rle_refines.specs.PlanFacts.{Repeats}
 

@@ -18,10 +18,10 @@ use Rattle.tables.specs.WellFormed.{ActionOf}
 use Rattle.turing.specs.TableMachine.{Stays, Sideways, Beyond, Walks}
 use Rattle.course.specs.Task.{Task}
 use Rattle.rle.specs.Engine.{Conf, leftOf, rightOf, loopsFor, loopsOf}
-use Rattle.rle_refines.specs.Meaning.{empty, stackUpto, stackOf, blanks, stream, streamOf, tapeOf, configOf, RunsFit, ChainFits}
+use Rattle.rle_refines.specs.Meaning.{empty, stackUpto, stackOf, blanks, stream, streamOf, tapeOf, configOf, RunsFit, ChainFits, aheadOn}
 use Rattle.rle_refines.specs.StackFacts.{empty-of-blank}
 use Rattle.rle_refines.specs.TapeFacts.{beyond-blank, blank-beyond}
-use Rattle.rle_refines.specs.LeapFacts.{aheadOn, read-held}
+use Rattle.rle_refines.specs.LeapFacts.{read-held}
 
 -- ---- a side without runs
 

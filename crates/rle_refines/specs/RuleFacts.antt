@@ -1,6 +1,6 @@
 -- "a `from` state, one not below n never matching": by such a rule the run answers as without a rule. Assumes nothing.
 use mathlib.Core.Path.{_≡_, refl, ap, _∙_}
-use mathlib.Core.Bool.{Bool, true, false}
+use mathlib.Core.Bool.{Bool, true}
 use mathlib.Core.List.{List}
 use Prim.Native.Nat.{ℕ, zero, suc, _+_, _-_, _≤_, _^_}
 use native.Mathlib.Omega.{arith}
@@ -19,7 +19,7 @@ use Rattle.course.specs.declared.StopRule.the-variants as Rule
 use Rattle.course.specs.Task.{Task, task, matches}
 use Rattle.rle.specs.Engine.{Conf, leapOf, end, onPlan, fueledOf, provedOf, turnOn, turnOf, planBy, planOf, runWithin, runOf, Leap, Plan}
 use Rattle.rle.specs.Fits.{runCheck}
-use Rattle.rle.specs.Operations.{given, runOn, runAnswer}
+use Rattle.rle.specs.Operations.{runOn, runAnswer}
 use Rattle.rle_refines.specs.Meaning.{ChainFits}
 use Rattle.rle_refines.specs.PlanFacts as P
 use Rattle.rle_refines.specs.PlanFacts.{Plans, plan-right}

@@ -4,7 +4,6 @@ use mathlib.Core.Bool.{Bool, true, false}
 use mathlib.Core.List.{List}
 use Prim.Native.Nat.{ℕ, _+_, _≤_, _<_, _^_}
 use lib.ListN.{length}
-use Rattle.symbol.specs.Kinds.{stateOf}
 use Rattle.outcome.specs.declared.Outcome.{Outcome}
 use Rattle.outcome.specs.declared.Outcome.the-variants.{OutOfFuel, Stopped, Full}
 use Rattle.machine.specs.declared.Machine.{Machine}
@@ -13,10 +12,10 @@ use Rattle.machine.specs.declared.Entry.the-variants.{Defined}
 use Rattle.machine.specs.declared.Checked.the-variants.{Accepted}
 use Rattle.machine.specs.Check.{tableCheck}
 use Rattle.tables.specs.WellFormed.{Bytes}
-use Rattle.turing.specs.TableMachine.{Table, Config, entry, run, Halted, haltedAt, outOfFuelAt, Verdict}
-use Rattle.turing.specs.Tables.{tableOf}
+use Rattle.turing.specs.TableMachine.{Config, entry, run, Halted, haltedAt, outOfFuelAt}
+pub use Rattle.turing.specs.Beside.{tableIn, Judged, Unproved, hasRule}
 use Rattle.course.specs.declared.StopRule.{StopRule}
-use Rattle.course.specs.Task.{Task, task, matches}
+use Rattle.course.specs.Task.{Task, task}
 use Rattle.stacks.specs.Sides.{placesOf}
 use Rattle.rle.specs.Engine.{Conf, noPlace, End, runOf}
 use Rattle.rle_refines.specs.Meaning.{configOf, ChainFits}
@@ -24,24 +23,9 @@ use Rattle.rle_refines.specs.Full.{FullAt}
 
 -- ---- the table machine beside the engine
 
-abbrev pub tableIn : Task → Table
-tableIn k = tableOf (k .machine) (k .table)
-
 -- the table machine's configuration j steps after the one that the engine holds
 abbrev pub after : Task → ℕ → Conf → Config
 after k j σ = run (tableIn k) j (configOf σ)
-
--- "Its verdict at a configuration"
-abbrev pub Judged : Task → Config → Outcome → Type 0
-Judged k c o = Verdict (k .machine .tapes) (tableIn k) c o
-
--- the never test, where it is made, proves nothing
-abbrev pub Unproved : Task → Config → Type 0
-Unproved k c = k .proves ≡ true → Judged k c (outOfFuelAt c)
-
--- the rule's state: "a `from` state, one not below n never matching"
-abbrev pub hasRule : Task → Config → Bool
-hasRule k c = matches (k .rule) (stateOf (c .state))
 
 -- "Full exactly when the step's push needs a new run on a side whose live runs fill its lent places."
 abbrev pub isFull : Conf → Action → Bool

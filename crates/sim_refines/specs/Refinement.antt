@@ -18,7 +18,7 @@ use Rattle.turing.specs.TableFacts.{accepted-table}
 use Rattle.before.specs.declared.inner.look.Look.{Look}
 use Rattle.sim.specs.Engine.{Task, task, Conf, End, end, onLook, matches, haltedEnd, neverEnd, fuelEnd, fullEnd, stoppedEnd, roomyOf, stepOf, runWith, runOf}
 use Rattle.sim_refines.specs.Meaning.{EngineFits}
-use Rattle.sim_refines.specs.Statement.{tableIn, heldBy, after, Judged, Unproved, leavesRule, Sees, no-entry, loops, goes-on, Kept, Went, Answers, verdict, halted, spent, stopped, full, Refines, PlainRefines}
+use Rattle.sim_refines.specs.Statement.{tableIn, heldBy, after, Judged, Unproved, hasRule, Sees, no-entry, loops, goes-on, Kept, Went, Answers, verdict, halted, spent, stopped, full, Refines, PlainRefines}
 use Rattle.sim_refines.specs.StepFacts.{step-config, step-keeps}
 use Rattle.sim_refines.specs.LookFacts.{look-sees}
 
@@ -105,7 +105,7 @@ module _ (k : Task) (σ : Conf) (f : EngineFits (k .machine) σ) (table : TableO
     kept = kept-both (k .machine) σ (stepOf σ a) e step-kept (w .kept);
     running = all-along (λ c. ¬ (Halted (tableIn k) c)) (suc made) (λ l h. not-defined _ a h reads) (λ j l. w .running j (omega arith));
     unproved = all-along (Unproved k) (suc made) (λ l. u) (λ j l. w .unproved j (omega arith));
-    unmatched = λ j l. all-along (λ c. leavesRule k c ≡ false) made q (w .unmatched) j (omega arith);
+    unmatched = λ j l. all-along (λ c. hasRule k c ≡ false) made q (w .unmatched) j (omega arith);
   }
 
   -- "stops after the matching step"
@@ -123,7 +123,7 @@ module _ (k : Task) (σ : Conf) (f : EngineFits (k .machine) σ) (table : TableO
   answers-there (verdict o t v g) = verdict o t v (λ n h. ap suc (g n h))
   answers-there (halted t h) = halted t h
   answers-there (spent t h q) = spent t h (ap suc q)
-  answers-there (stopped j q l) = stopped (suc j) (ap suc q) (subst (λ c. leavesRule k c ≡ true) (later j) l)
+  answers-there (stopped j q l) = stopped (suc j) (ap suc q) (subst (λ c. hasRule k c ≡ true) (later j) l)
   answers-there (full b l h v r) = full b (omega arith) h v r
 
   runs-on : (fuel : ℕ) (e : End) → matches (k .rule) (σ .sim .state) ≡ false → Refines k fuel (stepOf σ a) e → Refines k (suc fuel) σ e
@@ -136,9 +136,9 @@ module _ (k : Task) (σ : Conf) (f : EngineFits (k .machine) σ) (table : TableO
     stops = last;
   }
     where
-      last : (j : ℕ) → suc (r .made) ≡ suc j → leavesRule k (after k j σ) ≡ true → e .outcome ≡ Stopped (e .at .sim .steps)
+      last : (j : ℕ) → suc (r .made) ≡ suc j → hasRule k (after k j σ) ≡ true → e .outcome ≡ Stopped (e .at .sim .steps)
       last zero h l = absurd (clash l q)
-      last (suc j) h l = r .stops j (omega arith) (subst (λ c. leavesRule k c ≡ true) (sym (later j)) l)
+      last (suc j) h l = r .stops j (omega arith) (subst (λ c. hasRule k c ≡ true) (sym (later j)) l)
 
 -- ---- the run
 

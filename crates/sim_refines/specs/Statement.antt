@@ -4,7 +4,6 @@ use mathlib.Core.Bool.{Bool, true, false}
 use mathlib.Core.List.{List}
 use Prim.Native.Nat.{ℕ, suc, _+_, _≤_, _<_, _^_}
 use lib.ListN.{length}
-use Rattle.symbol.specs.Kinds.{stateOf}
 use Rattle.outcome.specs.declared.NonHaltProof.{NonHaltProof}
 use Rattle.outcome.specs.declared.Outcome.{Outcome}
 use Rattle.outcome.specs.declared.Outcome.the-variants.{OutOfFuel, NeverHalts, Stopped, Full}
@@ -14,18 +13,15 @@ use Rattle.machine.specs.declared.Entry.the-variants.{Defined}
 use Rattle.machine.specs.declared.Checked.the-variants.{Accepted}
 use Rattle.machine.specs.Check.{tableCheck}
 use Rattle.tables.specs.WellFormed.{Bytes}
-use Rattle.turing.specs.TableMachine.{Table, Config, entry, run, Halted, haltedAt, outOfFuelAt, Verdict}
-use Rattle.turing.specs.Tables.{tableOf}
+use Rattle.turing.specs.TableMachine.{Config, entry, run, Halted, haltedAt, outOfFuelAt}
+pub use Rattle.turing.specs.Beside.{tableIn, Judged, Unproved, hasRule}
 use Rattle.course.specs.declared.StopRule.{StopRule}
 use Rattle.before.specs.declared.inner.look.Look.{Look}
 use Rattle.before.specs.declared.inner.look.Look.the-variants.{Halt, Never, Go}
-use Rattle.sim.specs.Engine.{Task, task, Conf, End, matches, roomyOf, runOf}
+use Rattle.sim.specs.Engine.{Task, task, Conf, End, roomyOf, runOf}
 use Rattle.sim_refines.specs.Meaning.{configOf, EngineFits}
 
 -- ---- the table machine beside the engine
-
-abbrev pub tableIn : Task → Table
-tableIn k = tableOf (k .machine) (k .table)
 
 -- the configuration that the engine holds, and the table machine's j steps later
 abbrev pub heldBy : Task → Conf → Config
@@ -33,18 +29,6 @@ heldBy k σ = configOf (k .machine) σ
 
 abbrev pub after : Task → ℕ → Conf → Config
 after k j σ = run (tableIn k) j (heldBy k σ)
-
--- "Its verdict at a configuration"
-abbrev pub Judged : Task → Config → Outcome → Type 0
-Judged k c o = Verdict (k .machine .tapes) (tableIn k) c o
-
--- the never test, where it is made, proves nothing
-abbrev pub Unproved : Task → Config → Type 0
-Unproved k c = k .proves ≡ true → Judged k c (outOfFuelAt c)
-
--- the step from there leaves the rule's state: "a `from` state, one not below n never matching"
-abbrev pub leavesRule : Task → Config → Bool
-leavesRule k c = matches (k .rule) (stateOf (c .state))
 
 -- ---- what is seen before a step
 
@@ -74,7 +58,7 @@ pub record Went (k : Task) (made : ℕ) (σ e : Conf) : Type 0 where
   pub running : (j : ℕ) → j < made → ¬ (Halted (tableIn k) (after k j σ))
   pub unproved : (j : ℕ) → j < made → Unproved k (after k j σ)
   -- no step before the last one left the rule's state
-  pub unmatched : (j : ℕ) → suc j < made → leavesRule k (after k j σ) ≡ false
+  pub unmatched : (j : ℕ) → suc j < made → hasRule k (after k j σ) ≡ false
 
 -- the answer of a run from σ that made `made` of `fuel` steps and stands at e
 pub data Answers (k : Task) (fuel made : ℕ) (σ e : Conf) : Outcome → Type 0 where
@@ -84,7 +68,7 @@ pub data Answers (k : Task) (fuel made : ℕ) (σ e : Conf) : Outcome → Type 0
   halted : k .proves ≡ false → Halted (tableIn k) (heldBy k e) → Answers k fuel made σ e (haltedAt (heldBy k e))
   spent : k .proves ≡ false → ¬ (Halted (tableIn k) (heldBy k e)) → made ≡ fuel → Answers k fuel made σ e (outOfFuelAt (heldBy k e))
   -- "stops after the matching step"
-  stopped : (j : ℕ) → made ≡ suc j → leavesRule k (after k j σ) ≡ true → Answers k fuel made σ e (Stopped (heldBy k e .steps))
+  stopped : (j : ℕ) → made ≡ suc j → hasRule k (after k j σ) ≡ true → Answers k fuel made σ e (Stopped (heldBy k e .steps))
   -- there is fuel and an entry a, and no room for its moves: nothing of that step was made
   full : (a : Action) → made < fuel → entry (tableIn k) (heldBy k e) ≡ Defined a → Unproved k (heldBy k e) → roomyOf e a ≡ false
       → Answers k fuel made σ e (Full (heldBy k e .steps))
@@ -96,7 +80,7 @@ pub record Refines (k : Task) (fuel : ℕ) (σ : Conf) (e : End) : Type 0 where
   pub went : Went k made σ (e .at)
   pub answers : Answers k fuel made σ (e .at) (e .outcome)
   -- where the last step left the rule's state, the answer is that it stopped
-  pub stops : (j : ℕ) → made ≡ suc j → leavesRule k (after k j σ) ≡ true → e .outcome ≡ Stopped (e .at .sim .steps)
+  pub stops : (j : ℕ) → made ≡ suc j → hasRule k (after k j σ) ≡ true → e .outcome ≡ Stopped (e .at .sim .steps)
 
 -- for every table that is accepted, every engine value that fits, and fuel within the bound (the others are refused: 1 to 6, 12, 13)
 abbrev pub PlainRefines : Type 0

@@ -1,5 +1,6 @@
 pub mod TableMachine
 pub mod Tables
+pub mod Beside
 pub mod RunFacts
 pub mod VerdictFacts
 pub mod TapeFacts
