@@ -30,7 +30,7 @@ pub record Cleared (checked : Checked) (m : Machine) (s : List ℕ) (packed : Bo
   pub runs : checked ≡ Accepted → runCheck m s fuel σ ≡ Accepted
   pub words-ok : checked ≡ Accepted → WordsIf packed m s words
 
--- a table of one tape that the words of a small run hold
+-- one tape, and so few entries that their words stand in a local array
 pub record Small (m : Machine) : Type 0 where
   pub one-tape : m .tapes ≡ 1
   pub count-in : m .states * m .symbols ≤ 256
