@@ -173,7 +173,7 @@ impl ChainSim {
     // The run; the caller has checked the table, the value and the fuel. Without the never test a proved loop covers all
     // the fuel in one macro step. A macro step of no steps is one that had no place.
     pub fn run_all(
-        self,
+        mut self,
         m: Machine,
         stride: u64,
         proves: bool,
@@ -190,16 +190,15 @@ impl ChainSim {
     {
         let lp = stack::places(ls, ll);
         let rp = stack::places(rs, rl);
-        let mut sim = self;
         let mut left = fuel;
         loop {
-            let turn = sim.decide(m, stride, proves, rule, table, left);
+            let turn = self.decide(m, stride, proves, rule, table, left);
             match turn {
                 Turn::Ends(outcome) => {
-                    return Ran { sim, outcome };
+                    return Ran { sim: self, outcome };
                 }
                 Turn::Takes(s) => {
-                    let tape = sim.tape;
+                    let tape = self.tape;
                     let w = leaps::make(
                         s,
                         tape.left,
@@ -214,13 +213,13 @@ impl ChainSim {
                         left,
                     );
                     if w.repeats == 0 {
-                        let steps = sim.steps;
+                        let steps = self.steps;
                         return Ran {
-                            sim,
+                            sim: self,
                             outcome: Outcome::Full { steps },
                         };
                     }
-                    sim = sim.landed(s, w);
+                    self = self.landed(s, w);
                     left = left - w.repeats;
                 }
             }

@@ -228,7 +228,7 @@ impl Simulator {
 
     // The run over a table, or over its words where they are packed.
     pub(crate) fn run_bursts(
-        self,
+        mut self,
         m: Machine,
         stride: u64,
         proves: bool,
@@ -246,10 +246,9 @@ impl Simulator {
         ensures { λ r. ⌜ end (conf (r .sim) (now (c0 .exit)) (now (c1 .exit)) (now (c2 .exit))) (r .outcome) ≡ runOf (task m (now (table .entry)) proves rule) fuel (conf self (now (c0 .entry)) (now (c1 .entry)) (now (c2 .entry))) ⌝ }
     {
         let stop = stop_of(rule);
-        let mut sim = self;
         let mut left = fuel;
         loop {
-            let ahead = sim.sprint(
+            let ahead = self.sprint(
                 m,
                 stride,
                 proves,
@@ -274,7 +273,7 @@ impl Simulator {
                     if course::inner::matches(rule, at.state) {
                         return stopped(next);
                     }
-                    sim = next;
+                    self = next;
                     left = fuel_left - 1;
                 }
             }

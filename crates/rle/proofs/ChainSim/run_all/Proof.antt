@@ -8,11 +8,11 @@ use Rattle.rle.proofs.ChainSim.run_all.Statement.{statement}
 use Rattle.rle.proofs.ChainSim.run_all.Tie as tie
 
 abbrev Inv-loop : tie.InvT-loop
-Inv-loop m stride proves rule table ls₀ ll₀ rs₀ rl₀ fuel lp rp sim₀ left₀ ls ll rs rl sim left =
-    Going (task m table proves rule) stride lp rp (conf sim₀ ls₀ ll₀ rs₀ rl₀) fuel (conf sim ls ll rs rl) left
+Inv-loop self₀ m stride proves rule table ls₀ ll₀ rs₀ rl₀ fuel lp rp left₀ self ls ll rs rl left =
+    Going (task m table proves rule) stride lp rp (conf self₀ ls₀ ll₀ rs₀ rl₀) fuel (conf self ls ll rs rl) left
 
 abbrev μ-loop : tie.MeasureT-loop
-μ-loop m stride proves rule table ls₀ ll₀ rs₀ rl₀ fuel lp rp sim₀ left₀ ls ll rs rl sim left = left
+μ-loop self₀ m stride proves rule table ls₀ ll₀ rs₀ rl₀ fuel lp rp left₀ self ls ll rs rl left = left
 
 places-requires : tie.Need-places-requires Inv-loop μ-loop
 places-requires c κs = search needs

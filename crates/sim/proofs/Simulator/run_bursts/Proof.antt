@@ -8,11 +8,11 @@ use Rattle.sim.proofs.Simulator.run_bursts.Statement.{statement}
 use Rattle.sim.proofs.Simulator.run_bursts.Tie as tie
 
 abbrev Inv-loop : tie.InvT-loop
-Inv-loop m stride proves rule table packed words c0₀ c1₀ c2₀ fuel stop sim₀ left₀ c0 c1 c2 sim left =
-    RunInv (task m table proves rule) stride fuel (conf sim₀ c0₀ c1₀ c2₀) sim c0 c1 c2 left
+Inv-loop self₀ m stride proves rule table packed words c0₀ c1₀ c2₀ fuel stop left₀ self c0 c1 c2 left =
+    RunInv (task m table proves rule) stride fuel (conf self₀ c0₀ c1₀ c2₀) self c0 c1 c2 left
 
 abbrev μ-loop : tie.MeasureT-loop
-μ-loop m stride proves rule table packed words c0₀ c1₀ c2₀ fuel stop sim₀ left₀ c0 c1 c2 sim left = left
+μ-loop self₀ m stride proves rule table packed words c0₀ c1₀ c2₀ fuel stop left₀ self c0 c1 c2 left = left
 
 stop-of-requires : tie.Need-stop-of-requires Inv-loop μ-loop
 stop-of-requires c κs = search needs
