@@ -1,5 +1,6 @@
 // What every operation on an engine tests before it begins: refusals 8, 11, 12 and 13 after the table check.
 use super::ChainSim;
+use super::inner::fits;
 use before::inner::sizes;
 use machine::Checked;
 use machine::Machine;
@@ -31,10 +32,10 @@ impl ChainSim {
     pub fn fits(self, m: Machine, ls: &[u8], ll: &[u64], rs: &[u8], rl: &[u64]) -> bool
         ensures { λ r. ⌜ r ≡ chainFits m (conf self (now (ls .entry)) (now (ll .entry)) (now (rs .entry)) (now (rl .entry))) ⌝ }
     {
-        if !self.counts_fit(m) {
+        if !fits::counts_fit(self, m) {
             return false;
         }
-        if !self.head_fits() {
+        if !fits::head_fits(self) {
             return false;
         }
         let tape = self.tape;
@@ -49,7 +50,7 @@ impl ChainSim {
         if most < rights {
             return false;
         }
-        self.reach_fits(lefts, rights)
+        fits::reach_fits(self, lefts, rights)
     }
 
     fn value_check(self, m: Machine, ls: &[u8], ll: &[u64], rs: &[u8], rl: &[u64]) -> Checked

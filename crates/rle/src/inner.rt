@@ -120,30 +120,6 @@ impl ChainSim {
         }
     }
 
-    // How a run without fuel ends here: the verdict.
-    pub fn verdict(self, m: Machine, stride: u64, table: &[u8]) -> Outcome
-        requires { ⌜ TableOk m stride ⌝ }
-        ensures { λ r. ⌜ Judged m (now (table .entry)) self r ⌝ }
-    {
-        let tape = self.tape;
-        let steps = self.steps;
-        let state = self.state;
-        let found = entry_of(m, stride, table, state, tape.cur);
-        match found {
-            Entry::Undefined => {
-                return Outcome::Halted { steps, state };
-            }
-            Entry::Defined(a) => {
-                if loops_on(state, a, tape.cur, tape.left, tape.right) {
-                    let dir = a.dir0;
-                    let proof = leaps::proof_of(state, dir);
-                    return Outcome::NeverHalts { steps, proof };
-                }
-                return Outcome::OutOfFuel { steps };
-            }
-        }
-    }
-
     // The value after a macro step.
     fn landed(self, s: Step, w: Moved) -> ChainSim
         requires { ⌜ CountsOk self (w .repeats) ⌝ }
@@ -170,9 +146,8 @@ impl ChainSim {
         }
     }
 
-    // The run; the caller has checked the table, the value and the fuel. Without the never test a proved loop covers all
-    // the fuel in one macro step. A macro step of no steps is one that had no place.
-    pub fn run_all(
+    // The run by macro steps. One of no steps is one that had no place.
+    pub(crate) fn run_leaps(
         mut self,
         m: Machine,
         stride: u64,
@@ -223,6 +198,51 @@ impl ChainSim {
                     left = left - w.repeats;
                 }
             }
+        }
+    }
+}
+
+// The run; the caller has checked the table, the value and the fuel. Without the never test a proved loop covers all
+// the fuel in one macro step.
+pub fn run_all(
+    sim: ChainSim,
+    m: Machine,
+    stride: u64,
+    proves: bool,
+    rule: StopRule,
+    table: &[u8],
+    ls: &mut [u8],
+    ll: &mut [u64],
+    rs: &mut [u8],
+    rl: &mut [u64],
+    fuel: u64,
+) -> Ran
+    requires { ⌜ RunOk m stride (conf sim (now ls) (now ll) (now rs) (now rl)) fuel ⌝ }
+    ensures { λ r. ⌜ end (conf (r .sim) (now (ls .exit)) (now (ll .exit)) (now (rs .exit)) (now (rl .exit))) (r .outcome) ≡ runOf (task m (now (table .entry)) proves rule) fuel (conf sim (now (ls .entry)) (now (ll .entry)) (now (rs .entry)) (now (rl .entry))) ⌝ }
+{
+    sim.run_leaps(m, stride, proves, rule, table, ls, ll, rs, rl, fuel)
+}
+
+// How a run without fuel ends here: the verdict.
+pub fn verdict(sim: ChainSim, m: Machine, stride: u64, table: &[u8]) -> Outcome
+    requires { ⌜ TableOk m stride ⌝ }
+    ensures { λ r. ⌜ Judged m (now (table .entry)) sim r ⌝ }
+{
+    let tape = sim.tape;
+    let steps = sim.steps;
+    let state = sim.state;
+    let found = entry_of(m, stride, table, state, tape.cur);
+    match found {
+        Entry::Undefined => {
+            return Outcome::Halted { steps, state };
+        }
+        Entry::Defined(a) => {
+            if loops_on(state, a, tape.cur, tape.left, tape.right) {
+                let dir = a.dir0;
+                let proof = leaps::proof_of(state, dir);
+                return Outcome::NeverHalts { steps, proof };
+            }
+            return Outcome::OutOfFuel { steps };
         }
     }
 }

@@ -118,7 +118,7 @@ impl ChainSim {
             }
             Checked::Accepted => {
                 let stride = machine::inner::stride(m.tapes, m.symbols);
-                let ran = self.run_all(m, stride, true, rule, table, ls, ll, rs, rl, fuel);
+                let ran = inner::run_all(self, m, stride, true, rule, table, ls, ll, rs, rl, fuel);
                 let sim = ran.sim;
                 let outcome = ran.outcome;
                 return Answered {

@@ -49,7 +49,8 @@ pub fn advance(
     ensures { λ r. ⌜ (r .outcome, conf (r .sim) (now (ls .exit)) (now (ll .exit)) (now (rs .exit)) (now (rl .exit))) ≡ advanceOf m (now (table .entry)) fuel (conf sim (now (ls .entry)) (now (ll .entry)) (now (rs .entry)) (now (rl .entry))) ⌝ }
 {
     let stride = machine::inner::stride(m.tapes, m.symbols);
-    let ran = sim.run_all(
+    let ran = rle::inner::run_all(
+        sim,
         m,
         stride,
         false,
@@ -69,7 +70,7 @@ pub fn advance(
             outcome,
         };
     }
-    let verdict = after.verdict(m, stride, table);
+    let verdict = rle::inner::verdict(after, m, stride, table);
     Advanced {
         sim: after,
         outcome: verdict,

@@ -61,7 +61,7 @@ impl Timeline {
             }
             Checked::Accepted => {
                 let size = engine::slot_size(ls, ll, rs, rl);
-                return times.later_check(sim.steps, store.len() / size, target);
+                return sums::later_check(times, sim.steps, store.len() / size, target);
             }
         }
     }

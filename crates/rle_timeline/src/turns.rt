@@ -6,6 +6,7 @@ use rle::ChainSim;
 use rle_engine::inner as engine;
 use rle_engine::inner::Advanced;
 use times::Times;
+use times::inner as sums;
 ghost use mathlib.Core.Path.{_≡_};
 ghost use Rattle.rle.specs.Engine.{conf};
 ghost use Rattle.times.specs.Timeline.{recordDue};
@@ -65,7 +66,7 @@ fn stride(
     ensures { λ r. ⌜ (r .outcome, conf (r .sim) (now (ls .exit)) (now (ll .exit)) (now (rs .exit)) (now (rl .exit))) ≡ strideOf chainKind m (now (table .entry)) target times (conf sim (now (ls .entry)) (now (ll .entry)) (now (rs .entry)) (now (rl .entry))) ⌝ }
 {
     let steps = sim.steps;
-    let stop = times.stop(target, steps);
+    let stop = sums::stop(times, target, steps);
     engine::advance(sim, m, table, ls, ll, rs, rl, stop - steps)
 }
 
@@ -87,11 +88,11 @@ impl Timeline {
     {
         let sim = self.engine;
         let times = self.times;
-        if !times.is_due(sim.steps) {
+        if !sums::is_due(times, sim.steps) {
             return times;
         }
         save_at(sim, m, ls, ll, rs, rl, store, size, times.count as usize);
-        times.recorded(store, size)
+        sums::recorded(times, store, size)
     }
 
     // One turn of the loop. It is the last at the target, or where the engine does not move: halted or full.

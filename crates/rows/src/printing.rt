@@ -78,7 +78,7 @@ pub(crate) fn row(
 {
     let t = sim.t0;
     let state = sim.state;
-    let score = t.count_non_blank(cells);
+    let score = tape::inner::count_non_blank(t, cells);
     let r1 = answer(out, at, outcome);
     let r2 = number(out, r1, sim.steps);
     let r3 = number(out, r2, state.0 as u64);

@@ -128,7 +128,14 @@ fn read(at: Wide, table: &[u8], c0: &[u8], c1: &[u8], c2: &[u8], k: u64, stride:
     let t0 = at.t0;
     let t1 = at.t1;
     let t2 = at.t2;
-    let number = inner::entry_number(k, stride, at.state, t0.read(c0), t1.read(c1), t2.read(c2));
+    let number = inner::entry_number(
+        k,
+        stride,
+        at.state,
+        tape::inner::read(t0, c0),
+        tape::inner::read(t1, c1),
+        tape::inner::read(t2, c2),
+    );
     entry(table, number as usize, at.state)
 }
 

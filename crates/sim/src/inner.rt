@@ -63,9 +63,9 @@ impl Simulator {
         let d1 = a.dir1;
         let d2 = a.dir2;
         let next = a.next;
-        let u0 = t0.act(c0, a.write0.0, d0);
-        let u1 = t1.act(c1, a.write1.0, d1);
-        let u2 = t2.act(c2, a.write2.0, d2);
+        let u0 = tape::inner::act(t0, c0, a.write0.0, d0);
+        let u1 = tape::inner::act(t1, c1, a.write1.0, d1);
+        let u2 = tape::inner::act(t2, c2, a.write2.0, d2);
         Simulator {
             state: next,
             steps: self.steps + 1,
@@ -74,37 +74,37 @@ impl Simulator {
             t2: u2,
         }
     }
+}
 
-    // The run over a table whose check was passed. Without the never test it makes all the fuel, or ends halted or full,
-    // or by the stop rule.
-    pub fn run_all(
-        self,
-        m: Machine,
-        proves: bool,
-        rule: StopRule,
-        table: &[u8],
-        c0: &mut [u8],
-        c1: &mut [u8],
-        c2: &mut [u8],
-        fuel: u64,
-    ) -> Answered
-        requires { ⌜ runCheck m (now table) fuel (conf self (now c0) (now c1) (now c2)) ≡ Accepted ⌝ }
-        ensures { λ r. ⌜ given (conf (r .sim) (now (c0 .exit)) (now (c1 .exit)) (now (c2 .exit))) (r .answer) ≡ answerOf Accepted m (now (table .entry)) proves rule fuel (conf self (now (c0 .entry)) (now (c1 .entry)) (now (c2 .entry))) ⌝ }
-    {
-        let none: [u64; 1] = [3];
-        let checked = Checked::Accepted;
-        self.run_checked(
-            checked,
-            m,
-            proves,
-            rule,
-            table,
-            false,
-            &none,
-            c0,
-            c1,
-            c2,
-            fuel,
-        )
-    }
+// The run over a table whose check was passed. Without the never test it makes all the fuel, or ends halted or full,
+// or by the stop rule.
+pub fn run_all(
+    sim: Simulator,
+    m: Machine,
+    proves: bool,
+    rule: StopRule,
+    table: &[u8],
+    c0: &mut [u8],
+    c1: &mut [u8],
+    c2: &mut [u8],
+    fuel: u64,
+) -> Answered
+    requires { ⌜ runCheck m (now table) fuel (conf sim (now c0) (now c1) (now c2)) ≡ Accepted ⌝ }
+    ensures { λ r. ⌜ given (conf (r .sim) (now (c0 .exit)) (now (c1 .exit)) (now (c2 .exit))) (r .answer) ≡ answerOf Accepted m (now (table .entry)) proves rule fuel (conf sim (now (c0 .entry)) (now (c1 .entry)) (now (c2 .entry))) ⌝ }
+{
+    let none: [u64; 1] = [3];
+    let checked = Checked::Accepted;
+    sim.run_checked(
+        checked,
+        m,
+        proves,
+        rule,
+        table,
+        false,
+        &none,
+        c0,
+        c1,
+        c2,
+        fuel,
+    )
 }

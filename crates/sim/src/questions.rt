@@ -86,7 +86,7 @@ impl Simulator {
             Checked::Accepted => {
                 let t = self.tape_at(tape);
                 let cells = cells_at(tape, c0, c1, c2);
-                return Got::Found(Symbol(t.get(cells, at)));
+                return Got::Found(Symbol(tape::inner::get(t, cells, at)));
             }
         }
     }
@@ -111,7 +111,7 @@ impl Simulator {
             Checked::Accepted => {
                 let t = self.tape_at(tape);
                 let cells = cells_at(tape, c0, c1, c2);
-                return Extent::Found(t.non_blank(cells));
+                return Extent::Found(tape::inner::non_blank(t, cells));
             }
         }
     }
@@ -136,7 +136,7 @@ impl Simulator {
             Checked::Accepted => {
                 let t = self.tape_at(tape);
                 let cells = cells_at(tape, c0, c1, c2);
-                return Counted::Found(t.count_non_blank(cells));
+                return Counted::Found(tape::inner::count_non_blank(t, cells));
             }
         }
     }
@@ -163,7 +163,7 @@ impl Simulator {
             Checked::Accepted => {
                 let t = self.tape_at(tape);
                 let cells = cells_at(tape, c0, c1, c2);
-                t.window(cells, from, out);
+                tape::inner::window(t, cells, from, out);
                 return Checked::Accepted;
             }
         }
@@ -191,7 +191,7 @@ impl Simulator {
             Checked::Accepted => {
                 let t = self.tape_at(tape);
                 let cells = cells_at(tape, c0, c1, c2);
-                return Located::Found(t.find_non_blank(cells, from, dir));
+                return Located::Found(tape::inner::find_non_blank(t, cells, from, dir));
             }
         }
     }

@@ -58,7 +58,7 @@ pub fn advance(
     requires { ⌜ runCheck m (now table) fuel (conf sim (now c0) (now c1) (now c2)) ≡ Accepted ⌝ }
     ensures { λ r. ⌜ (r .outcome, conf (r .sim) (now (c0 .exit)) (now (c1 .exit)) (now (c2 .exit))) ≡ advanceOf m (now (table .entry)) fuel (conf sim (now (c0 .entry)) (now (c1 .entry)) (now (c2 .entry))) ⌝ }
 {
-    let ran = sim.run_all(m, false, StopRule::Never, table, c0, c1, c2, fuel);
+    let ran = sim::inner::run_all(sim, m, false, StopRule::Never, table, c0, c1, c2, fuel);
     let after = ran.sim;
     let answer = ran.answer;
     let outcome = outcome_in(answer);
@@ -68,7 +68,7 @@ pub fn advance(
             outcome,
         };
     }
-    let tested = after.run_all(m, true, StopRule::Never, table, c0, c1, c2, 0);
+    let tested = sim::inner::run_all(after, m, true, StopRule::Never, table, c0, c1, c2, 0);
     let still = tested.sim;
     let verdict = tested.answer;
     Advanced {

@@ -59,7 +59,7 @@ impl Timeline {
             }
             Checked::Accepted => {
                 let size = engine::slot_size(m, c0.len(), c1.len(), c2.len());
-                return times.later_check(sim.steps, store.len() / size, target);
+                return sums::later_check(times, sim.steps, store.len() / size, target);
             }
         }
     }

@@ -7,6 +7,7 @@ use sim::Answer;
 use sim_engine::inner as engine;
 use sim_engine::inner::Found;
 use times::Times;
+use times::inner as sums;
 ghost use mathlib.Core.Path.{_≡_};
 ghost use Rattle.sim.specs.Engine.{conf};
 ghost use Rattle.times.specs.Timeline.{goOn, goBack, goTo};
@@ -57,7 +58,7 @@ impl Timeline {
     {
         let times = self.times;
         let sim = self.engine;
-        let i = times.slot_for(target);
+        let i = sums::slot_for(times, target);
         let step = times.first + i * times.every;
         let at = (i as usize) * size;
         let end = at + size;

@@ -6,6 +6,7 @@ use sim::Simulator;
 use sim_engine::inner as engine;
 use sim_engine::inner::Advanced;
 use times::Times;
+use times::inner as sums;
 ghost use mathlib.Core.Path.{_≡_};
 ghost use Rattle.sim.specs.Engine.{conf};
 ghost use Rattle.times.specs.Timeline.{recordDue};
@@ -63,7 +64,7 @@ fn stride(
     ensures { λ r. ⌜ (r .outcome, conf (r .sim) (now (c0 .exit)) (now (c1 .exit)) (now (c2 .exit))) ≡ strideOf plainKind m (now (table .entry)) target times (conf sim (now (c0 .entry)) (now (c1 .entry)) (now (c2 .entry))) ⌝ }
 {
     let steps = sim.steps;
-    let stop = times.stop(target, steps);
+    let stop = sums::stop(times, target, steps);
     engine::advance(sim, m, table, c0, c1, c2, stop - steps)
 }
 
@@ -84,11 +85,11 @@ impl Timeline {
     {
         let sim = self.engine;
         let times = self.times;
-        if !times.is_due(sim.steps) {
+        if !sums::is_due(times, sim.steps) {
             return times;
         }
         save_at(sim, m, c0, c1, c2, store, size, times.count as usize);
-        times.recorded(store, size)
+        sums::recorded(times, store, size)
     }
 
     // One turn of the loop. It is the last at the target, or where the engine does not move: halted or full.

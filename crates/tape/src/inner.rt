@@ -30,21 +30,21 @@ pub fn fresh(cells: &mut [u8], word: &[u8]) -> Tape
     }
 }
 
-impl Tape {
-    // The symbol under the head.
-    pub fn read(self, cells: &[u8]) -> u8
-        requires { ⌜ TapeOk self (now cells) ⌝ }
-        ensures { λ r. ⌜ r ≡ readOf (held self (now (cells .entry))) ⌝ }
-    {
-        let head = self.head;
-        if head < self.len {
-            return cells[head];
-        }
-        0
+// The symbol under the head.
+pub fn read(t: Tape, cells: &[u8]) -> u8
+    requires { ⌜ TapeOk t (now cells) ⌝ }
+    ensures { λ r. ⌜ r ≡ readOf (held t (now (cells .entry))) ⌝ }
+{
+    let head = t.head;
+    if head < t.len {
+        return cells[head];
     }
+    0
+}
 
+impl Tape {
     // Whether the move leaves the cells.
-    pub fn leaves(self, d: Dir) -> bool
+    fn leaves(self, d: Dir) -> bool
         requires { ⌜ (self .head ≤ self .len) × (self .len ≤ 1073741824) ⌝ }
         ensures { λ r. ⌜ r ≡ leaves self d ⌝ }
     {
@@ -53,17 +53,6 @@ impl Tape {
             Dir::R => self.head + 1 == self.len,
             Dir::N => false,
         }
-    }
-
-    // Whether the move has room in a buffer of `cap` cells.
-    pub fn room(self, cap: usize, d: Dir) -> bool
-        requires { ⌜ (self .head ≤ self .len) × (self .len ≤ 1073741824) ⌝ }
-        ensures { λ r. ⌜ r ≡ roomFor self cap d ⌝ }
-    {
-        if self.leaves(d) {
-            return 1 <= loops::extra(self.len, cap);
-        }
-        true
     }
 
     // New blanks on the side to which a move leaves the cells.
@@ -130,24 +119,6 @@ impl Tape {
         }
     }
 
-    // Writes at the head and moves it, growing where the move leaves the cells; the caller has asked `room`.
-    pub fn act(self, cells: &mut [u8], w: u8, d: Dir) -> Tape
-        requires { ⌜ TapeOk self (now cells) ⌝ }
-        requires { ⌜ roomFor self (length (now cells)) d ≡ true ⌝ }
-        ensures { λ r. ⌜ held r (now (cells .exit)) ≡ actOf (held self (now (cells .entry))) w d ⌝ }
-    {
-        let head = self.head;
-        if self.len <= head {
-            return self;
-        }
-        loops::put(cells, head, w);
-        if self.leaves(d) {
-            let grown = self.grow(cells, d);
-            return grown.shifted(d);
-        }
-        self.shifted(d)
-    }
-
     fn shape_fits(self, cap: usize) -> bool
         ensures { λ r. ⌜ r ≡ shapeFits self cap ⌝ }
     {
@@ -181,73 +152,96 @@ impl Tape {
         }
         loops::all_below(cells, self.len, k)
     }
+}
 
-    // Whether every cell strictly beyond the head that way is blank.
-    pub fn only_blanks_beyond(self, cells: &[u8], d: Dir) -> bool
-        requires { ⌜ TapeOk self (now cells) ⌝ }
-        ensures { λ r. ⌜ r ≡ blankBeyond (held self (now (cells .entry))) d ⌝ }
-    {
-        match d {
-            Dir::L => loops::all_blank(cells, 0, self.head),
-            Dir::R => loops::all_blank(cells, self.head + 1, self.len),
-            Dir::N => false,
-        }
+// Whether the move has room in a buffer of `cap` cells.
+pub fn room(t: Tape, cap: usize, d: Dir) -> bool
+    requires { ⌜ (t .head ≤ t .len) × (t .len ≤ 1073741824) ⌝ }
+    ensures { λ r. ⌜ r ≡ roomFor t cap d ⌝ }
+{
+    if t.leaves(d) {
+        return 1 <= loops::extra(t.len, cap);
     }
+    true
+}
 
-    // The symbol at a position; a cell outside is blank.
-    pub fn get(self, cells: &[u8], at: i64) -> u8
-        requires { ⌜ TapeOk self (now cells) ⌝ }
-        ensures { λ r. ⌜ r ≡ cellAt (self .origin) (self .len) (now (cells .entry)) at ⌝ }
-    {
-        shown::cell(cells, self.origin, self.len, at)
+// Writes at the head and moves it, growing where the move leaves the cells; the caller has asked `room`.
+pub fn act(t: Tape, cells: &mut [u8], w: u8, d: Dir) -> Tape
+    requires { ⌜ TapeOk t (now cells) ⌝ }
+    requires { ⌜ roomFor t (length (now cells)) d ≡ true ⌝ }
+    ensures { λ r. ⌜ held r (now (cells .exit)) ≡ actOf (held t (now (cells .entry))) w d ⌝ }
+{
+    let head = t.head;
+    if t.len <= head {
+        return t;
     }
-
-    // The positions of the lowest and the highest non-blank cell.
-    pub fn non_blank(self, cells: &[u8]) -> Span
-        requires { ⌜ TapeOk self (now cells) ⌝ }
-        ensures { λ r. ⌜ r ≡ nonBlankOf (held self (now (cells .entry))) ⌝ }
-    {
-        let first = loops::first_written(cells, 0, self.len);
-        let last = loops::last_written(cells, self.len);
-        span(first, last, self.origin)
+    loops::put(cells, head, w);
+    if t.leaves(d) {
+        let grown = t.grow(cells, d);
+        return grown.shifted(d);
     }
+    t.shifted(d)
+}
 
-    // How many cells are not blank.
-    pub fn count_non_blank(self, cells: &[u8]) -> u64
-        requires { ⌜ TapeOk self (now cells) ⌝ }
-        ensures { λ r. ⌜ r ≡ countOf (held self (now (cells .entry))) ⌝ }
-    {
-        loops::count_written(cells, self.len)
+// Whether every cell strictly beyond the head that way is blank.
+pub fn only_blanks_beyond(t: Tape, cells: &[u8], d: Dir) -> bool
+    requires { ⌜ TapeOk t (now cells) ⌝ }
+    ensures { λ r. ⌜ r ≡ blankBeyond (held t (now (cells .entry))) d ⌝ }
+{
+    match d {
+        Dir::L => loops::all_blank(cells, 0, t.head),
+        Dir::R => loops::all_blank(cells, t.head + 1, t.len),
+        Dir::N => false,
     }
+}
 
-    // The symbols from a position on, into the whole of `out`; positions past i64 are blank.
-    pub fn window(self, cells: &[u8], from: i64, out: &mut [u8])
-        requires { ⌜ TapeOk self (now cells) ⌝ }
-        ensures { λ _. ⌜ now (out .exit) ≡ windowOf (held self (now (cells .entry))) from (now (out .entry)) ⌝ }
-    {
-        shown::window(cells, self.origin, self.len, from, out);
-    }
+// The symbol at a position; a cell outside is blank.
+pub fn get(t: Tape, cells: &[u8], at: i64) -> u8
+    requires { ⌜ TapeOk t (now cells) ⌝ }
+    ensures { λ r. ⌜ r ≡ cellAt (t .origin) (t .len) (now (cells .entry)) at ⌝ }
+{
+    shown::cell(cells, t.origin, t.len, at)
+}
 
-    // The nearest non-blank cell at a position or beyond it that way; N looks at the position alone.
-    pub fn find_non_blank(self, cells: &[u8], from: i64, dir: Dir) -> Spot
-        requires { ⌜ TapeOk self (now cells) ⌝ }
-        ensures { λ r. ⌜ r ≡ findOf (held self (now (cells .entry))) from dir ⌝ }
-    {
-        match dir {
-            Dir::L => spot(
-                shown::last_up_to(cells, self.origin, self.len, from),
-                self.origin,
-            ),
-            Dir::R => spot(
-                shown::first_from(cells, self.origin, self.len, from),
-                self.origin,
-            ),
-            Dir::N => {
-                if self.get(cells, from) == 0 {
-                    return Spot::Nowhere;
-                }
-                Spot::At(from)
+// The positions of the lowest and the highest non-blank cell.
+pub fn non_blank(t: Tape, cells: &[u8]) -> Span
+    requires { ⌜ TapeOk t (now cells) ⌝ }
+    ensures { λ r. ⌜ r ≡ nonBlankOf (held t (now (cells .entry))) ⌝ }
+{
+    let first = loops::first_written(cells, 0, t.len);
+    let last = loops::last_written(cells, t.len);
+    span(first, last, t.origin)
+}
+
+// How many cells are not blank.
+pub fn count_non_blank(t: Tape, cells: &[u8]) -> u64
+    requires { ⌜ TapeOk t (now cells) ⌝ }
+    ensures { λ r. ⌜ r ≡ countOf (held t (now (cells .entry))) ⌝ }
+{
+    loops::count_written(cells, t.len)
+}
+
+// The symbols from a position on, into the whole of `out`; positions past i64 are blank.
+pub fn window(t: Tape, cells: &[u8], from: i64, out: &mut [u8])
+    requires { ⌜ TapeOk t (now cells) ⌝ }
+    ensures { λ _. ⌜ now (out .exit) ≡ windowOf (held t (now (cells .entry))) from (now (out .entry)) ⌝ }
+{
+    shown::window(cells, t.origin, t.len, from, out);
+}
+
+// The nearest non-blank cell at a position or beyond it that way; N looks at the position alone.
+pub fn find_non_blank(t: Tape, cells: &[u8], from: i64, dir: Dir) -> Spot
+    requires { ⌜ TapeOk t (now cells) ⌝ }
+    ensures { λ r. ⌜ r ≡ findOf (held t (now (cells .entry))) from dir ⌝ }
+{
+    match dir {
+        Dir::L => spot(shown::last_up_to(cells, t.origin, t.len, from), t.origin),
+        Dir::R => spot(shown::first_from(cells, t.origin, t.len, from), t.origin),
+        Dir::N => {
+            if get(t, cells, from) == 0 {
+                return Spot::Nowhere;
             }
+            Spot::At(from)
         }
     }
 }

@@ -132,7 +132,7 @@ pub fn first_check(most: u64, every: u64, slots: usize) -> Checked
 
 impl Times {
     // Refusal 14 of a later value, whose engine is at step p.
-    pub fn ok(self, p: u64) -> bool
+    fn ok(self, p: u64) -> bool
         requires { ⌜ p ≤ limit ⌝ }
         ensures { λ r. ⌜ r ≡ timesOk self p ⌝ }
     {
@@ -150,60 +150,6 @@ impl Times {
         }
         let d = due(self.first, self.count, self.every);
         p <= d
-    }
-
-    // 14, 15 and 13 of a call, on an engine at step p and a store of so many slots.
-    pub fn later_check(self, p: u64, slots: usize, target: u64) -> Checked
-        requires { ⌜ p ≤ limit ⌝ }
-        ensures { λ r. ⌜ r ≡ laterCheck self p slots target ⌝ }
-    {
-        if !self.ok(p) {
-            return Checked::Refused(Refusal::Settings);
-        }
-        if (slots as u64) <= self.most {
-            return Checked::Refused(Refusal::StoreSize);
-        }
-        if 4611686018427387904 < target {
-            return Checked::Refused(Refusal::StepLimit);
-        }
-        Checked::Accepted
-    }
-
-    pub fn is_due(self, p: u64) -> bool
-        requires { ⌜ TimesFit self ⌝ }
-        requires { ⌜ p ≤ limit ⌝ }
-        ensures { λ r. ⌜ r ≡ isDue self p ⌝ }
-    {
-        let d = due(self.first, self.count, self.every);
-        p == d
-    }
-
-    // Where the next advance stops: the target, or the next slot where that comes first.
-    pub fn stop(self, target: u64, p: u64) -> u64
-        requires { ⌜ TimesFit self ⌝ }
-        requires { ⌜ target ≤ limit ⌝ }
-        ensures { λ r. ⌜ r ≡ stopFor target self p ⌝ }
-    {
-        let d = due(self.first, self.count, self.every);
-        if target < d {
-            return max(target, p);
-        }
-        max(d, p)
-    }
-
-    // The slot to go back to.
-    pub fn slot_for(self, target: u64) -> u64
-        requires { ⌜ self .first ≤ target ⌝ }
-        requires { ⌜ 1 ≤ self .every ⌝ }
-        requires { ⌜ 1 ≤ self .count ⌝ }
-        ensures { λ r. ⌜ r ≡ slotFor target self ⌝ }
-    {
-        let i = (target - self.first) / self.every;
-        let last = self.count - 1;
-        if i < last {
-            return i;
-        }
-        last
     }
 
     // With more than the most recorded, it keeps those of even index and doubles the interval.
@@ -224,18 +170,72 @@ impl Times {
             every: 2 * self.every,
         }
     }
+}
 
-    // After a save into the slot that comes next.
-    pub fn recorded(self, store: &mut [u8], size: usize) -> Times
-        requires { ⌜ RecordOk self (now store) size ⌝ }
-        ensures { λ r. ⌜ Thinned (oneMore self) r size (now (store .entry)) (now (store .exit)) ⌝ }
-    {
-        let more = Times {
-            most: self.most,
-            first: self.first,
-            count: self.count + 1,
-            every: self.every,
-        };
-        more.thinned(store, size)
+// 14, 15 and 13 of a call, on an engine at step p and a store of so many slots.
+pub fn later_check(t: Times, p: u64, slots: usize, target: u64) -> Checked
+    requires { ⌜ p ≤ limit ⌝ }
+    ensures { λ r. ⌜ r ≡ laterCheck t p slots target ⌝ }
+{
+    if !t.ok(p) {
+        return Checked::Refused(Refusal::Settings);
     }
+    if (slots as u64) <= t.most {
+        return Checked::Refused(Refusal::StoreSize);
+    }
+    if 4611686018427387904 < target {
+        return Checked::Refused(Refusal::StepLimit);
+    }
+    Checked::Accepted
+}
+
+pub fn is_due(t: Times, p: u64) -> bool
+    requires { ⌜ TimesFit t ⌝ }
+    requires { ⌜ p ≤ limit ⌝ }
+    ensures { λ r. ⌜ r ≡ isDue t p ⌝ }
+{
+    let d = due(t.first, t.count, t.every);
+    p == d
+}
+
+// Where the next advance stops: the target, or the next slot where that comes first.
+pub fn stop(t: Times, target: u64, p: u64) -> u64
+    requires { ⌜ TimesFit t ⌝ }
+    requires { ⌜ target ≤ limit ⌝ }
+    ensures { λ r. ⌜ r ≡ stopFor target t p ⌝ }
+{
+    let d = due(t.first, t.count, t.every);
+    if target < d {
+        return max(target, p);
+    }
+    max(d, p)
+}
+
+// The slot to go back to.
+pub fn slot_for(t: Times, target: u64) -> u64
+    requires { ⌜ t .first ≤ target ⌝ }
+    requires { ⌜ 1 ≤ t .every ⌝ }
+    requires { ⌜ 1 ≤ t .count ⌝ }
+    ensures { λ r. ⌜ r ≡ slotFor target t ⌝ }
+{
+    let i = (target - t.first) / t.every;
+    let last = t.count - 1;
+    if i < last {
+        return i;
+    }
+    last
+}
+
+// After a save into the slot that comes next.
+pub fn recorded(t: Times, store: &mut [u8], size: usize) -> Times
+    requires { ⌜ RecordOk t (now store) size ⌝ }
+    ensures { λ r. ⌜ Thinned (oneMore t) r size (now (store .entry)) (now (store .exit)) ⌝ }
+{
+    let more = Times {
+        most: t.most,
+        first: t.first,
+        count: t.count + 1,
+        every: t.every,
+    };
+    more.thinned(store, size)
 }

@@ -84,7 +84,7 @@ fn loop_of(tapes: u64, q: State, a: Action, r0: u8, r1: u8, r2: u8, t: Tape, cel
         return Look::Go(a);
     }
     let dir = a.dir0;
-    if t.only_blanks_beyond(cells, dir) {
+    if tape::inner::only_blanks_beyond(t, cells, dir) {
         return Look::Never(NonHaltProof::ChainToInfinity { state: q, dir });
     }
     Look::Go(a)
@@ -138,9 +138,9 @@ fn see(
     requires { ⌜ AtOk m stride t0 t1 t2 (now c0) (now c1) (now c2) ⌝ }
     ensures { λ r. ⌜ r ≡ lookAt m (now (table .entry)) proves q (held t0 (now (c0 .entry))) (held t1 (now (c1 .entry))) (held t2 (now (c2 .entry))) ⌝ }
 {
-    let r0 = t0.read(c0);
-    let r1 = t1.read(c1);
-    let r2 = t2.read(c2);
+    let r0 = tape::inner::read(t0, c0);
+    let r1 = tape::inner::read(t1, c1);
+    let r2 = tape::inner::read(t2, c2);
     let found = entry_of(m, stride, table, q, r0, r1, r2);
     match found {
         Entry::Undefined => Look::Halt,
@@ -156,13 +156,13 @@ fn rooms(t0: Tape, t1: Tape, t2: Tape, n0: usize, n1: usize, n2: usize, a: Actio
     let d0 = a.dir0;
     let d1 = a.dir1;
     let d2 = a.dir2;
-    if !t0.room(n0, d0) {
+    if !tape::inner::room(t0, n0, d0) {
         return false;
     }
-    if !t1.room(n1, d1) {
+    if !tape::inner::room(t1, n1, d1) {
         return false;
     }
-    t2.room(n2, d2)
+    tape::inner::room(t2, n2, d2)
 }
 
 // Fuel, then space.

@@ -6,53 +6,51 @@ ghost use mathlib.Core.Path.{_≡_};
 ghost use Prim.Native.Nat.{_+_, _≤_};
 ghost use Rattle.rle.specs.Fits.{headFits, reachFits, countsFit};
 
-impl ChainSim {
-    pub fn counts_fit(self, m: Machine) -> bool
-        ensures { λ r. ⌜ r ≡ countsFit m self ⌝ }
-    {
-        let tape = self.tape;
-        let state = self.state.0 as u64;
-        let cur = tape.cur as u64;
-        if m.states <= state {
-            return false;
-        }
-        if !sizes::steps_fit(self.steps) {
-            return false;
-        }
-        if self.steps < self.macros {
-            return false;
-        }
-        cur < m.symbols
+pub fn counts_fit(sim: ChainSim, m: Machine) -> bool
+    ensures { λ r. ⌜ r ≡ countsFit m sim ⌝ }
+{
+    let tape = sim.tape;
+    let state = sim.state.0 as u64;
+    let cur = tape.cur as u64;
+    if m.states <= state {
+        return false;
     }
+    if !sizes::steps_fit(sim.steps) {
+        return false;
+    }
+    if sim.steps < sim.macros {
+        return false;
+    }
+    cur < m.symbols
+}
 
-    pub fn head_fits(self) -> bool
-        requires { ⌜ self .steps ≤ 4611686018427387904 ⌝ }
-        ensures { λ r. ⌜ r ≡ headFits self ⌝ }
-    {
-        let tape = self.tape;
-        if tape.head < self.lowest {
-            return false;
-        }
-        if self.highest < tape.head {
-            return false;
-        }
-        if self.lowest < 9223372036854775808 - self.steps {
-            return false;
-        }
-        self.highest <= 9223372036854775808 + self.steps
+pub fn head_fits(sim: ChainSim) -> bool
+    requires { ⌜ sim .steps ≤ 4611686018427387904 ⌝ }
+    ensures { λ r. ⌜ r ≡ headFits sim ⌝ }
+{
+    let tape = sim.tape;
+    if tape.head < sim.lowest {
+        return false;
     }
+    if sim.highest < tape.head {
+        return false;
+    }
+    if sim.lowest < 9223372036854775808 - sim.steps {
+        return false;
+    }
+    sim.highest <= 9223372036854775808 + sim.steps
+}
 
-    // Whether the furthest cell of each side is near enough to position 0.
-    pub fn reach_fits(self, lefts: u64, rights: u64) -> bool
-        requires { ⌜ self .steps ≤ 4611686018427387904 ⌝ }
-        requires { ⌜ (lefts ≤ self .steps + 1048576) × (rights ≤ self .steps + 1048576) ⌝ }
-        ensures { λ r. ⌜ r ≡ reachFits self lefts rights ⌝ }
-    {
-        let tape = self.tape;
-        let most = self.steps + 1048576;
-        if tape.head < 9223372036854775808 - (most - lefts) {
-            return false;
-        }
-        tape.head <= 9223372036854775808 + (most - rights)
+// Whether the furthest cell of each side is near enough to position 0.
+pub fn reach_fits(sim: ChainSim, lefts: u64, rights: u64) -> bool
+    requires { ⌜ sim .steps ≤ 4611686018427387904 ⌝ }
+    requires { ⌜ (lefts ≤ sim .steps + 1048576) × (rights ≤ sim .steps + 1048576) ⌝ }
+    ensures { λ r. ⌜ r ≡ reachFits sim lefts rights ⌝ }
+{
+    let tape = sim.tape;
+    let most = sim.steps + 1048576;
+    if tape.head < 9223372036854775808 - (most - lefts) {
+        return false;
     }
+    tape.head <= 9223372036854775808 + (most - rights)
 }

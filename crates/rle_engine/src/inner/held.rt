@@ -4,6 +4,7 @@ use super::bytes::number;
 use machine::Machine;
 use rle::ChainSim;
 use rle::RunTape;
+use rle::inner::fits;
 use slots::inner as little;
 use stacks::inner as stack;
 use symbol::State;
@@ -135,10 +136,10 @@ fn fits_in(sim: ChainSim, m: Machine, slot: &[u8], lp: usize, rp: usize) -> bool
     requires { ⌜ length (now slot) ≡ bytesFor lp rp ⌝ }
     ensures { λ r. ⌜ r ≡ chainFits m (conf sim (part (now (slot .entry)) 128 lp) (numbersIn (part (now (slot .entry)) (leftLengths lp rp) (8 * lp))) (part (now (slot .entry)) (rightSymbols lp) rp) (numbersIn (part (now (slot .entry)) (rightLengths lp rp) (8 * rp)))) ⌝ }
 {
-    if !sim.counts_fit(m) {
+    if !fits::counts_fit(sim, m) {
         return false;
     }
-    if !sim.head_fits() {
+    if !fits::head_fits(sim) {
         return false;
     }
     let tape = sim.tape;
@@ -159,7 +160,7 @@ fn fits_in(sim: ChainSim, m: Machine, slot: &[u8], lp: usize, rp: usize) -> bool
     if most < rights {
         return false;
     }
-    sim.reach_fits(lefts, rights)
+    fits::reach_fits(sim, lefts, rights)
 }
 
 // What a slot for lp and rp places holds, if it is a fitting engine of that step.
