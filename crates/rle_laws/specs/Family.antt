@@ -1,11 +1,12 @@
 -- The run-length engine beside the table machine, for the timeline: what its value means, the next step, and when that is full. Definitions only.
+use mathlib.Core.Path.{_≡_}
 use mathlib.Core.List.{List}
 use Prim.Native.Nat.{ℕ}
 use Rattle.machine.specs.declared.Machine.{Machine}
-use Rattle.turing.specs.TableMachine.{Config, step, run, start}
+use Rattle.turing.specs.TableMachine.{Config, step, run}
 use Rattle.turing.specs.Tables.{tableOf}
-use Rattle.rle.specs.Engine.{Conf}
-use Rattle.rle_refines.specs.Meaning.{configOf}
+use Rattle.rle.specs.Engine.{Conf, leftOf, rightOf}
+use Rattle.rle_refines.specs.Meaning.{stackOf, configOf}
 use Rattle.rle_refines.specs.Full.{FullAt}
 use Rattle.timeline.specs.Family.{Family}
 use Rattle.rle_engine.specs.Slots.{leftsOf, rightsOf}
@@ -33,10 +34,21 @@ module _ (m : Machine) (s : List ℕ) where
   abbrev pub NoRoom : Meant → Type 0
   NoRoom x = FullAt m (tableOf m s) (x .lefts) (x .rights) (x .config)
 
-  -- the same of the step from the j-th configuration on a word, with the places of the engine fresh on it
-  abbrev pub FullStep : (word : List ℕ) → Conf → ℕ → Type 0
-  FullStep w e j = FullAt m (tableOf m s) (leftsOf e) (rightsOf e) (run (tableOf m s) j (start (m .start) w))
+  -- the same of the step from the j-th configuration of the run from that of the engine e, with its places
+  abbrev pub FullStep : Conf → ℕ → Type 0
+  FullStep e j = FullAt m (tableOf m s) (leftsOf e) (rightsOf e) (run (tableOf m s) j (configOf e))
 
--- the kind of engine, the configuration that its value holds, and its full steps
+-- One engine is another, in as many places: all that document 01 leaves determined is equal. (What lies past the live runs is not.)
+pub record SameEngine (v u : Conf) : Type 0 where
+  -- state, steps, macro steps, the cell read, head, lowest and highest, and how many runs each side has
+  pub value : v .sim ≡ u .sim
+  -- the runs
+  pub lefts : stackOf (leftOf v) ≡ stackOf (leftOf u)
+  pub rights : stackOf (rightOf v) ≡ stackOf (rightOf u)
+  -- the lent places
+  pub left-places : leftsOf v ≡ leftsOf u
+  pub right-places : rightsOf v ≡ rightsOf u
+
+-- the kind of engine, the configuration that its value holds, its full steps, and when an engine is another
 abbrev pub chainFamily : Family
-chainFamily = record { kind = chainKind; config = λ m σ. configOf σ; FullStep = FullStep }
+chainFamily = record { kind = chainKind; config = λ m σ. configOf σ; FullStep = FullStep; Same = λ m v u. SameEngine v u }

@@ -33,6 +33,10 @@ module _ (m : Machine) (s : List ℕ) (lefts rights : ℕ) where
   pub fits-passed : (σ : Conf) → Fits m s lefts rights σ → Passed m s σ
   fits-passed σ f = engine-says m s σ (f .accepted)
 
+  -- its step count is within the limit
+  pub steps-low : (σ : Conf) → Fits m s lefts rights σ → σ .sim .steps ≤ limit
+  steps-low σ f = fits-passed σ f .fits .steps-in
+
   -- what is kept of an engine that fits
   pub kept-fits : (σ e : Conf) → Fits m s lefts rights σ → Kept m σ e → Fits m s lefts rights e
   kept-fits σ e f k =

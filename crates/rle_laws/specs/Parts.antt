@@ -9,7 +9,7 @@ use Rattle.turing.specs.RunFacts.{step-halted, not-defined}
 use Rattle.timeline.specs.Parts.{Parts}
 use Rattle.rle_engine.specs.Slots.{bytesFor}
 use Rattle.rle_laws.specs.Family.{Meant, meant, meanOf, nextOf, NoRoom, chainFamily}
-use Rattle.rle_laws.specs.FitFacts.{Fits, advance-fits, advances}
+use Rattle.rle_laws.specs.FitFacts.{Fits, steps-low, advance-fits, advances}
 use Rattle.rle_laws.specs.SlotFacts.{slot-length, slot-back}
 
 module _ (m : Machine) (s : List ℕ) where
@@ -31,6 +31,7 @@ module _ (m : Machine) (s : List ℕ) where
       -- a meaning is a configuration with places, and each has its next step
       Good = λ x. Unit {0};
       fits-check = λ u f. f .accepted;
+      fits-low = steps-low m s lefts rights;
       fits-good = λ u f. tt;
       now-is = λ u. refl;
       next-good = λ x g r. tt;

@@ -1,4 +1,4 @@
--- What a slot gives back has the meaning of what was put there, and fits. Assumes nothing.
+-- What a slot gives back is the engine that was put there, with its meaning, and fits. Assumes nothing.
 use mathlib.Core.Path.{_≡_, sym, _∙_}
 use mathlib.Core.List.{List}
 use mathlib.Core.Option.{some}
@@ -15,7 +15,7 @@ use Rattle.rle_refines.specs.OperationFacts.{Passed}
 use Rattle.rle_engine.specs.Slots.{leftsOf, rightsOf, bytesFor, slotSize, packOf, unpackOf}
 use Rattle.rle_engine.specs.LiveFacts.{SameLive, stack-live}
 use Rattle.rle_engine.specs.RoundTrip.{pack-length, Returned, unpack-pack}
-use Rattle.rle_laws.specs.Family.{meant, meanOf}
+use Rattle.rle_laws.specs.Family.{meant, meanOf, SameEngine}
 use Rattle.rle_laws.specs.FitFacts.{Fits, fits-passed}
 
 -- the configuration by the value and the two stacks
@@ -57,6 +57,15 @@ module _ (m : Machine) (s : List ℕ) (lefts rights : ℕ) where
     back-rights : rightsOf v ≡ rights
     back-rights = omega (arith, r .sizes .rs, r .sizes .rl, g .in-rights)
 
+    back-same : SameEngine v u
+    back-same = record {
+      value = r .live .sim;
+      lefts = (λ i. stackUpto (v .ls) (v .ll) (r .live .sim i .tape .left)) ∙ lefts-live u v (r .live);
+      rights = (λ i. stackUpto (v .rs) (v .rl) (r .live .sim i .tape .right)) ∙ rights-live u v (r .live);
+      left-places = back-lefts ∙ sym (f .in-lefts);
+      right-places = back-rights ∙ sym (f .in-rights);
+    }
+
     back-means : meanOf v ≡ meanOf u
     back-means = λ i. meant (config-live u v (r .live) i) ((back-lefts ∙ sym (f .in-lefts)) i) ((back-rights ∙ sym (f .in-rights)) i)
 
@@ -64,7 +73,7 @@ module _ (m : Machine) (s : List ℕ) (lefts rights : ℕ) where
     back-fits = record { accepted = r .accepted; in-lefts = back-lefts; in-rights = back-rights }
 
   pub slot-back : (u t : Conf) (old : List ℕ) → Fits m s lefts rights u → Fits m s lefts rights t → length old ≡ bytesFor lefts rights
-      → (v : Conf) × (unpackOf m (packOf m u old) (u .sim .steps) t ≡ some v) × (meanOf v ≡ meanOf u) × Fits m s lefts rights v
+      → (v : Conf) × (unpackOf m (packOf m u old) (u .sim .steps) t ≡ some v) × SameEngine v u × (meanOf v ≡ meanOf u) × Fits m s lefts rights v
   slot-back u t old f g z =
       let b = unpack-pack m s u t old (f .accepted) (g .accepted) (g .in-lefts ∙ sym (f .in-lefts)) (g .in-rights ∙ sym (f .in-rights)) (z ∙ size-is u f) in
-      (b .0, b .1, back-means u t (b .0) f g (b .2), back-fits u t (b .0) f g (b .2))
+      (b .0, b .1, back-same u t (b .0) f g (b .2), back-means u t (b .0) f g (b .2), back-fits u t (b .0) f g (b .2))

@@ -2,7 +2,7 @@
 use mathlib.Core.Path.{_≡_}
 use mathlib.Core.Bool.{Bool, true, false}
 use mathlib.Core.List.{List}
-use Prim.Native.Nat.{ℕ, _+_, _-_}
+use Prim.Native.Nat.{ℕ, _+_, _-_, _<_}
 use lib.Dec.{eqb, ltb}
 use lib.ListN.{length}
 use Rattle.laws.specs.Choice.{pick, both}
@@ -17,6 +17,7 @@ use Rattle.turing.specs.Tables.{tableOf}
 use Rattle.tape.specs.Moves.{Held}
 use Rattle.sim.specs.Engine.{Conf, tape0, tape1, tape2}
 use Rattle.sim_refines.specs.Meaning.{has, configOf}
+use Rattle.sim_refines.specs.Lent.{SameFirst}
 use Rattle.timeline.specs.Automaton.{iterate}
 use Rattle.timeline.specs.Family.{Family}
 use Rattle.sim_engine.specs.Kind.{plainKind}
@@ -108,9 +109,27 @@ pub data SomePasses (x : Mean) (a : Action) : Type 0 where
 abbrev pub NoRoom : Machine → List ℕ → Mean → Type 0
 NoRoom m s x = (a : Action) × (entry (tableOf m s) (x .config) ≡ Defined a) × SomePasses x a
 
--- of the engine e fresh on a word: the step from its j-th configuration is full
+-- of the engine e: the step from its j-th configuration is full
 abbrev pub FullStep : Machine → (table : List ℕ) → Conf → ℕ → Type 0
 FullStep m s e j = NoRoom m s (iterate (nextOf m s) j (meanOf m e))
+
+-- ---- when one engine is another, in buffers as long: all that document 01 leaves determined is equal. (What stands past the tapes' lengths is not; the fields
+-- of tapes that the machine lacks are aside.)
+
+pub record SameEngine (m : Machine) (v u : Conf) : Type 0 where
+  pub state : v .sim .state ≡ u .sim .state
+  pub steps : v .sim .steps ≡ u .sim .steps
+  -- a tape's numbers: length, head, origin, lowest, highest
+  pub numbers0 : v .sim .t0 ≡ u .sim .t0
+  pub numbers1 : 1 < m .tapes → v .sim .t1 ≡ u .sim .t1
+  pub numbers2 : 2 < m .tapes → v .sim .t2 ≡ u .sim .t2
+  -- its cells, up to its length
+  pub cells0 : SameFirst (u .sim .t0 .len) (v .c0) (u .c0)
+  pub cells1 : 1 < m .tapes → SameFirst (u .sim .t1 .len) (v .c1) (u .c1)
+  pub cells2 : 2 < m .tapes → SameFirst (u .sim .t2 .len) (v .c2) (u .c2)
+  pub length0 : length (v .c0) ≡ length (u .c0)
+  pub length1 : length (v .c1) ≡ length (u .c1)
+  pub length2 : length (v .c2) ≡ length (u .c2)
 
 -- ---- the kind of engine, with the configuration that it holds and that rule
 
@@ -118,5 +137,6 @@ abbrev pub plainFamily : Family
 plainFamily = record {
   kind = plainKind;
   config = configOf;
-  FullStep = λ m s w e j. FullStep m s e j;
+  FullStep = FullStep;
+  Same = SameEngine;
 }

@@ -2,7 +2,9 @@
 use mathlib.Core.Path.{_≡_, refl, sym, ap, _∙_}
 use mathlib.Core.Bool.{Bool, true, false}
 use mathlib.Core.List.{List}
-use Prim.Native.Nat.{ℕ}
+use Prim.Native.Nat.{ℕ, _<_}
+use native.Mathlib.Omega.{arith}
+use borrow.Author.Tests.{ltb-true}
 use lib.ListN.{take, getD}
 use lib.Seq.{getD-take}
 use Rattle.machine.specs.declared.Machine.{Machine}
@@ -13,7 +15,7 @@ use Rattle.sim.specs.Engine.{Conf, tape0, tape1, tape2}
 use Rattle.sim_refines.specs.Meaning.{tapeOf, has, tapeIf}
 use Rattle.sim_refines.specs.Lent.{SameFirst}
 use Rattle.sim_refines.specs.LiveFacts.{Alike, alike-reads, cell-same}
-use Rattle.sim_laws.specs.Family.{extentOf, extentIf, meanOf}
+use Rattle.sim_laws.specs.Family.{extentOf, extentIf, meanOf, SameEngine}
 
 -- ---- one tape: the same numbers, the same cells up to its length, and a buffer of the same length (Alike)
 
@@ -41,24 +43,27 @@ extent-if false g h a = refl
 
 -- ---- two engines
 
-pub record AlikeOn (m : Machine) (v u : Conf) : Type 0 where
-  pub state : v .sim .state .0 ≡ u .sim .state .0
-  pub steps : v .sim .steps ≡ u .sim .steps
-  pub alike0 : Alike (tape0 v) (tape0 u)
-  pub alike1 : has m 1 ≡ true → Alike (tape1 v) (tape1 u)
-  pub alike2 : has m 2 ≡ true → Alike (tape2 v) (tape2 u)
+module _ (m : Machine) (v u : Conf) (a : SameEngine m v u) where
+  alike0 : Alike (tape0 v) (tape0 u)
+  alike0 = record { numbers = a .numbers0; cells = a .cells0; room = a .length0 }
 
-pub same-mean : (m : Machine) (v u : Conf) → AlikeOn m v u → meanOf m v ≡ meanOf m u
-unfolding meanOf
-same-mean m v u a = λ i. record {
-  config = record {
-    state = a .state i;
-    steps = a .steps i;
-    tape0 = alike-tape (tape0 v) (tape0 u) (a .alike0) i;
-    tape1 = tape-if (has m 1) (tape1 v) (tape1 u) (a .alike1) i;
-    tape2 = tape-if (has m 2) (tape2 v) (tape2 u) (a .alike2) i;
-  };
-  extent0 = alike-extent (tape0 v) (tape0 u) (a .alike0) i;
-  extent1 = extent-if (has m 1) (tape1 v) (tape1 u) (a .alike1) i;
-  extent2 = extent-if (has m 2) (tape2 v) (tape2 u) (a .alike2) i;
-}
+  alike1 : has m 1 ≡ true → Alike (tape1 v) (tape1 u)
+  alike1 h = let l : 1 < m .tapes = ltb-true 1 (m .tapes) h in record { numbers = a .numbers1 (omega arith); cells = a .cells1 (omega arith); room = a .length1 }
+
+  alike2 : has m 2 ≡ true → Alike (tape2 v) (tape2 u)
+  alike2 h = let l : 2 < m .tapes = ltb-true 2 (m .tapes) h in record { numbers = a .numbers2 (omega arith); cells = a .cells2 (omega arith); room = a .length2 }
+
+  pub same-mean : meanOf m v ≡ meanOf m u
+  unfolding meanOf
+  same-mean = λ i. record {
+    config = record {
+      state = a .state i .0;
+      steps = a .steps i;
+      tape0 = alike-tape (tape0 v) (tape0 u) alike0 i;
+      tape1 = tape-if (has m 1) (tape1 v) (tape1 u) alike1 i;
+      tape2 = tape-if (has m 2) (tape2 v) (tape2 u) alike2 i;
+    };
+    extent0 = alike-extent (tape0 v) (tape0 u) alike0 i;
+    extent1 = extent-if (has m 1) (tape1 v) (tape1 u) alike1 i;
+    extent2 = extent-if (has m 2) (tape2 v) (tape2 u) alike2 i;
+  }

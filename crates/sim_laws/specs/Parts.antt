@@ -10,7 +10,7 @@ use Rattle.sim_engine.specs.Slots.{slotSize}
 use Rattle.sim_laws.specs.Family.{Mean, meanOf, nextOf, NoRoom, plainFamily}
 use Rattle.sim_laws.specs.StepFacts.{mean-steps, next-config, next-halted, halted-room}
 use Rattle.sim_laws.specs.AdvanceFacts.{advance-goes}
-use Rattle.sim_laws.specs.FitFacts.{FitsLike, advanced-fits, packed-fills, packed-back}
+use Rattle.sim_laws.specs.FitFacts.{FitsLike, steps-low, advanced-fits, packed-fills, packed-back}
 
 -- a meaning decides all that is to come, whatever it is: nothing more is asked of it
 abbrev pub plainParts : (m : Machine) (s : List ℕ) (table : TableOf m (tableOf m s)) (e : Conf) → Parts plainFamily m s table (slotSize m e)
@@ -23,6 +23,7 @@ plainParts m s table e = record {
   Fits = FitsLike m s e;
   Good = λ x. Unit {0};
   fits-check = λ u f. f .accepted;
+  fits-low = λ u f. steps-low m s e u f;
   fits-good = λ u f. tt;
   now-is = λ u. mean-steps m u;
   next-good = λ x g r. tt;

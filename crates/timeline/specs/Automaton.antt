@@ -1,6 +1,6 @@
--- The table machine as the timeline's proofs see it, and its run from a start. Definitions only.
+-- The table machine as the timeline's proofs see it, and its run from a configuration. Definitions only.
 use mathlib.Core.Path.{_≡_}
-use Prim.Native.Nat.{ℕ, zero, suc}
+use Prim.Native.Nat.{ℕ, zero, suc, _-_}
 
 -- n times f
 unfoldable pub iterate : {A : Type 0} → (A → A) → ℕ → A → A
@@ -30,16 +30,10 @@ pub record Automaton : Type 1 where
   pub verdict-not-full : (c : Config) (o : Out) → Verdict c o → ¬ Full o
   pub never-halts : (c : Config) (o : Out) → Real c → Verdict c o → Never o → (n : ℕ) → ¬ Halted (iterate step n c)
 
--- the word's configuration
-pub record Start (M : Automaton) : Type 0 where
-  pub config : M .Config
-  pub zero : M .steps config ≡ 0
-  pub real : M .Real config
+-- the configuration at step n, run without limits from c on; c itself where n is not past its step count
+unfoldable pub run : (M : Automaton) → M .Config → ℕ → M .Config
+run M c n = iterate (M .step) (n - M .steps c) c
 
--- the configuration after n steps, run without limits
-unfoldable pub run : {M : Automaton} → Start M → ℕ → M .Config
-run {M} S n = iterate (M .step) n (S .config)
-
--- t, or the step at which the machine halts where that is less: the step count of the configuration after t steps (`reach-runs` and `reach-halts` in Walk)
-abbrev pub reach : {M : Automaton} → Start M → ℕ → ℕ
-reach {M} S t = M .steps (run S t)
+-- t, or the step at which the machine halts where that is less: the step count of the configuration at step t (`reach-runs` and `reach-halts` in Walk)
+abbrev pub reach : (M : Automaton) → M .Config → ℕ → ℕ
+reach M c t = M .steps (run M c t)

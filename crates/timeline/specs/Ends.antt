@@ -1,5 +1,5 @@
 -- How a call ends: refused, at its target or the halt before that, or short of it at a full step. Assumes nothing.
-use Prim.Native.Nat.{ℕ, _≤_, _<_}
+use Prim.Native.Nat.{ℕ, _≤_, _<_, max}
 use mathlib.Core.Path.{_≡_, sym, _∙_, ap, subst}
 use mathlib.Core.Bool.{true, false}
 use native.Mathlib.Decide.{decLe}
@@ -13,49 +13,53 @@ use Rattle.machine.specs.declared.Checked.the-variants.{Accepted, Refused}
 use Rattle.machine.specs.Check.{demand}
 use Rattle.times.specs.Ops.{Ops, limit}
 use Rattle.times.specs.Timeline.{World, Call, refused, answered, target, goTo, onCheck, call}
-use Rattle.timeline.specs.Automaton.{Automaton, Start, run, reach}
+use Rattle.timeline.specs.Automaton.{Automaton, run, reach}
 use Rattle.timeline.specs.Laws.{Laws}
-use Rattle.timeline.specs.Walk.{at, Room, pos-is, config-at}
+use Rattle.timeline.specs.Walk.{base, at, Room, pos-is, config-at}
 use Rattle.timeline.specs.Keep.{Inv}
 use Rattle.timeline.specs.Loop.{Way, there, stuck}
 use Rattle.timeline.specs.Calls.{Taken, call-is, taken}
 
-module _ {M : Automaton} (S : Start M) {O : Ops (M .Out)} (E : Laws M O) (x : E .Mean) (good : E .Good x) (e : E .config x ≡ S .config) where
+module _ {M : Automaton} {O : Ops (M .Out)} (E : Laws M O) (x : E .Mean) (good : E .Good x) where
   -- what the invariant says of the configuration
-  pub inv-held : (w : World O) (p : ℕ) → Inv S E x good e w p → E .config (E .mean (w .engine)) ≡ run S p
-  inv-held w p i = ap (E .config) (i .stands .here) ∙ config-at S E x good e p (i .stands .room)
+  pub inv-held : (w : World O) (p : ℕ) → Inv E x good w p → E .config (E .mean (w .engine)) ≡ run M (E .config x) p
+  inv-held w p i = ap (E .config) (i .stands .here) ∙ config-at E x good p (i .stands .low) (i .stands .room)
+
+  -- the target of a call at p, or the start where that is more
+  abbrev pub aim : ℕ → Call → ℕ
+  aim p c = max (target p c) (base E x)
 
   -- the call c, made at p on w: its answer, and where the engine then stands
   pub data Ends (w : World O) (p : ℕ) (c : Call) : Type 0 where
     over : limit < target p c → call O w c ≡ (refused Why.StepLimit, w) → Ends w p c
-    reached : target p c ≤ limit → (o : M .Out) → call O w c .0 ≡ answered o → Room E x (target p c)
-        → Inv S E x good e (call O w c .1) (reach S (target p c)) → M .Verdict (E .config (E .mean (call O w c .1 .engine))) o → Ends w p c
-    stopped : target p c ≤ limit → (o : M .Out) → call O w c .0 ≡ answered o → (j : ℕ) → p ≤ j → j < target p c → E .NoRoom (at E x j)
-        → Inv S E x good e (call O w c .1) j → M .Full o → M .counted o ≡ j → Ends w p c
+    reached : target p c ≤ limit → (o : M .Out) → call O w c .0 ≡ answered o → Room E x (aim p c)
+        → Inv E x good (call O w c .1) (reach M (E .config x) (aim p c)) → M .Verdict (E .config (E .mean (call O w c .1 .engine))) o → Ends w p c
+    stopped : target p c ≤ limit → (o : M .Out) → call O w c .0 ≡ answered o → (j : ℕ) → p ≤ j → j < aim p c → E .NoRoom (at E x j)
+        → Inv E x good (call O w c .1) j → M .Full o → M .counted o ≡ j → Ends w p c
 
-  pub ends : (w : World O) (p : ℕ) (c : Call) → Inv S E x good e w p → Ends w p c
+  pub ends : (w : World O) (p : ℕ) (c : Call) → Inv E x good w p → Ends w p c
   ends w p c i = by-test (leb (target p c) limit) low high
     where
-      checks : (r : Checked) → demand (leb (target p c) limit) Why.StepLimit Accepted ≡ r → call O w c ≡ onCheck O r w (goTo O (target p c) w)
-      checks r q = call-is S E x good e w p c i ∙ ap (λ r. onCheck O r w (goTo O (target p c) w)) q
+      checks : (r : Checked) → demand (leb (target p c) limit) Why.StepLimit Accepted ≡ r → call O w c ≡ onCheck O r w (goTo O (aim p c) w)
+      checks r q = call-is E x good w p c i ∙ ap (λ r. onCheck O r w (goTo O (aim p c) w)) q
 
       high : leb (target p c) limit ≡ false → Ends w p c
       high q = over (leb-false (target p c) limit q)
           (checks (Refused Why.StepLimit) (pick-false (leb (target p c) limit) Accepted (Refused Why.StepLimit) q))
 
-      took : leb (target p c) limit ≡ true → Taken S E x good e (target p c) (call O w c)
-      took q = subst (Taken S E x good e (target p c)) (sym (checks Accepted (pick-true (leb (target p c) limit) Accepted (Refused Why.StepLimit) q)))
-          (taken S E x good e w p (target p c) i (leb-true (target p c) limit q))
+      took : leb (target p c) limit ≡ true → Taken E x good (aim p c) (call O w c)
+      took q = subst (Taken E x good (aim p c)) (sym (checks Accepted (pick-true (leb (target p c) limit) Accepted (Refused Why.StepLimit) q)))
+          (taken E x good w p (aim p c) i (omega arith) (omega (arith, leb-true (target p c) limit q, i .stands .low, i .stands .small)))
 
       -- the full step is not before p: up to there all had room
-      late : (j : ℕ) → E .NoRoom (at E x j) → Dec (p ≤ j) → p ≤ j
-      late j k (yes h) = h
-      late j k (no h) = absurd (i .stands .room j (omega arith) k)
+      late : (j : ℕ) → base E x ≤ j → E .NoRoom (at E x j) → Dec (p ≤ j) → p ≤ j
+      late j a k (yes h) = h
+      late j a k (no h) = absurd (i .stands .room j a (omega arith) k)
 
       low : leb (target p c) limit ≡ true → Ends w p c
       low q = by (took q .way)
         where
-          by : Way S E x good e (target p c) (took q .out) (call O w c .1) → Ends w p c
+          by : Way E x good (aim p c) (took q .out) (call O w c .1) → Ends w p c
           by (there r j v) = reached (leb-true (target p c) limit q) (took q .out) (took q .says) r
-              (subst (Inv S E x good e (call O w c .1)) (pos-is E x (target p c) ∙ ap (M .steps) (config-at S E x good e (target p c) r)) j) v
-          by (stuck j h k v f d) = stopped (leb-true (target p c) limit q) (took q .out) (took q .says) j (late j k (decLe p j)) h k v f d
+              (subst (Inv E x good (call O w c .1)) (pos-is E x (aim p c) ∙ ap (M .steps) (config-at E x good (aim p c) (omega arith) r)) j) v
+          by (stuck j h k v f d) = stopped (leb-true (target p c) limit q) (took q .out) (took q .says) j (late j (v .stands .low) k (decLe p j)) h k v f d

@@ -9,5 +9,7 @@ pub record Family : Type 1 where
   pub kind : Kind
   -- the configuration that it holds
   pub config : Machine → kind .State → Config
-  -- of the engine fresh on a word: the step from its j-th configuration is full by its rule
-  pub FullStep : Machine → (table word : List ℕ) → kind .State → ℕ → Type 0
+  -- of an engine: the step from the j-th configuration of the run from its own, with its buffers, is full by its rule
+  pub FullStep : Machine → (table : List ℕ) → kind .State → ℕ → Type 0
+  -- the first engine is the second: all that document 01 leaves determined is equal; the fields of tapes that the machine lacks aside
+  pub Same : Machine → kind .State → kind .State → Type 0

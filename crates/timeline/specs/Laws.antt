@@ -4,7 +4,7 @@ use mathlib.Core.Option.{some}
 use Prim.Native.Nat.{ℕ, _+_, _≤_, _<_}
 use Rattle.machine.specs.declared.Checked.the-variants.{Accepted}
 use Rattle.times.specs.Ops.{limit, Ops}
-use Rattle.timeline.specs.Automaton.{Automaton, Start, iterate}
+use Rattle.timeline.specs.Automaton.{Automaton, iterate}
 
 -- How an advance of n steps ends that starts with meaning x, answers o and leaves meaning y: with every step made (a halted engine makes them standing still),
 -- and the verdict there; or at the first step that is full, with its step count.
@@ -27,9 +27,12 @@ pub record Laws (M : Automaton) (O : Ops (M .Out)) : Type 1 where
   pub Fits : O .State → Type 0
   -- what fitting says of the meaning, but for the limit of the steps
   pub Good : Mean → Type 0
-  -- slot i holds a fitting engine of that meaning
-  pub Holds : O .Store → ℕ → Mean → Type 0
+  -- the first is the second, in other buffers
+  pub Same : O .State → O .State → Type 0
+  -- slot i gives that engine
+  pub Holds : O .Store → ℕ → O .State → Type 0
   pub fits-check : (s : O .State) → Fits s → O .check s ≡ Accepted
+  pub fits-low : (s : O .State) → Fits s → O .now s ≤ limit
   pub fits-good : (s : O .State) → Fits s → Good (mean s)
   -- a step
   pub now-is : (s : O .State) → O .now s ≡ M .steps (config (mean s))
@@ -43,15 +46,10 @@ pub record Laws (M : Automaton) (O : Ops (M .Out)) : Type 1 where
   pub advance-fits : (n : ℕ) (s : O .State) → Fits s → O .now s + n ≤ limit → Fits (O .advance n s .1)
   -- the store
   pub save-slots : (i : ℕ) (s : O .State) (t : O .Store) → Fits s → i < O .slots t → O .slots (O .save i s t) ≡ O .slots t
-  pub save-same : (i : ℕ) (s : O .State) (t : O .Store) → Fits s → i < O .slots t → Holds (O .save i s t) i (mean s)
-  pub save-other : (i j : ℕ) (s : O .State) (t : O .Store) (x : Mean) → Fits s → i < O .slots t → ¬ (j ≡ i) → Holds t j x → Holds (O .save i s t) j x
+  pub save-same : (i : ℕ) (s : O .State) (t : O .Store) → Fits s → i < O .slots t → Holds (O .save i s t) i s
+  pub save-other : (i j : ℕ) (s : O .State) (t : O .Store) (u : O .State) → Fits s → i < O .slots t → ¬ (j ≡ i) → Holds t j u → Holds (O .save i s t) j u
   pub move-slots : (i k : ℕ) (t : O .Store) → i < O .slots t → k < O .slots t → O .slots (O .move i k t) ≡ O .slots t
-  pub move-same : (i k : ℕ) (t : O .Store) (x : Mean) → i < O .slots t → k < O .slots t → Holds t i x → Holds (O .move i k t) k x
-  pub move-other : (i k j : ℕ) (t : O .Store) (x : Mean) → i < O .slots t → k < O .slots t → ¬ (j ≡ k) → Holds t j x → Holds (O .move i k t) j x
-  pub restores : (i : ℕ) (s : O .State) (t : O .Store) (x : Mean) → Fits s → i < O .slots t → Holds t i x
-      → (s′ : O .State) × (O .restore i (M .steps (config x)) s t ≡ some s′) × (mean s′ ≡ x) × Fits s′
-
--- a fresh engine
-pub record Fresh {M : Automaton} (S : Start M) {O : Ops (M .Out)} (E : Laws M O) (s : O .State) : Type 0 where
-  pub fits : E .Fits s
-  pub starts : E .config (E .mean s) ≡ S .config
+  pub move-same : (i k : ℕ) (t : O .Store) (u : O .State) → i < O .slots t → k < O .slots t → Holds t i u → Holds (O .move i k t) k u
+  pub move-other : (i k j : ℕ) (t : O .Store) (u : O .State) → i < O .slots t → k < O .slots t → ¬ (j ≡ k) → Holds t j u → Holds (O .move i k t) j u
+  pub restores : (i : ℕ) (s : O .State) (t : O .Store) (u : O .State) → Fits s → i < O .slots t → Holds t i u
+      → (s′ : O .State) × (O .restore i (O .now u) s t ≡ some s′) × Same s′ u × (mean s′ ≡ mean u) × Fits s′

@@ -1,4 +1,5 @@
 pub mod Family
+pub mod Notes
 pub mod Statement
 pub mod Automaton
 pub mod Laws
@@ -8,6 +9,7 @@ pub mod Loop
 pub mod Calls
 pub mod Ends
 pub mod New
+pub mod NoteFacts
 pub mod Legs
 pub mod Shelves
 pub mod TableRun

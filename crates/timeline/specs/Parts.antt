@@ -25,6 +25,7 @@ pub record Parts (X : Family) (m : Machine) (s : List ℕ) (table : TableOf m (t
   pub Fits : X .kind .State → Type 0
   pub Good : Mean → Type 0
   pub fits-check : (u : X .kind .State) → Fits u → X .kind .check m s u ≡ Accepted
+  pub fits-low : (u : X .kind .State) → Fits u → X .kind .now u ≤ limit
   pub fits-good : (u : X .kind .State) → Fits u → Good (mean u)
   pub now-is : (u : X .kind .State) → X .kind .now u ≡ config (mean u) .steps
   pub next-good : (x : Mean) → Good x → ¬ NoRoom x → Good (next x)
@@ -37,10 +38,10 @@ pub record Parts (X : Family) (m : Machine) (s : List ℕ) (table : TableOf m (t
   -- a slot: what was packed fills it, and is unpacked into the buffers of any fitting engine
   pub pack-length : (u : X .kind .State) (old : List ℕ) → Fits u → length old ≡ size → length (X .kind .pack m u old) ≡ size
   pub unpack-pack : (u t : X .kind .State) (old : List ℕ) → Fits u → Fits t → length old ≡ size
-      → (v : X .kind .State) × (X .kind .unpack m (X .kind .pack m u old) (config (mean u) .steps) t ≡ some v) × (mean v ≡ mean u) × Fits v
+      → (v : X .kind .State) × (X .kind .unpack m (X .kind .pack m u old) (X .kind .now u) t ≡ some v) × X .Same m v u × (mean v ≡ mean u) × Fits v
 
 module _ (X : Family) (m : Machine) (s : List ℕ) (table : TableOf m (tableOf m s)) (size : ℕ) (P : Parts X m s table size) where
-  abbrev pub layoutOf : Layout (P .Fits) (P .mean) (λ (x : P .Mean). P .config x .steps)
+  abbrev pub layoutOf : Layout (P .Fits) (P .mean) (X .kind .now) (X .Same m)
   layoutOf = record {
     size = size;
     pack = X .kind .pack m;
@@ -58,8 +59,10 @@ module _ (X : Family) (m : Machine) (s : List ℕ) (table : TableOf m (tableOf m
     NoRoom = P .NoRoom;
     Fits = P .Fits;
     Good = P .Good;
+    Same = X .Same m;
     Holds = HoldsIn layoutOf;
     fits-check = P .fits-check;
+    fits-low = P .fits-low;
     fits-good = P .fits-good;
     now-is = P .now-is;
     next-good = P .next-good;

@@ -1,6 +1,7 @@
 -- One call over a kind of engine: what the statement claims of its result, and p after it. Assumes nothing.
-use Prim.Native.Nat.{ℕ, _≤_, _<_}
+use Prim.Native.Nat.{ℕ, _-_, _≤_, _<_, max}
 use mathlib.Core.Path.{_≡_, refl, sym, ap, _∙_, subst}
+use mathlib.Core.Logic.{_↔_}
 use mathlib.Core.List.{List}
 use native.Mathlib.Omega.{arith}
 use lib.Dec.{leb}
@@ -12,19 +13,20 @@ use Rattle.outcome.specs.declared.Refusal.{Refusal}
 use Rattle.outcome.specs.declared.Refusal.the-variants as Why
 use Rattle.outcome.specs.Numbers.{stepsOf}
 use Rattle.machine.specs.declared.Machine.{Machine}
-use Rattle.turing.specs.TableMachine.{Table, Config, start, Halted, Verdict, halts, stays, walks, goes}
+use Rattle.turing.specs.TableMachine.{Table, Config, step, Halted, Verdict, halts, stays, walks, goes}
 use Rattle.turing.specs.Tables.{tableOf}
+use Rattle.turing.specs.TapeFacts.{Bare}
 use Rattle.times.specs.Ops.{limit, Ops}
 use Rattle.times.specs.Timeline.{Reply, refused, answered, call, Call, target}
 use Rattle.times.specs.Kind.{opsOf, opsFor, WorldOf, callOn}
-use Rattle.timeline.specs.Automaton.{Start, run as runs, reach}
+use Rattle.timeline.specs.Automaton.{Automaton, iterate, run as runs, reach}
 use Rattle.timeline.specs.Laws.{Laws}
-use Rattle.timeline.specs.Walk.{at, Room, run-real, never-any}
+use Rattle.timeline.specs.Walk.{base, at, run-real, never-any}
 use Rattle.timeline.specs.Keep.{Inv, now-at}
-use Rattle.timeline.specs.Ends.{inv-held, Ends, over, reached, stopped, ends}
-use Rattle.timeline.specs.TableRun.{IsFull, IsNever, machine, wordStart, iterate-run}
+use Rattle.timeline.specs.Ends.{inv-held, aim, Ends, over, reached, stopped, ends}
+use Rattle.timeline.specs.TableRun.{IsFull, IsNever, machine, iterate-run}
 use Rattle.timeline.specs.Family.{Family}
-use Rattle.timeline.specs.Statement.{afterSteps, reachIn, movedIn, Numbers, stoppedAt, heldOn, Stuck, Result}
+use Rattle.timeline.specs.Statement.{afterSteps, reachIn, goalIn, movedIn, Numbers, stoppedAt, heldOn, FullFrom, Stuck, Result}
 use Rattle.timeline.specs.Instance.{Instance}
 
 -- ---- answers
@@ -61,67 +63,89 @@ no-answer r o why a b = let z : _≡_ {A = ℕ} 0 1 = cc in omega arith
 one-answer : (r : Reply Outcome) (o p : Outcome) → r ≡ answered o → r ≡ answered p → o ≡ p
 one-answer r o p a b = cc
 
-module _ (X : Family) (m : Machine) (s w : List ℕ) (e : X .kind .State) (I : Instance X m s w e) where
+module _ (X : Family) (m : Machine) (s : List ℕ) (e : X .kind .State) (I : Instance X m s e) where
   abbrev ops : Ops Outcome
   ops = opsFor (X .kind) m s e
 
-  abbrev S : Start (machine m s (I .table))
-  S = wordStart m s (I .table) w
+  abbrev M : Automaton
+  M = machine m s (I .table)
 
   abbrev E : Laws (machine m s (I .table)) (opsFor (X .kind) m s e)
   E = I .laws
 
+  -- the configuration that e holds
+  abbrev c : Config
+  c = X .config m e
+
   -- the timeline stands at p, with all that holds between calls
   abbrev pub StandsAt : WorldOf (X .kind) → ℕ → Type 0
-  StandsAt = Inv S E (E .mean e) (E .fits-good e (I .fresh .fits)) (I .fresh .starts)
+  StandsAt = Inv E (E .mean e) (E .fits-good e (I .fits))
 
   -- ---- the run and the rule for p
 
-  pub runs-is : (n : ℕ) → runs S n ≡ afterSteps m s w n
+  pub runs-is : (n : ℕ) → runs M (E .config (E .mean e)) n ≡ afterSteps m s c n
   unfolding runs
-  runs-is n = iterate-run (tableOf m s) n (start (m .start) w)
+  runs-is n = ap (λ (y : Config). iterate (step (tableOf m s)) (n - y .steps) y) (I .same-config e) ∙ iterate-run (tableOf m s) (n - c .steps) c
 
-  pub reach-in : (t : ℕ) → reach S t ≡ reachIn m s w t
+  pub reach-in : (t : ℕ) → reach M (E .config (E .mean e)) t ≡ reachIn m s c t
   reach-in t = ap (λ (c : Config). c .steps) (runs-is t)
 
-  moved-under : (p : ℕ) (c : Call) → target p c ≤ limit → movedIn m s w p c ≡ reachIn m s w (target p c)
-  moved-under p c l = pick-true (leb (target p c) limit) (reachIn m s w (target p c)) p (le-leb (target p c) limit l)
+  pub base-is : base E (E .mean e) ≡ c .steps
+  base-is = ap (λ (y : Config). y .steps) (I .same-config e)
 
-  moved-over : (p : ℕ) (c : Call) → limit < target p c → movedIn m s w p c ≡ p
-  moved-over p c l = pick-false (leb (target p c) limit) (reachIn m s w (target p c)) p (lt-leb (target p c) limit l)
+  aim-is : (p : ℕ) (k : Call) → aim E (E .mean e) (E .fits-good e (I .fits)) p k ≡ goalIn m s c p k
+  aim-is p k = ap (max (target p k)) base-is
+
+  moved-under : (p : ℕ) (k : Call) → target p k ≤ limit → movedIn m s c p k ≡ reachIn m s c (goalIn m s c p k)
+  moved-under p k l = pick-true (leb (target p k) limit) (reachIn m s c (goalIn m s c p k)) p (le-leb (target p k) limit l)
+
+  moved-over : (p : ℕ) (k : Call) → limit < target p k → movedIn m s c p k ≡ p
+  moved-over p k l = pick-false (leb (target p k) limit) (reachIn m s c (goalIn m s c p k)) p (lt-leb (target p k) limit l)
+
+  -- ---- full steps
+
+  pub full-is : (j : ℕ) → E .NoRoom (at E (E .mean e) j) ↔ FullFrom X m s c e j
+  unfolding at
+  full-is j = (
+    (λ n. I .full-is (j - c .steps) .0 (subst (λ b. E .NoRoom (iterate (E .next) (j - b) (E .mean e))) base-is n)),
+    (λ n. subst (λ b. E .NoRoom (iterate (E .next) (j - b) (E .mean e))) (sym base-is) (I .full-is (j - c .steps) .1 n)),
+  )
 
   -- ---- where the engine stands
 
   module _ (u : WorldOf (X .kind)) (p : ℕ) (i : StandsAt u p) where
     pub stands-now : X .kind .now (u .engine) ≡ p
-    stands-now = now-at S E (E .mean e) (E .fits-good e (I .fresh .fits)) (I .fresh .starts) (u .engine) p (i .stands)
+    stands-now = now-at E (E .mean e) (E .fits-good e (I .fits)) (u .engine) p (i .stands)
 
-    mean-held : E .config (E .mean (u .engine)) ≡ afterSteps m s w p
-    mean-held = inv-held S E (E .mean e) (E .fits-good e (I .fresh .fits)) (I .fresh .starts) u p i ∙ runs-is p
+    pub stands-low : c .steps ≤ p
+    stands-low = omega (arith, base-is, i .stands .low)
 
-    pub stands-held : heldOn X m s u ≡ afterSteps m s w p
+    mean-held : E .config (E .mean (u .engine)) ≡ afterSteps m s c p
+    mean-held = inv-held E (E .mean e) (E .fits-good e (I .fits)) u p i ∙ runs-is p
+
+    pub stands-held : heldOn X m s u ≡ afterSteps m s c p
     stands-held = sym (I .same-config (u .engine)) ∙ mean-held
 
-  -- the buffers keep their sizes, so the call at hand is the call with the fresh engine's slots
-  agrees : (u : WorldOf (X .kind)) (c : Call) → E .Fits (u .engine) → callOn (X .kind) m s u c ≡ call ops u c
+  -- the buffers keep their sizes, so the call at hand is the call with the first engine's slots
+  agrees : (u : WorldOf (X .kind)) (k : Call) → E .Fits (u .engine) → callOn (X .kind) m s u k ≡ call ops u k
   unfolding callOn
-  agrees u c f = ap (λ z. call (opsOf (X .kind) m s z) u c) (I .same-size (u .engine) f)
+  agrees u k f = ap (λ z. call (opsOf (X .kind) m s z) u k) (I .same-size (u .engine) f)
 
   -- ---- the result
 
-  module _ (u : WorldOf (X .kind)) (p : ℕ) (c : Call) where
+  module _ (u : WorldOf (X .kind)) (p : ℕ) (k : Call) where
     abbrev t : ℕ
-    t = target p c
+    t = goalIn m s c p k
 
     abbrev r : Reply Outcome × WorldOf (X .kind)
-    r = call ops u c
+    r = call ops u k
 
     abbrev Claimed : Type 0
-    Claimed = Result X m s w e u p c (call ops u c)
+    Claimed = Result X m s c e u p k (call ops u k)
 
-    refused-result : limit < target p c → r ≡ (refused Why.StepLimit, u) → Claimed
+    refused-result : limit < target p k → r ≡ (refused Why.StepLimit, u) → Claimed
     refused-result l q = record {
-      refuses = λ h. q;
+      refuses = λ h. (Why.StepLimit, refl, q);
       accepts = λ h. absurd (omega arith);
       space = λ h. absurd (omega arith);
       stands = λ n a. absurd (no (Out.Full n) a);
@@ -133,47 +157,43 @@ module _ (X : Family) (m : Machine) (s w : List ℕ) (e : X .kind .State) (I : I
         no : (o : Outcome) → r .0 ≡ answered o → ⊥
         no o a = no-answer (r .0) o Why.StepLimit (ap (λ (z : Reply Outcome × WorldOf (X .kind)). z .0) q) a
 
-    module _ (l : target p c ≤ limit) (o : Outcome) (says : call ops u c .0 ≡ answered o) where
+    module _ (l : target p k ≤ limit) (o : Outcome) (says : call ops u k .0 ≡ answered o) where
       is : (z : Outcome) → r .0 ≡ answered z → o ≡ z
       is z a = one-answer (r .0) o z says a
 
-      reached-result : Room E (E .mean e) (target p c) → StandsAt (call ops u c .1) (reach S (target p c))
-          → Verdict (m .tapes) (tableOf m s) (E .config (E .mean (call ops u c .1 .engine))) o → Claimed
-      unfolding at
-      reached-result room i v = record {
+      reached-result : StandsAt u p → ((j : ℕ) → base E (E .mean e) ≤ j → j < t → ¬ E .NoRoom (at E (E .mean e) j)) → StandsAt (call ops u k .1) (reachIn m s c (goalIn m s c p k))
+          → Verdict (m .tapes) (tableOf m s) (E .config (E .mean (call ops u k .1 .engine))) o → Claimed
+      reached-result now room i v = record {
         refuses = λ h. absurd (omega arith);
         accepts = λ h. (o, says);
-        space = λ h. (λ f. absurd (not-full (f .0) (f .1)), λ j. absurd (room (j .0) (j .2) (I .full-is (j .0) .1 (j .3))));
+        space = λ h. (λ f. absurd (not-full (f .0) (f .1)), λ j. absurd (room (j .0) (omega (arith, now .stands .low, j .1)) (j .2) (full-is (j .0) .1 (j .3))));
         stands = λ n a. absurd (not-full n a);
-        says = λ z a h. (held, subst (Verdict (m .tapes) (tableOf m s) (afterSteps m s w (reachIn m s w t))) (is z a) there);
+        says = λ z a h. (held, subst (Verdict (m .tapes) (tableOf m s) (afterSteps m s c (reachIn m s c t))) (is z a) there);
         numbers = λ z a. subst (λ y. Numbers y (heldOn X m s (r .1))) (is z a) (verdict-numbers _ _ _ o (subst (λ y. Verdict (m .tapes) (tableOf m s) y o) (sym held) there));
         never = λ n f a j. subst (λ y. ¬ Halted (tableOf m s) y) (runs-is j)
-            (never-any S (reach S t)
-            (machine m s (I .table) .never-halts (runs S (reach S t)) o (run-real S (reach S t)) (subst (λ y. Verdict (m .tapes) (tableOf m s) y o) back there) (subst IsNever (sym (is _ a)) tt)) j);
+            (never-any M (E .config (E .mean e)) (reachIn m s c t) (i .stands .low)
+            (M .never-halts (runs M (E .config (E .mean e)) (reachIn m s c t)) o (run-real M (E .config (E .mean e)) real (reachIn m s c t))
+            (subst (λ y. Verdict (m .tapes) (tableOf m s) y o) (sym (runs-is (reachIn m s c t))) there) (subst IsNever (sym (is _ a)) tt)) j);
       }
         where
           not-full : (n : ℕ) → r .0 ≡ answered (Out.Full n) → ⊥
-          not-full n a = machine m s (I .table) .verdict-not-full _ o v (subst IsFull (sym (is _ a)) tt)
+          not-full n a = M .verdict-not-full _ o v (subst IsFull (sym (is _ a)) tt)
 
-          to : runs S (reach S t) ≡ afterSteps m s w (reachIn m s w t)
-          to = runs-is (reach S t) ∙ ap (afterSteps m s w) (reach-in t)
+          real : Bare (m .tapes) (E .config (E .mean e))
+          real = subst (Bare (m .tapes)) (sym (I .same-config e)) (I .bare)
 
-          back : afterSteps m s w (reachIn m s w t) ≡ runs S (reach S t)
-          back = sym to
+          held : heldOn X m s (r .1) ≡ afterSteps m s c (reachIn m s c t)
+          held = stands-held (r .1) (reachIn m s c t) i
 
-          held : heldOn X m s (r .1) ≡ afterSteps m s w (reachIn m s w t)
-          held = stands-held (r .1) (reach S t) i ∙ ap (afterSteps m s w) (reach-in t)
+          there : Verdict (m .tapes) (tableOf m s) (afterSteps m s c (reachIn m s c t)) o
+          there = subst (λ y. Verdict (m .tapes) (tableOf m s) y o) (mean-held (r .1) (reachIn m s c t) i) v
 
-          there : Verdict (m .tapes) (tableOf m s) (afterSteps m s w (reachIn m s w t)) o
-          there = subst (λ y. Verdict (m .tapes) (tableOf m s) y o) (mean-held (r .1) (reach S t) i ∙ ap (afterSteps m s w) (reach-in t)) v
-
-      stopped-result : (j : ℕ) → p ≤ j → j < target p c → E .NoRoom (at E (E .mean e) j) → StandsAt (call ops u c .1) j → IsFull o → stepsOf o ≡ j → Claimed
-      unfolding at
-      stopped-result j b h k i f d = record {
+      stopped-result : (j : ℕ) → p ≤ j → j < t → E .NoRoom (at E (E .mean e) j) → StandsAt (call ops u k .1) j → IsFull o → stepsOf o ≡ j → Claimed
+      stopped-result j b h y i f d = record {
         refuses = λ h. absurd (omega arith);
         accepts = λ h. (o, says);
-        space = λ _. (λ f. (j, b, h, I .full-is j .0 k), λ f. (j, full-there));
-        stands = λ n a. subst (Stuck X m s w e (r .1) p t) (step n a) stuck;
+        space = λ _. (λ f. (j, b, h, full-is j .0 y), λ f. (j, full-there));
+        stands = λ n a. subst (Stuck X m s c e (r .1) p t) (step n a) stuck;
         says = λ z a g. absurd (g j (sym (is z a) ∙ is-full));
         numbers = λ z a. subst (λ y. Numbers y (heldOn X m s (r .1))) (sym is-full ∙ is z a) counts;
         never = λ n g a. absurd (subst IsFull (is _ a) f);
@@ -191,37 +211,44 @@ module _ (X : Family) (m : Machine) (s w : List ℕ) (e : X .kind .State) (I : I
           counts : j ≡ heldOn X m s (r .1) .steps
           counts = sym (stands-now (r .1) j i) ∙ (E .now-is (r .1 .engine) ∙ ap (λ (y : Config). y .steps) (I .same-config (r .1 .engine)))
 
-          stuck : Stuck X m s w e (r .1) p t j
+          stuck : Stuck X m s c e (r .1) p t j
           stuck = record {
             holds = stands-held (r .1) j i;
             from = b;
             short = h;
-            full = I .full-is j .0 k;
-            first = λ n l y. i .stands .room n l (I .full-is n .1 y);
+            full = full-is j .0 y;
+            first = λ n a l z. i .stands .room n (omega (arith, base-is)) l (full-is n .1 z);
           }
 
-    ended : StandsAt u p → Ends S E (E .mean e) (E .fits-good e (I .fresh .fits)) (I .fresh .starts) u p c
-    ended i = ends S E (E .mean e) (E .fits-good e (I .fresh .fits)) (I .fresh .starts) u p c i
+    abbrev Ended : Type 0
+    Ended = Ends E (E .mean e) (E .fits-good e (I .fits)) u p k
 
-    claimed : Ends S E (E .mean e) (E .fits-good e (I .fresh .fits)) (I .fresh .starts) u p c → Claimed
-    claimed (over l q) = refused-result l q
-    claimed (reached l o a room i v) = reached-result l o a room i v
-    claimed (stopped l o a j b h k i f d) = stopped-result l o a j b h k i f d
+    ended : StandsAt u p → Ended
+    ended i = ends E (E .mean e) (E .fits-good e (I .fits)) u p k i
 
-    pub result : StandsAt u p → Result X m s w e u p c (callOn (X .kind) m s u c)
-    result i = subst (Result X m s w e u p c) (sym (agrees u c (i .stands .fits))) (claimed (ended i))
+    -- p after a call that reached its target
+    reach-aim : reach M (E .config (E .mean e)) (aim E (E .mean e) (E .fits-good e (I .fits)) p k) ≡ reachIn m s c t
+    reach-aim = reach-in (aim E (E .mean e) (E .fits-good e (I .fits)) p k) ∙ ap (reachIn m s c) (aim-is p k)
+
+    claimed : StandsAt u p → Ended → Claimed
+    claimed n (over l q) = refused-result l q
+    claimed n (reached l o a room i v) = reached-result l o a n (λ j b h. room j b (omega (arith, aim-is p k))) (subst (StandsAt (call ops u k .1)) reach-aim i) v
+    claimed n (stopped l o a j b h y i f d) = stopped-result l o a j b (omega (arith, aim-is p k)) y i f d
+
+    pub result : StandsAt u p → Result X m s c e u p k (callOn (X .kind) m s u k)
+    result i = subst (Result X m s c e u p k) (sym (agrees u k (i .stands .fits))) (claimed i (ended i))
 
     -- ---- p after it
 
     abbrev Next : Reply Outcome × WorldOf (X .kind) → Type 0
-    Next z = StandsAt (z .1) (stoppedAt (z .0) (movedIn m s w p c))
+    Next z = StandsAt (z .1) (stoppedAt (z .0) (movedIn m s c p k))
 
-    goes-to : StandsAt u p → Ends S E (E .mean e) (E .fits-good e (I .fresh .fits)) (I .fresh .starts) u p c → Next (call ops u c)
-    goes-to i (over l q) = subst Next (sym q) (subst (StandsAt u) (sym (moved-over p c l)) i)
-    goes-to i (reached l o a room j v) = subst (λ z. StandsAt (r .1) (stoppedAt z (movedIn m s w p c))) (sym a)
-        (subst (StandsAt (r .1)) (reach-in t ∙ (sym (moved-under p c l) ∙ verdict-goes _ _ _ o _ v)) j)
-    goes-to i (stopped l o a j b h k y f d) = subst (λ z. StandsAt (r .1) (stoppedAt z (movedIn m s w p c))) (sym a)
-        (subst (StandsAt (r .1)) (sym d ∙ full-stops o _ f) y)
+    goes-to : StandsAt u p → Ended → Next (call ops u k)
+    goes-to i (over l q) = subst Next (sym q) (subst (StandsAt u) (sym (moved-over p k l)) i)
+    goes-to i (reached l o a room j v) = subst (λ z. StandsAt (r .1) (stoppedAt z (movedIn m s c p k))) (sym a)
+        (subst (StandsAt (r .1)) (reach-aim ∙ (sym (moved-under p k l) ∙ verdict-goes _ _ _ o _ v)) j)
+    goes-to i (stopped l o a j b h y z f d) = subst (λ z. StandsAt (r .1) (stoppedAt z (movedIn m s c p k))) (sym a)
+        (subst (StandsAt (r .1)) (sym d ∙ full-stops o _ f) z)
 
-    pub next-stands : StandsAt u p → StandsAt (callOn (X .kind) m s u c .1) (stoppedAt (callOn (X .kind) m s u c .0) (movedIn m s w p c))
-    next-stands i = subst Next (sym (agrees u c (i .stands .fits))) (goes-to i (ended i))
+    pub next-stands : StandsAt u p → StandsAt (callOn (X .kind) m s u k .1) (stoppedAt (callOn (X .kind) m s u k .0) (movedIn m s c p k))
+    next-stands i = subst Next (sym (agrees u k (i .stands .fits))) (goes-to i (ended i))

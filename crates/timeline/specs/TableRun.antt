@@ -1,4 +1,4 @@
--- The table machine of document 01 as the timeline's abstract machine, with the word's configuration as its start. Assumes nothing.
+-- The table machine of document 01 as the timeline's abstract machine. Assumes nothing.
 use Prim.Native.Nat.{ℕ, zero, suc}
 use mathlib.Core.Path.{_≡_, refl, sym, ap, _∙_, subst}
 use mathlib.Core.List.{List}
@@ -6,12 +6,12 @@ use Rattle.outcome.specs.declared.Outcome.{Outcome}
 use Rattle.outcome.specs.declared.Outcome.the-variants as Out
 use Rattle.outcome.specs.Numbers.{stepsOf}
 use Rattle.machine.specs.declared.Machine.{Machine}
-use Rattle.turing.specs.TableMachine.{Table, Config, step, run, Halted, Verdict, halts, stays, walks, goes, start}
+use Rattle.turing.specs.TableMachine.{Table, Config, step, run, Halted, Verdict, halts, stays, walks, goes}
 use Rattle.turing.specs.Tables.{tableOf, TableOf}
 use Rattle.turing.specs.RunFacts.{run-suc, step-halted, step-steps, dec-halted}
-use Rattle.turing.specs.TapeFacts.{Bare, bare-start, bare-step}
+use Rattle.turing.specs.TapeFacts.{Bare, bare-step}
 use Rattle.turing.specs.NeverFacts.{never-sound-bare}
-use Rattle.timeline.specs.Automaton.{Automaton, Start, iterate}
+use Rattle.timeline.specs.Automaton.{Automaton, iterate}
 
 abbrev pub IsFull : Outcome → Type 0
 IsFull (Out.Halted n q) = ⊥
@@ -68,6 +68,3 @@ module _ (m : Machine) (s : List ℕ) (table : TableOf m (tableOf m s)) where
     verdict-not-full = verdict-not-full (m .tapes) (tableOf m s);
     never-halts = never-on;
   }
-
-  abbrev pub wordStart : List ℕ → Start machine
-  wordStart w = record { config = start (m .start) w; zero = refl; real = bare-start (m .tapes) (m .start) w }

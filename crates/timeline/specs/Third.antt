@@ -1,5 +1,5 @@
--- The third demand, proved for every kind of engine whose fresh engines meet the laws. Assumes nothing.
-use Prim.Native.Nat.{ℕ, _+_, _≤_, _<_}
+-- The third demand, proved for every kind of engine whose engines meet the laws: from any engine value on, and so of fresh engines. Assumes nothing.
+use Prim.Native.Nat.{ℕ, _+_, _-_, _*_, _≤_, _<_}
 use mathlib.Core.Path.{_≡_, refl, sym, ap, _∙_, subst}
 use mathlib.Core.Logic.{_↔_}
 use mathlib.Core.Option.{Option, none, some}
@@ -13,20 +13,25 @@ use Rattle.outcome.specs.declared.Outcome.{Outcome}
 use Rattle.outcome.specs.declared.Outcome.the-variants as Out
 use Rattle.outcome.specs.Numbers.{stepsOf}
 use Rattle.machine.specs.declared.Machine.{Machine}
-use Rattle.turing.specs.TableMachine.{Config, Halted}
+use Rattle.turing.specs.TableMachine.{Config, start, run, Halted}
 use Rattle.turing.specs.Tables.{tableOf}
+use Rattle.slots.specs.Slots.{slotOf}
 use Rattle.times.specs.Ops.{limit}
-use Rattle.times.specs.Timeline.{Reply, refused, answered, Call, forward, target}
-use Rattle.times.specs.Kind.{opsFor, WorldOf, newOn, callOn}
-use Rattle.timeline.specs.Automaton.{Start}
+use Rattle.times.specs.Timeline.{Reply, refused, answered, Call, forward, target, call}
+use Rattle.times.specs.Kind.{opsOf, opsFor, WorldOf, newOn, callOn}
+use Rattle.timeline.specs.Automaton.{Automaton, run as runs}
 use Rattle.timeline.specs.Laws.{Laws, Advance, went, full}
-use Rattle.timeline.specs.Walk.{reach-runs, reach-halts}
-use Rattle.timeline.specs.New.{new-inv}
-use Rattle.timeline.specs.TableRun.{IsFull, machine, wordStart}
+use Rattle.timeline.specs.Walk.{base, reach-runs, reach-halts}
+use Rattle.timeline.specs.Keep.{Slot, Inv, slot-now}
+use Rattle.timeline.specs.Ends.{Ends, over, reached, stopped, ends}
+use Rattle.timeline.specs.New.{Begun, begun, born-inv}
+use Rattle.timeline.specs.TableRun.{IsFull, machine}
 use Rattle.timeline.specs.Family.{Family}
-use Rattle.timeline.specs.Statement.{orHalt, placeBy, HaltsIn, reachIn, movedIn, placeIn, stoppedAt, afterOn, placeOn, RoomFor, Roomy, Twice, WholeList, Demand}
-use Rattle.timeline.specs.Instance.{Instance, Instances}
-use Rattle.timeline.specs.Results.{full-of, StandsAt, runs-is, reach-in, stands-now, stands-held, result, next-stands}
+use Rattle.timeline.specs.Notes.{noting, bare, NotedOf, newNoted, callNoted, afterNoted}
+use Rattle.timeline.specs.NoteFacts.{call-bare, noted}
+use Rattle.timeline.specs.Statement.{orHalt, placeBy, HaltedAt, HaltsIn, reachIn, goalIn, movedIn, placeIn, stoppedAt, afterOn, placeOn, placeAfter, RoomFor, Roomy, Twice, FullFrom, SlotGives, WholeList, DemandFrom, Demand}
+use Rattle.timeline.specs.Instance.{Instance, Instances, Beginnings}
+use Rattle.timeline.specs.Results.{full-of, StandsAt, runs-is, reach-in, base-is, stands-now, stands-low, stands-held, result, next-stands}
 use Rattle.timeline.specs.Twice.{twice-is}
 
 -- an answer that is not lack of space leaves p to the rule
@@ -38,79 +43,178 @@ not-stopped (answered (Out.NeverHalts n x)) q f = refl
 not-stopped (answered (Out.Stopped n)) q f = refl
 not-stopped (answered (Out.Full n)) q f = absurd (f n refl)
 
-module _ (X : Family) (m : Machine) (s w : List ℕ) (e : X .kind .State) (I : Instance X m s w e) where
-  abbrev S : Start (machine m s (I .table))
-  S = wordStart m s (I .table) w
+module _ (X : Family) (m : Machine) (s : List ℕ) (e : X .kind .State) (I : Instance X m s e) where
+  abbrev M : Automaton
+  M = machine m s (I .table)
 
   abbrev E : Laws (machine m s (I .table)) (opsFor (X .kind) m s e)
   E = I .laws
 
+  abbrev c : Config
+  c = X .config m e
+
+  first-is : c .steps ≡ base E (E .mean e)
+  first-is = sym (base-is X m s e I)
+
   -- ---- the rule for p
 
-  roomy-place : (u : WorldOf (X .kind)) (p : ℕ) (cs : List Call) → Roomy X m s u cs → placeOn X m s w u p cs ≡ placeIn m s w p cs
+  roomy-place : (u : WorldOf (X .kind)) (p : ℕ) (ks : List Call) → Roomy X m s u ks → placeOn X m s c u p ks ≡ placeIn m s c p ks
   roomy-place u p [] r = refl
-  roomy-place u p (c ∷ cs) r =
-      roomy-place (callOn (X .kind) m s u c .1) (stoppedAt (callOn (X .kind) m s u c .0) (movedIn m s w p c)) cs (r .1)
-      ∙ ap (λ q. placeIn m s w q cs) (not-stopped (callOn (X .kind) m s u c .0) (movedIn m s w p c) (r .0))
+  roomy-place u p (k ∷ ks) r =
+      roomy-place (callOn (X .kind) m s u k .1) (stoppedAt (callOn (X .kind) m s u k .0) (movedIn m s c p k)) ks (r .1)
+      ∙ ap (λ q. placeIn m s c q ks) (not-stopped (callOn (X .kind) m s u k .0) (movedIn m s c p k) (r .0))
 
-  reach-by : (h : Option ℕ) → HaltsIn m s w h → (t : ℕ) → reachIn m s w t ≡ orHalt t h
-  reach-by none q t = sym (reach-in X m s w e I t) ∙ reach-runs S t (λ j l. subst (λ x. ¬ Halted (tableOf m s) x) (sym (runs-is X m s w e I j)) (q j))
-  reach-by (some h) q t = sym (reach-in X m s w e I t)
-      ∙ reach-halts S h t (subst (Halted (tableOf m s)) (sym (runs-is X m s w e I h)) (q .0)) (λ j l. subst (λ x. ¬ Halted (tableOf m s) x) (sym (runs-is X m s w e I j)) (q .1 j l))
+  -- not halted, as the laws' run has it
+  not-halted : (j : ℕ) → ¬ HaltedAt m s c j → ¬ Halted (tableOf m s) (runs M (E .config (E .mean e)) j)
+  not-halted j q = subst (λ y. ¬ Halted (tableOf m s) y) (sym (runs-is X m s e I j)) q
 
-  place-by : (h : Option ℕ) → HaltsIn m s w h → (p : ℕ) (cs : List Call) → placeIn m s w p cs ≡ placeBy h p cs
+  reach-by : (h : Option ℕ) → HaltsIn m s c h → (t : ℕ) → c .steps ≤ t → reachIn m s c t ≡ orHalt t h
+  reach-by none q t l = sym (reach-in X m s e I t) ∙ reach-runs M (E .config (E .mean e)) t (omega (arith, first-is)) (λ j a b. not-halted j (q j (omega (arith, first-is))))
+  reach-by (some h) q t l = sym (reach-in X m s e I t)
+      ∙ reach-halts M (E .config (E .mean e)) h t (omega (arith, first-is, q .0)) (omega (arith, first-is))
+      (subst (Halted (tableOf m s)) (sym (runs-is X m s e I h)) (q .1)) (λ j a b. not-halted j (q .2 j (omega (arith, first-is)) b))
+
+  place-by : (h : Option ℕ) → HaltsIn m s c h → (p : ℕ) (ks : List Call) → placeIn m s c p ks ≡ placeBy (c .steps) h p ks
   place-by h q p [] = refl
-  place-by h q p (c ∷ cs) = place-by h q (movedIn m s w p c) cs ∙ ap (λ t. placeBy h (pick (leb (target p c) limit) t p) cs) (reach-by h q (target p c))
+  place-by h q p (k ∷ ks) = place-by h q (movedIn m s c p k) ks
+      ∙ ap (λ t. placeBy (c .steps) h (pick (leb (target p k) limit) t p) ks) (reach-by h q (goalIn m s c p k) (omega arith))
 
   -- ---- the engine's own rule of space
 
-  full-rule : (n : ℕ) (o : Outcome) (y : E .Mean) → Advance (machine m s (I .table)) (E .Mean) (E .config) (E .next) (E .NoRoom) n (E .mean e) o y
-      → ((k : ℕ) × (o ≡ Out.Full k)) ↔ ((j : ℕ) × (j < n) × X .FullStep m s w e j)
+  full-rule : (n : ℕ) (o : Outcome) (y : E .Mean) → Advance M (E .Mean) (E .config) (E .next) (E .NoRoom) n (E .mean e) o y
+      → ((i : ℕ) × (o ≡ Out.Full i)) ↔ ((j : ℕ) × (c .steps ≤ j) × (j < c .steps + n) × FullFrom X m s c e j)
   full-rule n o y (went r q v) = (
-    (λ f. absurd (machine m s (I .table) .verdict-not-full (E .config y) o v (subst IsFull (sym (f .1)) tt))),
-    (λ f. absurd (r (f .0) (f .1) (I .full-is (f .0) .1 (f .2)))),
+    (λ f. absurd (M .verdict-not-full (E .config y) o v (subst IsFull (sym (f .1)) tt))),
+    (λ f. absurd (r (f .0 - c .steps) (omega (arith, f .1, f .2)) (I .full-is (f .0 - c .steps) .1 (f .3)))),
   )
-  full-rule n o y (full j l r k q f d) = ((λ _. (j, l, I .full-is j .0 k)), (λ _. (stepsOf o, full-of o f)))
+  full-rule n o y (full j l r k q f d) = ((λ _. (c .steps + j, omega arith, omega arith, subst (X .FullStep m s e) there (I .full-is j .0 k))), (λ _. (stepsOf o, full-of o f)))
+    where
+      there : j ≡ c .steps + j - c .steps
+      there = omega arith
 
-  begins : X .kind .now e ≡ 0
-  begins = E .now-is e ∙ ap (λ (c : Config). c .steps) (I .fresh .starts)
+  now-first : X .kind .now e ≡ c .steps
+  now-first = E .now-is e ∙ base-is X m s e I
 
   -- ---- lists
 
-  stands-after : (u : WorldOf (X .kind)) (p : ℕ) (cs : List Call) → StandsAt X m s w e I u p → StandsAt X m s w e I (afterOn X m s u cs) (placeOn X m s w u p cs)
+  stands-after : (u : WorldOf (X .kind)) (p : ℕ) (ks : List Call) → StandsAt X m s e I u p → StandsAt X m s e I (afterOn X m s u ks) (placeOn X m s c u p ks)
   stands-after u p [] i = i
-  stands-after u p (c ∷ cs) i =
-      stands-after (callOn (X .kind) m s u c .1) (stoppedAt (callOn (X .kind) m s u c .0) (movedIn m s w p c)) cs (next-stands X m s w e I u p c i)
+  stands-after u p (k ∷ ks) i =
+      stands-after (callOn (X .kind) m s u k .1) (stoppedAt (callOn (X .kind) m s u k .0) (movedIn m s c p k)) ks (next-stands X m s e I u p k i)
 
-  twice-from : (u : WorldOf (X .kind)) (p : ℕ) → StandsAt X m s w e I u p → (a b : ℕ) → p + a + b ≤ limit
+  twice-from : (u : WorldOf (X .kind)) (p : ℕ) → StandsAt X m s e I u p → (a b : ℕ) → p + a + b ≤ limit
       → RoomFor X m s u (forward a) → RoomFor X m s (callOn (X .kind) m s u (forward a) .1) (forward b) → Twice X m s u a b
-  twice-from u p i a b l f g = twice-is X m s w e I u p a b l f g
-      (result X m s w e I u p (forward a) i) (result X m s w e I (callOn (X .kind) m s u (forward a) .1) (reachIn m s w (p + a)) (forward b) next) (result X m s w e I u p (forward (a + b)) i)
+  twice-from u p i a b l f g = twice-is X m s e I u p a b under l f g
+      (result X m s e I u p (forward a) i) (result X m s e I (callOn (X .kind) m s u (forward a) .1) (reachIn m s c (p + a)) (forward b) next) (result X m s e I u p (forward (a + b)) i)
     where
-      next : StandsAt X m s w e I (callOn (X .kind) m s u (forward a) .1) (reachIn m s w (p + a))
-      next = subst (StandsAt X m s w e I (callOn (X .kind) m s u (forward a) .1))
-          (not-stopped (callOn (X .kind) m s u (forward a) .0) (movedIn m s w p (forward a)) f ∙ pick-true (leb (p + a) limit) (reachIn m s w (p + a)) p (le-leb (p + a) limit (omega arith)))
-          (next-stands X m s w e I u p (forward a) i)
+      under : c .steps ≤ p
+      under = stands-low X m s e I u p i
 
-  module _ (most every : ℕ) (store : List ℕ) (v : WorldOf (X .kind)) (n : newOn (X .kind) m s most every e store ≡ answered v) where
-    new-stands : StandsAt X m s w e I v 0
-    unfolding newOn
-    new-stands = new-inv S E most every e store v (I .fresh) n
+      there : goalIn m s c p (forward a) ≡ p + a
+      there = omega (arith, under)
 
-    after-stands : (cs : List Call) → StandsAt X m s w e I (afterOn X m s v cs) (placeOn X m s w v 0 cs)
-    after-stands cs = stands-after v 0 cs new-stands
+      next : StandsAt X m s e I (callOn (X .kind) m s u (forward a) .1) (reachIn m s c (p + a))
+      next = subst (StandsAt X m s e I (callOn (X .kind) m s u (forward a) .1))
+          (not-stopped (callOn (X .kind) m s u (forward a) .0) (movedIn m s c p (forward a)) f
+          ∙ (pick-true (leb (p + a) limit) (reachIn m s c (goalIn m s c p (forward a))) p (le-leb (p + a) limit (omega arith)) ∙ ap (reachIn m s c) there))
+          (next-stands X m s e I u p (forward a) i)
 
-    whole : (cs : List Call) → WholeList X m s w e v cs
-    whole cs = record {
-      holds = stands-held X m s w e I (afterOn X m s v cs) (placeOn X m s w v 0 cs) (after-stands cs);
-      stands = stands-now X m s w e I (afterOn X m s v cs) (placeOn X m s w v 0 cs) (after-stands cs);
-      each = λ before rest c q. result X m s w e I (afterOn X m s v before) (placeOn X m s w v 0 before) c (after-stands before);
-      onward = λ c. result X m s w e I (afterOn X m s v cs) (placeOn X m s w v 0 cs) c (after-stands cs);
-      place = roomy-place v 0 cs;
-      paper = λ h q. (place-by h q 0 cs, reach-by h q);
-      twice = twice-from (afterOn X m s v cs) (placeOn X m s w v 0 cs) (after-stands cs);
-      rule = λ i l. full-rule i (X .kind .advance m s i e .0) (E .mean (X .kind .advance m s i e .1)) (E .advances i e (I .fresh .fits) (omega (arith, begins)));
+  -- ---- notes
+
+  -- a noting timeline stands at p
+  abbrev NotedAt : NotedOf (X .kind) → ℕ → Type 0
+  NotedAt = Inv (noted E) (E .mean e) (E .fits-good e (I .fits))
+
+  -- the buffers keep their sizes
+  agrees : (u : NotedOf (X .kind)) (k : Call) → E .Fits (u .engine) → callNoted (X .kind) m s u k ≡ call (noting (opsFor (X .kind) m s e)) u k
+  agrees u k f = ap (λ z. call (noting (opsOf (X .kind) m s z)) u k) (I .same-size (u .engine) f)
+
+  noted-next : (u : NotedOf (X .kind)) (p : ℕ) (k : Call) → NotedAt u p → (q : ℕ) × NotedAt (callNoted (X .kind) m s u k .1) q
+  noted-next u p k i = subst (λ (z : Reply Outcome × NotedOf (X .kind)). (q : ℕ) × NotedAt (z .1) q) (sym (agrees u k (i .stands .fits)))
+      (by (ends (noted E) (E .mean e) (E .fits-good e (I .fits)) u p k i))
+    where
+      by : Ends (noted E) (E .mean e) (E .fits-good e (I .fits)) u p k → (q : ℕ) × NotedAt (call (noting (opsFor (X .kind) m s e)) u k .1) q
+      by (over l q) = (p, subst (λ (z : Reply Outcome × NotedOf (X .kind)). NotedAt (z .1) p) (sym q) i)
+      by (reached l o a room j v) = (_, j)
+      by (stopped l o a j b h y z f d) = (_, z)
+
+  noted-after : (u : NotedOf (X .kind)) (p : ℕ) (ks : List Call) → NotedAt u p → (q : ℕ) × NotedAt (afterNoted (X .kind) m s u ks) q
+  noted-after u p [] i = (p, i)
+  noted-after u p (k ∷ ks) i = let n = noted-next u p k i in noted-after (callNoted (X .kind) m s u k .1) (n .0) ks (n .1)
+
+  notes-aside : (u : NotedOf (X .kind)) (ks : List Call) → bare (afterNoted (X .kind) m s u ks) ≡ afterOn X m s (bare u) ks
+  unfolding callOn
+  notes-aside u [] = refl
+  notes-aside u (k ∷ ks) = notes-aside (callNoted (X .kind) m s u k .1) ks
+      ∙ ap (λ (z : Reply Outcome × WorldOf (X .kind)). afterOn X m s (z .1) ks) (call-bare (opsFor (X .kind) m s (u .engine)) u k)
+
+  slot-gives : (u : NotedOf (X .kind)) (p : ℕ) → NotedAt u p → (i : ℕ) → i < u .times .count → SlotGives X m s c u i
+  slot-gives u p n i l = by (noted E .restores i (u .engine) (u .store) (slot .engine) (n .stands .fits) (omega (arith, n .count-high, n .tidy .room-for)) (slot .kept))
+    where
+      slot : Slot (noted E) (E .mean e) (E .fits-good e (I .fits)) (u .store) (u .times) i
+      slot = n .tidy .slot i l
+
+      step : X .kind .now (slot .engine) ≡ c .steps + i * u .times .every
+      step = slot-now (noted E) (E .mean e) (E .fits-good e (I .fits)) (u .store) (u .times) i slot ∙ ap (λ a. a + i * u .times .every) (n .tidy .first-is ∙ sym first-is)
+
+      by : (r : X .kind .State) × (opsFor (X .kind) m s e .restore i (X .kind .now (slot .engine)) (u .engine) (u .store .bytes) ≡ some r)
+          × E .Same r (slot .engine) × (E .mean r ≡ E .mean (slot .engine)) × E .Fits r → SlotGives X m s c u i
+      by r = record {
+        saved = slot .engine;
+        noted = slot .kept .1;
+        step = step;
+        read = r .0;
+        reads = (λ j. X .kind .unpack m (slotOf (I .same-size (u .engine) (n .stands .fits) j) i (u .store .bytes)) (sym step j) (u .engine)) ∙ r .1;
+        same = I .same-engine (r .0) (slot .engine) (r .2);
+      }
+
+  -- ---- the whole
+
+  module _ (most every : ℕ) (store : List ℕ) (v : WorldOf (X .kind)) (n : Begun (opsFor (X .kind) m s e) most every e store v) where
+    new-stands : StandsAt X m s e I v (c .steps)
+    new-stands = subst (StandsAt X m s e I v) (sym first-is)
+        (subst (λ z. Inv E (E .mean e) (E .fits-good e (I .fits)) z (base E (E .mean e))) (n .is) (born-inv E most every e store (I .fits) (n .settings-in) (n .slots-in)))
+
+    -- what a noting timeline is at the start
+    new-noted : NotedAt (newNoted (X .kind) v) (base E (E .mean e))
+    new-noted = subst (λ z. NotedAt (newNoted (X .kind) z) (base E (E .mean e))) (n .is)
+        (born-inv (noted E) most every e (record { bytes = store; note = λ j. none }) (I .fits) (n .settings-in) (n .slots-in))
+
+    after-stands : (ks : List Call) → StandsAt X m s e I (afterOn X m s v ks) (placeAfter X m s c v ks)
+    after-stands ks = stands-after v (c .steps) ks new-stands
+
+    after-noted : (ks : List Call) → (q : ℕ) × NotedAt (afterNoted (X .kind) m s (newNoted (X .kind) v) ks) q
+    after-noted ks = noted-after (newNoted (X .kind) v) (base E (E .mean e)) ks new-noted
+
+    whole : (ks : List Call) → WholeList X m s c e v ks
+    whole ks = record {
+      holds = stands-held X m s e I (afterOn X m s v ks) (placeAfter X m s c v ks) (after-stands ks);
+      stands = stands-now X m s e I (afterOn X m s v ks) (placeAfter X m s c v ks) (after-stands ks);
+      each = λ before rest k q. result X m s e I (afterOn X m s v before) (placeAfter X m s c v before) k (after-stands before);
+      onward = λ k. result X m s e I (afterOn X m s v ks) (placeAfter X m s c v ks) k (after-stands ks);
+      place = roomy-place v (c .steps) ks;
+      paper = λ h q. (place-by h q (c .steps) ks, reach-by h q);
+      twice = twice-from (afterOn X m s v ks) (placeAfter X m s c v ks) (after-stands ks);
+      rule = λ i l. full-rule i (X .kind .advance m s i e .0) (E .mean (X .kind .advance m s i e .1)) (E .advances i e (I .fits) (omega (arith, now-first)));
+      begins = after-stands ks .tidy .first-is ∙ sym first-is;
+      notes = notes-aside (newNoted (X .kind) v) ks;
+      slots = λ i l. slot-gives (afterNoted (X .kind) m s (newNoted (X .kind) v) ks) (after-noted ks .0) (after-noted ks .1) i
+          (subst (λ (z : WorldOf (X .kind)). i < z .times .count) (sym (notes-aside (newNoted (X .kind) v) ks)) l);
     }
 
-pub demand : (X : Family) → Instances X → Demand X
-demand X i m s w y b e q most every store v n cs = whole X m s w e (i m s w y b e q) most every store v n cs
+pub demand-from : (X : Family) → Instances X → DemandFrom X
+unfolding newOn
+demand-from X i m s y e most every store v n ks =
+    let b : Begun (opsFor (X .kind) m s e) most every e store v = begun (opsFor (X .kind) m s e) most every e store v n in
+    whole X m s e (i m s y e (b .checked)) most every store v b ks
+
+-- a fresh engine holds the word's configuration
+pub demand : (X : Family) → Instances X → Beginnings X → Demand X
+demand X i f m s w y b e q most every store v n ks = record {
+  whole = subst (λ c. WholeList X m s c e v ks) (f m s w b e q) (demand-from X i m s y e most every store v n ks);
+  after = λ n. ap (λ j. run (tableOf m s) j (start (m .start) w)) (none n);
+  aim = λ p k. omega arith;
+}
+  where
+    none : (n : ℕ) → n - 0 ≡ n
+    none n = omega arith

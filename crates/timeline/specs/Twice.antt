@@ -2,7 +2,6 @@
 use Prim.Native.Nat.{ℕ, _+_, _-_, _≤_, _<_}
 use mathlib.Core.Path.{_≡_, sym, ap, _∙_, subst}
 use mathlib.Core.List.{List}
-use native.Mathlib.Nat.{add-assoc}
 use native.Mathlib.Decide.{decLt}
 use native.Mathlib.Omega.{arith}
 use Rattle.outcome.specs.declared.Outcome.{Outcome}
@@ -14,80 +13,115 @@ use Rattle.turing.specs.VerdictFacts.{verdict-unique}
 use Rattle.times.specs.Ops.{limit}
 use Rattle.times.specs.Timeline.{answered, forward}
 use Rattle.times.specs.Kind.{WorldOf, callOn}
-use Rattle.timeline.specs.Automaton.{Start, reach}
+use Rattle.timeline.specs.Automaton.{Automaton, reach}
 use Rattle.timeline.specs.Walk.{run-reach, run-on}
-use Rattle.timeline.specs.TableRun.{machine, wordStart}
+use Rattle.timeline.specs.TableRun.{machine}
 use Rattle.timeline.specs.Family.{Family}
-use Rattle.timeline.specs.Statement.{afterSteps, reachIn, heldOn, RoomFor, Twice, Stuck, Result}
+use Rattle.timeline.specs.Statement.{afterSteps, reachIn, goalIn, heldOn, RoomFor, Twice, Stuck, Result}
 use Rattle.timeline.specs.Instance.{Instance}
-use Rattle.timeline.specs.Results.{runs-is, reach-in}
+use Rattle.timeline.specs.Results.{runs-is, reach-in, base-is}
 
-module _ (X : Family) (m : Machine) (s w : List ℕ) (e : X .kind .State) (I : Instance X m s w e) where
-  abbrev S : Start (machine m s (I .table))
-  S = wordStart m s (I .table) w
+module _ (X : Family) (m : Machine) (s : List ℕ) (e : X .kind .State) (I : Instance X m s e) where
+  abbrev c : Config
+  c = X .config m e
+
+  abbrev M : Automaton
+  M = machine m s (I .table)
+
+  -- the run as the laws have it
+  abbrev d : Config
+  d = I .laws .config (I .laws .mean e)
+
+  same-first : c .steps ≡ d .steps
+  same-first = sym (base-is X m s e I)
 
   -- ---- the table machine: no more than t steps are made in t, and the rest goes on from there
 
-  reach-low : (t : ℕ) → reachIn m s w t ≤ t
-  reach-low t = omega (arith, run-reach S t .0, reach-in X m s w e I t)
+  reach-low : (t : ℕ) → c .steps ≤ t → (c .steps ≤ reachIn m s c t) × (reachIn m s c t ≤ t)
+  reach-low t l =
+      let r = run-reach M d t (omega (arith, same-first)) in
+      (omega (arith, same-first, r .0, reach-in X m s e I t), omega (arith, r .1, reach-in X m s e I t))
 
-  reached-run : (t : ℕ) → afterSteps m s w (reachIn m s w t) ≡ afterSteps m s w t
-  reached-run t = ap (afterSteps m s w) (sym (reach-in X m s w e I t)) ∙ (sym (runs-is X m s w e I (reach S t)) ∙ (run-reach S t .1 ∙ runs-is X m s w e I t))
+  reached-run : (t : ℕ) → c .steps ≤ t → afterSteps m s c (reachIn m s c t) ≡ afterSteps m s c t
+  reached-run t l = ap (afterSteps m s c) (sym (reach-in X m s e I t))
+      ∙ (sym (runs-is X m s e I (reach M d t)) ∙ (run-reach M d t (omega (arith, same-first)) .2 ∙ runs-is X m s e I t))
 
-  onward-run : (t d : ℕ) → afterSteps m s w (reachIn m s w t + d) ≡ afterSteps m s w (t + d)
-  onward-run t d = ap (λ n. afterSteps m s w (n + d)) (sym (reach-in X m s w e I t)) ∙ (sym (runs-is X m s w e I (reach S t + d)) ∙ (run-on S t d ∙ runs-is X m s w e I (t + d)))
+  onward-run : (t n : ℕ) → c .steps ≤ t → afterSteps m s c (n + reachIn m s c t) ≡ afterSteps m s c (n + t)
+  onward-run t n l = ap (λ j. afterSteps m s c (n + j)) (sym (reach-in X m s e I t))
+      ∙ (sym (runs-is X m s e I (n + reach M d t)) ∙ (run-on M d t n (omega (arith, same-first)) ∙ runs-is X m s e I (n + t)))
 
   -- ---- the three calls
 
-  module _ (u : WorldOf (X .kind)) (p a b : ℕ) (small : p + a + b ≤ limit) (free : RoomFor X m s u (forward a)) (again : RoomFor X m s (callOn (X .kind) m s u (forward a) .1) (forward b))
-      (first : Result X m s w e u p (forward a) (callOn (X .kind) m s u (forward a)))
-      (second : Result X m s w e (callOn (X .kind) m s u (forward a) .1) (reachIn m s w (p + a)) (forward b)
+  module _ (u : WorldOf (X .kind)) (p a b : ℕ) (under : X .config m e .steps ≤ p) (small : p + a + b ≤ limit)
+      (free : RoomFor X m s u (forward a)) (again : RoomFor X m s (callOn (X .kind) m s u (forward a) .1) (forward b))
+      (first : Result X m s (X .config m e) e u p (forward a) (callOn (X .kind) m s u (forward a)))
+      (second : Result X m s (X .config m e) e (callOn (X .kind) m s u (forward a) .1) (reachIn m s (X .config m e) (p + a)) (forward b)
       (callOn (X .kind) m s (callOn (X .kind) m s u (forward a) .1) (forward b)))
-      (once : Result X m s w e u p (forward (a + b)) (callOn (X .kind) m s u (forward (a + b)))) where
+      (once : Result X m s (X .config m e) e u p (forward (a + b)) (callOn (X .kind) m s u (forward (a + b)))) where
+    -- where the first call ends
     abbrev q : ℕ
-    q = reachIn m s w (p + a)
+    q = reachIn m s c (p + a)
+
+    q-low : c .steps ≤ q
+    q-low = reach-low (p + a) (omega arith) .0
+
+    q-high : q ≤ p + a
+    q-high = reach-low (p + a) (omega arith) .1
+
+    -- no target is below the start
+    forward-goal : (p n : ℕ) → c .steps ≤ p → goalIn m s c p (forward n) ≡ p + n
+    forward-goal p n l = omega arith
 
     -- a full step on the way of forward a + b would be on the way of forward a or of forward b
     whole-free : RoomFor X m s u (forward (a + b))
     whole-free n z = by (once .stands n z) (decLt n (p + a)) (decLt n (q + b))
       where
-        low : q ≤ p + a
-        low = reach-low (p + a)
-
-        by : Stuck X m s w e (callOn (X .kind) m s u (forward (a + b)) .1) p (p + (a + b)) n → Dec (n < p + a) → Dec (n < q + b) → ⊥
-        by k (yes l) h = let f = first .space (omega arith) .1 (n, k .from, l, k .full) in free (f .0) (f .1)
-        by k (no l) (yes h) = let f = second .space (omega (arith, low)) .1 (n, omega (arith, low), h, k .full) in again (f .0) (f .1)
+        by : Stuck X m s c e (callOn (X .kind) m s u (forward (a + b)) .1) p (goalIn m s c p (forward (a + b))) n → Dec (n < p + a) → Dec (n < q + b) → ⊥
+        by k (yes l) h = let f = first .space (omega arith) .1 (n, k .from, omega (arith, forward-goal p a under), k .full) in free (f .0) (f .1)
+        by k (no l) (yes h) = let f = second .space (omega (arith, q-high)) .1 (n, omega (arith, q-high), omega (arith, forward-goal q b q-low), k .full) in again (f .0) (f .1)
         by k (no l) (no h) =
-            let d : ℕ = n - (p + a) in
-            let made : n ≡ reachIn m s w n = once .numbers (Out.Full n) z ∙ ap (λ (c : Config). c .steps) (k .holds) in
-            let on : reachIn m s w (q + d) ≡ reachIn m s w (p + a + d) = ap (λ (c : Config). c .steps) (onward-run (p + a) d) in
-            let there : p + a + d ≡ n = omega arith in
-            let same : reachIn m s w (p + a + d) ≡ reachIn m s w n = ap (reachIn m s w) there in
-            omega (arith, low, made, on, same, reach-low (q + d), k .short)
+            let more : ℕ = n - (p + a) in
+            let made : n ≡ reachIn m s c n = once .numbers (Out.Full n) z ∙ ap (λ (y : Config). y .steps) (k .holds) in
+            let on : reachIn m s c (more + q) ≡ reachIn m s c (more + (p + a)) = ap (λ (y : Config). y .steps) (onward-run (p + a) more (omega arith)) in
+            let there : more + (p + a) ≡ n = omega arith in
+            let same : reachIn m s c (more + (p + a)) ≡ reachIn m s c n = ap (reachIn m s c) there in
+            omega (arith, q-high, made, on, same, reach-low (more + q) (omega (arith, q-low)) .1, k .short, forward-goal p (a + b) under)
 
     abbrev Answered : WorldOf (X .kind) → ℕ → Type 0
     Answered v n = (o : Outcome) × (callOn (X .kind) m s v (forward n) .0 ≡ answered o)
 
     two : Answered (callOn (X .kind) m s u (forward a) .1) b
-    two = second .accepts (omega (arith, reach-low (p + a)))
+    two = second .accepts (omega (arith, q-high))
 
     one : Answered u (a + b)
     one = once .accepts (omega arith)
 
-    two-says : (heldOn X m s (callOn (X .kind) m s (callOn (X .kind) m s u (forward a) .1) (forward b) .1) ≡ afterSteps m s w (reachIn m s w (q + b)))
-        × Verdict (m .tapes) (tableOf m s) (afterSteps m s w (reachIn m s w (q + b))) (two .0)
+    -- the two ends
+    abbrev there : Config
+    there = afterSteps m s c (reachIn m s c (goalIn m s c q (forward b)))
+
+    abbrev at-once : Config
+    at-once = afterSteps m s c (reachIn m s c (goalIn m s c p (forward (a + b))))
+
+    two-says : (heldOn X m s (callOn (X .kind) m s (callOn (X .kind) m s u (forward a) .1) (forward b) .1) ≡ there) × Verdict (m .tapes) (tableOf m s) there (two .0)
     two-says = second .says (two .0) (two .1) (λ n f. again n (two .1 ∙ ap answered f))
 
-    one-says : (heldOn X m s (callOn (X .kind) m s u (forward (a + b)) .1) ≡ afterSteps m s w (reachIn m s w (p + (a + b))))
-        × Verdict (m .tapes) (tableOf m s) (afterSteps m s w (reachIn m s w (p + (a + b)))) (one .0)
+    one-says : (heldOn X m s (callOn (X .kind) m s u (forward (a + b)) .1) ≡ at-once) × Verdict (m .tapes) (tableOf m s) at-once (one .0)
     one-says = once .says (one .0) (one .1) (λ n f. whole-free n (one .1 ∙ ap answered f))
 
-    same-end : afterSteps m s w (reachIn m s w (q + b)) ≡ afterSteps m s w (reachIn m s w (p + (a + b)))
-    same-end = reached-run (q + b) ∙ (onward-run (p + a) b ∙ (ap (afterSteps m s w) (add-assoc p a b) ∙ sym (reached-run (p + (a + b)))))
+    same-end : there ≡ at-once
+    same-end = reached-run (goalIn m s c q (forward b)) (omega arith)
+        ∙ (ap (afterSteps m s c) left ∙ (onward-run (p + a) b (omega arith) ∙ (ap (afterSteps m s c) right ∙ sym (reached-run (goalIn m s c p (forward (a + b))) (omega arith)))))
+      where
+        left : goalIn m s c q (forward b) ≡ b + q
+        left = omega (arith, forward-goal q b q-low)
+
+        right : b + (p + a) ≡ goalIn m s c p (forward (a + b))
+        right = omega (arith, forward-goal p (a + b) under)
 
     pub twice-is : Twice X m s u a b
     twice-is = record {
       holds = two-says .0 ∙ (same-end ∙ sym (one-says .0));
       answers = two .1 ∙ (ap answered (verdict-unique (m .tapes) (tableOf m s) _ (two .0) (one .0)
-          (subst (λ c. Verdict (m .tapes) (tableOf m s) c (two .0)) same-end (two-says .1)) (one-says .1)) ∙ sym (one .1));
+          (subst (λ y. Verdict (m .tapes) (tableOf m s) y (two .0)) same-end (two-says .1)) (one-says .1)) ∙ sym (one .1));
     }
