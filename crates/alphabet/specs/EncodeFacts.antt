@@ -20,20 +20,14 @@ use Rattle.machine.specs.declared.Checked.the-variants.{Accepted, Refused}
 use Rattle.machine.specs.Check.{demand, checkedOn, answerAt}
 use Rattle.alphabet.specs.declared.Named.{Named}
 use Rattle.alphabet.specs.declared.Named.the-variants.{Missing, Found}
+use Rattle.alphabet.specs.Glyphs.{First, Absent}
 use Rattle.alphabet.specs.Encode.{differs, named, symbolFor, allowedOn, byteOn, allowedAt, byteAt, glyphsCheck, encodeCheck, encodeInto}
 
 -- ---- one glyph
 
--- i is the first place of an equal glyph, and a symbol
-pub record First (glyphs : List ℕ) (glyph i : ℕ) : Type 0 where
-  pub among : i < length glyphs
-  pub small : i < 256
-  pub equal : getD glyphs i 0 ≡ glyph
-  pub before : (j : ℕ) → j < i → getD glyphs j 0 ≡ glyph → ⊥
-
 -- the glyph's symbol by cases: no equal one among the first 256, or the first of them
 pub data Spelt (glyphs : List ℕ) (glyph : ℕ) : Named → Type 0 where
-  absent : ((j : ℕ) → j < length glyphs → j < 256 → getD glyphs j 0 ≡ glyph → ⊥) → Spelt glyphs glyph Missing
+  absent : Absent glyphs glyph → Spelt glyphs glyph Missing
   first : (i : ℕ) → First glyphs glyph i → Spelt glyphs glyph (Found (symbolOf i))
 
 module _ (glyphs : List ℕ) (glyph : ℕ) where

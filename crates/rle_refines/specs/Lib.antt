@@ -8,6 +8,7 @@ pub mod TapeFacts
 pub mod WalkFacts
 pub mod LeapFacts
 pub mod Canonical
+pub mod WordStack
 pub mod PatternFacts
 pub mod PlanFacts
 pub mod MidFacts
