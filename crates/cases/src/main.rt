@@ -1,5 +1,6 @@
 // Runs the listing on each pair of data/: NNN.in is an input, NNN.out what must be printed for it. Writes a line for each
-// pair that differs, and at the end how many pairs there are and how many of them differ.
+// pair that differs, and at the end how many pairs there are and how many of them differ. A file that cannot be read
+// counts as one that differs. Where the last line cannot be written, one line goes to standard error.
 use listing::Listed;
 ghost use Prim.Native.Nat.{_<_};
 ghost use Rattle.io.specs.Counts.{Counts};
@@ -36,13 +37,13 @@ fn open_output(i: usize) -> i32
     os::open_read(&[hundreds, tens, ones, b'.', b'o', b'u', b't'])
 }
 
-// Reads the file into buf and closes it: how many bytes.
-fn read(fd: i32, buf: &mut [u8]) -> usize
-    ensures { λ r. ⌜ Counts r (now (buf .exit)) ⌝ }
-{
-    let n = io::read_full(fd, buf);
-    libc::close(fd);
-    n
+// Whether all that `seekrun` reads of a file was read: n bytes fill its buffer, or the next read says that the file ends.
+fn is_read(fd: i32, n: usize) -> bool {
+    if n == 65536 {
+        return true;
+    }
+    let mut one = [0u8; 1];
+    libc::read(fd, &mut one) == 0
 }
 
 // Runs the listing: how many bytes it put at the start of output. None where it refuses the output's size.
@@ -55,12 +56,18 @@ fn print(input: &[u8], output: &mut [u8]) -> usize
     }
 }
 
-// Whether the listing prints for the input what the other file holds.
+// Whether both files can be read, and the listing prints for the first what the other holds.
 fn agrees(input: i32, expected: i32) -> bool {
     let mut given = io::large_buffer();
-    let n = read(input, &mut given);
+    let n = io::read_full(input, &mut given);
     let mut wanted = io::large_buffer();
-    let m = read(expected, &mut wanted);
+    let m = io::read_full(expected, &mut wanted);
+    if !is_read(input, n) {
+        return false;
+    }
+    if !is_read(expected, m) {
+        return false;
+    }
     let mut printed = io::large_buffer();
     let k = print(&given[..n], &mut printed);
     text::same(&printed[..k], &wanted[..m])
@@ -77,22 +84,38 @@ fn run(i: usize) -> Pair
     if expected < 0 {
         return Pair::Differs;
     }
-    if agrees(input, expected) {
+    let same = agrees(input, expected);
+    libc::close(input);
+    libc::close(expected);
+    if same {
         return Pair::Same;
     }
     Pair::Differs
 }
 
+// Writes a number and a text: whether both were written.
+fn say(n: usize, what: &[u8]) -> bool {
+    if !io::print_decimal(1, n as u64) {
+        return false;
+    }
+    io::write_all(1, what)
+}
+
 fn report(i: usize) {
-    io::print_decimal(1, i as u64);
-    io::write_all(1, b" differs\n");
+    say(i, b" differs\n");
+}
+
+fn both(pairs: usize, differ: usize) -> bool {
+    if !say(pairs, b" cases, ") {
+        return false;
+    }
+    say(differ, b" differ\n")
 }
 
 fn summary(pairs: usize, differ: usize) {
-    io::print_decimal(1, pairs as u64);
-    io::write_all(1, b" cases, ");
-    io::print_decimal(1, differ as u64);
-    io::write_all(1, b" differ\n");
+    if !both(pairs, differ) {
+        io::write_all(2, b"cases: standard output cannot be written\n");
+    }
 }
 
 fn main() {

@@ -2,9 +2,10 @@
 use Prim.Native.Nat.{ℕ, zero, suc, _+_, _*_, _≤_, _<_}
 use mathlib.Core.List.{List, [], _∷_, _++_}
 use mathlib.Core.Option.{Option, none, some}
-use lib.ListN.{getD, take}
+use lib.ListN.{length, getD, drop}
 use Rattle.machine.specs.declared.Machine.{Machine}
 use Rattle.times.specs.Timeline.{Call, seek, forward, back, callFor}
+use Rattle.forms.specs.Forms.{wordOf, wordBefore}
 use Rattle.forms.specs.declared.Rule.{Rule}
 use Rattle.forms.specs.declared.MachineLine.{MachineLine}
 use Rattle.forms.specs.declared.MachineLine.the-variants as ML
@@ -25,10 +26,18 @@ unfoldable pub ruleIn : EntryLine → Option Rule
 ruleIn (EL.Of e) = some e
 ruleIn EL.Bad = none
 
--- the word stands in the first places of the lent bytes
-unfoldable pub wordIn : Count → List ℕ → Option (List ℕ)
-wordIn (C.Of n) w = some (take n w)
-wordIn C.Bad w = none
+-- how many symbols the word has
+unfoldable pub countOf : Option (List ℕ) → Count
+countOf (some w) = C.Of (length w)
+countOf none = C.Bad
+
+-- the first places hold v, the others what w holds there
+abbrev pub over : (v w : List ℕ) → List ℕ
+over v w = v ++ drop (length v) w
+
+-- a word line read into lent bytes: the count, and every byte afterwards. Where a field is bad, the symbols before it are there
+unfoldable pub readWord : (k : ℕ) (l w : List ℕ) → Count × List ℕ
+readWord k l w = (countOf (wordOf k l), over (wordBefore k l) w)
 
 unfoldable pub callIn : CallLine → Option Call
 callIn (CL.Of c) = some (callFor (c .kind) (c .number))

@@ -3,11 +3,11 @@ use Prim.Native.Nat.{ℕ, zero, suc, _+_, _*_, _/_, _%_, _≤_, _<_}
 use mathlib.Core.Path.{_≡_, refl, sym, ap, _∙_}
 use mathlib.Core.Bool.{true, false}
 use mathlib.Core.List.{List, [], _∷_, _++_}
-use mathlib.Core.Option.{Option}
+use mathlib.Core.Option.{Option, none, some}
 use native.Mathlib.Omega.{arith}
 use native.Mathlib.Numerals.{add-one}
-use lib.ListN.{length, getD, take, drop, set, length-append, length-set, drop-of-length-le}
-use lib.Seq.{paste, getD-set-same, getD-set-other, take-suc-set, drop-cons}
+use lib.ListN.{length, getD, take, drop, set, length-append, length-set, take-append-drop, drop-of-length-le}
+use lib.Seq.{paste, getD-set-same, getD-set-other, take-suc-set, drop-cons, drop-drop, drop-set-lt, length-take-le}
 use borrow.Author.Tests.{eq-eqb, ne-eqb}
 use Rattle.laws.specs.Choice.{pick}
 use Rattle.symbol.specs.Kinds.{dirNumber}
@@ -31,8 +31,8 @@ use Rattle.forms.specs.declared.CallCode.{CallCode}
 use Rattle.forms.specs.declared.CallLine.{CallLine}
 use Rattle.forms.specs.declared.CallLine.the-variants as CL
 use Rattle.forms.specs.declared.Count.the-variants as C
-use Rattle.forms.specs.Forms.{onSome, machineLine, entryLine, symbolsOf, wordOf, place, given, actionOf, define}
-use Rattle.forms.specs.Answers.{machineIn, ruleIn, wordIn, callIn, callCode, callsOf, Small, RuleOk}
+use Rattle.forms.specs.Forms.{onSome, machineLine, entryLine, symbolsOf, wordOf, symbolsBefore, wordBefore, place, given, actionOf, define}
+use Rattle.forms.specs.Answers.{machineIn, ruleIn, countOf, over, readWord, callIn, callCode, callsOf, Small, RuleOk}
 use Rattle.forms.specs.FormFacts.{below-lt, rule-ok, machine-good, good-small}
 
 -- ---- what a callee read
@@ -104,37 +104,80 @@ stored t t′ at e h p =
 pub below-256 : (k : ℕ) (f : List ℕ) (a : ℕ) (r : Num) → r ≡ below k f → r ≡ Value a → k ≤ 256 → a < 256
 below-256 k f a r e q h = omega (arith, below-lt k f a (sym e ∙ q))
 
--- the word from field i on
-unfoldable pub wordFrom : ℕ → List ℕ → List ℕ → ℕ → Option (List ℕ)
-wordFrom k l w i = symbolsOf k (take i w) (drop i (fields l))
+-- at field i of n: the first i places of w hold the symbols before it, the others are as they were
+pub record WordInv (k : ℕ) (l w₀ : List ℕ) (n : ℕ) (w : List ℕ) (i : ℕ) : Type 0 where
+  pub inside : i ≤ n
+  pub count : n ≡ length (fields l)
+  pub few : n ≤ 81
+  pub room : 81 ≤ length w
+  pub long : length w ≡ length w₀
+  pub all : symbolsOf k (take i w) (drop i (fields l)) ≡ wordOf k l
+  pub before : symbolsBefore k (take i w) (drop i (fields l)) ≡ wordBefore k l
+  pub rest : drop i w ≡ drop i w₀
 
-pub word-none : (k : ℕ) (l w : List ℕ) → length l ≡ 0 → wordIn (C.Of 0) w ≡ wordOf k l
-unfolding wordIn wordOf pick
+pub word-none : (k : ℕ) (l w : List ℕ) → length l ≡ 0 → (C.Of 0, w) ≡ readWord k l w
+unfolding readWord countOf wordOf wordBefore pick
 word-none k l w h = simp (eq-eqb _ _ h)
 
-pub word-start : (k : ℕ) (l w : List ℕ) → (length l ≡ 0 → ⊥) → wordFrom k l w 0 ≡ wordOf k l
-unfolding wordFrom wordOf pick
-word-start k l w h = simp (ne-eqb _ _ h)
+pub word-start : (k : ℕ) (l w : List ℕ) (n : ℕ) → (length l ≡ 0 → ⊥) → n ≡ length (fields l) → n ≤ length l + 1 → length l ≤ 80 → 81 ≤ length w → WordInv k l w n w 0
+unfolding wordOf wordBefore pick
+word-start k l w n h e f z g =
+    record {
+      inside = omega arith;
+      count = e;
+      few = omega arith;
+      room = g;
+      long = refl;
+      all = simp (ne-eqb _ _ h);
+      before = simp (ne-eqb _ _ h);
+      rest = refl;
+    }
 
-module _ (k : ℕ) (l w : List ℕ) (i : ℕ) (x : Option (List ℕ)) (r : Num) (e : r ≡ below k (field l i)) (n : ℕ) (c : n ≡ length (fields l)) (d : i < n) where
-  h : i < length (fields l)
-  h = omega arith
+-- the bytes where i symbols are read
+left-over : (v w w₀ : List ℕ) (i : ℕ) → take i w ≡ v → drop i w ≡ drop i w₀ → i ≤ length w → w ≡ over v w₀
+left-over v w w₀ i e r h =
+    let z : length v ≡ i = ap length (sym e) ∙ length-take-le i w h in
+    sym (take-append-drop i w) ∙ (λ j. e j ++ r j) ∙ ap (λ n. v ++ drop n w₀) (sym z)
 
-  pub word-bad : r ≡ Bad → wordFrom k l w i ≡ x → wordIn C.Bad w ≡ x
-  unfolding wordFrom wordIn symbolsOf onNum
-  word-bad q p = simp (drop-cons (fields l) i [] h, ← e, q) at p
+module _ (k : ℕ) (l w₀ : List ℕ) (n : ℕ) (w : List ℕ) (i : ℕ) (inv : WordInv k l w₀ n w i) where
+  module _ (r : Num) (e : r ≡ below k (field l i)) (d : i < n) where
+    h : i < length (fields l)
+    h = omega (arith, inv .count)
 
-  pub word-next : (a b : ℕ) → b ≡ a → r ≡ Value a → n ≤ 81 → 81 ≤ length w → wordFrom k l w i ≡ x → wordFrom k l (set w i b) (i + 1) ≡ x
-  unfolding wordFrom symbolsOf onNum
-  word-next a b z q g g′ p =
-      let y : symbolsOf k (take i w ++ (a ∷ [])) (drop (suc i) (fields l)) ≡ x = simp (drop-cons (fields l) i [] h, ← e, q) at p in
-      rw (add-one i, z, take-suc-set w i a (omega arith)) y
+    pub word-bad : r ≡ Bad → (C.Bad, w) ≡ readWord k l w₀
+    unfolding readWord countOf symbolsOf symbolsBefore onNum
+    word-bad q =
+        let a : none ≡ wordOf k l = simp (drop-cons (fields l) i [] h, ← e, q) at (inv .all) in
+        let b : take i w ≡ wordBefore k l = simp (drop-cons (fields l) i [] h, ← e, q) at (inv .before) in
+        λ j. (countOf (a j), left-over (wordBefore k l) w w₀ i b (inv .rest) (omega (arith, inv .few, inv .room)) j)
 
-pub word-end : (k : ℕ) (l w : List ℕ) (i : ℕ) (x : Option (List ℕ)) (n : ℕ) → n ≡ length (fields l) → n ≤ i → i ≤ n → wordFrom k l w i ≡ x → wordIn (C.Of n) w ≡ x
-unfolding wordFrom wordIn symbolsOf
-word-end k l w i x n e h g p =
-    let z : i ≡ n = omega arith in
-    simp (z, drop-of-length-le (fields l) {i = n} (omega arith)) at p
+    pub word-next : (a b : ℕ) → b ≡ a → r ≡ Value a → WordInv k l w₀ n (set w i b) (i + 1)
+    unfolding symbolsOf symbolsBefore onNum
+    word-next a b z q =
+        let y : symbolsOf k (take i w ++ (a ∷ [])) (drop (suc i) (fields l)) ≡ wordOf k l = simp (drop-cons (fields l) i [] h, ← e, q) at (inv .all) in
+        let x : symbolsBefore k (take i w ++ (a ∷ [])) (drop (suc i) (fields l)) ≡ wordBefore k l = simp (drop-cons (fields l) i [] h, ← e, q) at (inv .before) in
+        let g : i < length w = omega (arith, inv .few, inv .room) in
+        record {
+          inside = omega arith;
+          count = inv .count;
+          few = inv .few;
+          room = simp length-set (inv .room);
+          long = length-set w i b ∙ inv .long;
+          all = rw (add-one i, z, take-suc-set w i a g) y;
+          before = rw (add-one i, z, take-suc-set w i a g) x;
+          rest = drop-set-lt (i + 1) w i b (omega arith) ∙ sym (drop-drop 1 i w) ∙ ap (drop 1) (inv .rest) ∙ drop-drop 1 i w₀;
+        }
+
+  pub word-end : n ≤ i → (C.Of n, w) ≡ readWord k l w₀
+  unfolding readWord countOf symbolsOf symbolsBefore
+  word-end g =
+      let z : i ≡ n = omega (arith, inv .inside) in
+      let o : drop i (fields l) ≡ [] = drop-of-length-le (fields l) {i = i} (omega (arith, inv .count)) in
+      let a : some (take i w) ≡ wordOf k l = simp o at (inv .all) in
+      let b : take i w ≡ wordBefore k l = simp o at (inv .before) in
+      let t : i ≤ length w = omega (arith, inv .few, inv .room) in
+      let c : C.Of n ≡ countOf (wordOf k l) = ap C.Of (sym z ∙ sym (length-take-le i w t)) ∙ ap countOf a in
+      λ j. (c j, left-over (wordBefore k l) w w₀ i b (inv .rest) t j)
 
 -- ---- the calls
 

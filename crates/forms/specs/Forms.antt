@@ -88,6 +88,15 @@ symbolsOf k w (f ∷ fs) = onNum (below k f) none λ a. symbolsOf k (w ++ (a ∷
 unfoldable pub wordOf : (k : ℕ) → List ℕ → Option (List ℕ)
 wordOf k l = pick (eqb (length l) 0) (some []) (symbolsOf k [] (fields l))
 
+-- w, and the symbols of the fields that follow it, up to the first that is bad
+unfoldable pub symbolsBefore : (k : ℕ) (w : List ℕ) → List (List ℕ) → List ℕ
+symbolsBefore k w [] = w
+symbolsBefore k w (f ∷ fs) = onNum (below k f) w λ a. symbolsBefore k (w ++ (a ∷ [])) fs
+
+-- what a word line says up to its first bad field: the whole word where none is bad
+unfoldable pub wordBefore : (k : ℕ) → List ℕ → List ℕ
+wordBefore k l = pick (eqb (length l) 0) [] (symbolsBefore k [] (fields l))
+
 -- call number
 unfoldable pub callLine : List ℕ → Option Call
 callLine l =

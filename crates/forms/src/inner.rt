@@ -11,8 +11,8 @@ ghost use lib.Seq.{paste};
 ghost use Rattle.laws.specs.Choice.{pick};
 ghost use Rattle.machine.specs.declared.Entry.the-variants.{Defined};
 ghost use Rattle.tables.specs.WellFormed.{entryBytes};
-ghost use Rattle.forms.specs.Forms.{wordOf, place, given, define, actionOf};
-ghost use Rattle.forms.specs.Answers.{wordIn, CountOk, Small, RuleOk};
+ghost use Rattle.forms.specs.Forms.{place, given, define, actionOf};
+ghost use Rattle.forms.specs.Answers.{readWord, CountOk, Small, RuleOk};
 
 // Defines an entry, unless it was given before; answers whether it was.
 pub fn give(m: Machine, e: Rule, table: &mut [u8]) -> bool
@@ -48,10 +48,10 @@ fn store(table: &mut [u8], at: usize, e: Rule)
     text::inner::put(table, at, &b);
 }
 
-// Reads the word line's symbols into the first places of `word`.
+// Reads the word line's symbols into the first places of `word`, up to the first bad one. The other places are left.
 pub fn read_word(k: u64, l: &[u8], word: &mut [u8]) -> Count
     requires { ⌜ (k ≤ 256) × (length (now l) ≤ 80) × (81 ≤ length (now word)) ⌝ }
-    ensures { λ r. ⌜ (wordIn r (now (word .exit)) ≡ wordOf k (now (l .entry))) × CountOk r ⌝ }
+    ensures { λ r. ⌜ ((r, now (word .exit)) ≡ readWord k (now (l .entry)) (now (word .entry))) × CountOk r ⌝ }
 {
     if l.len() == 0 {
         return Count::Of(0);

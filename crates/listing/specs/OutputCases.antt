@@ -31,8 +31,9 @@ use Rattle.text.specs.PrintCases.{wrote-then, wrote-put}
 use Rattle.reader.specs.declared.Reader.{Reader}
 use Rattle.reader.specs.declared.Parsed.the-variants as P
 use Rattle.reader.specs.declared.Contents.{Contents}
-use Rattle.reader.specs.Listing.{listing}
-use Rattle.reader.specs.Reading.{sofar, listingOf, listingIn}
+use Rattle.reader.specs.Contents.{contentsOf}
+use Rattle.reader.specs.Reading.{sofar}
+use Rattle.reader.specs.Asked.{contents-bad, contents-asked}
 use Rattle.rows.specs.Rows.{rowsOf, rowLines, refusedLine, namesLine, output}
 use Rattle.listing.specs.declared.Listed.{Listed}
 use Rattle.listing.specs.declared.Listed.the-variants as Did
@@ -92,14 +93,14 @@ module _ (m : Machine) (s word : List ℕ) (lent : Lent) (store : List ℕ) (cal
 
 -- ---- what was read
 
-module _ (input : List ℕ) (g : Contents) (says : listingIn g ≡ listing input) {o o′ : List ℕ} {r : ℕ} where
+module _ (input : List ℕ) (g : Contents) (says : g ≡ contentsOf input) {o o′ : List ℕ} {r : ℕ} where
   pub read-bad : (n : ℕ) → g .parsed ≡ P.Refused n → Wrote o 0 (refusedLine n) o′ r × (r ≤ 0 + 29) → Wrote o 0 (answerTo input) o′ r
-  unfolding answerTo answerFor listingIn listingOf
-  read-bad n z q = rw (← says, z) (q .0)
+  unfolding answerTo answerFor
+  read-bad n z q = rw (contents-bad input g says n z) (q .0)
 
   pub read-asked : (x : Reader) → g .parsed ≡ P.Asked x → Wrote o 0 (answerOf (sofar x (g .table) (g .word) (g .calls))) o′ r → Wrote o 0 (answerTo input) o′ r
-  unfolding answerTo answerFor listingIn listingOf
-  read-asked x z q = rw (← says, z) q
+  unfolding answerTo answerFor
+  read-asked x z q = rw (contents-asked input g says x z) q
 
 -- ---- the whole
 

@@ -11,10 +11,10 @@ use Rattle.sim_refines.specs.QuestionFacts.{count-is}
 use Rattle.times.specs.Timeline.{answered, Call}
 use Rattle.times.specs.Kind.{WorldOf, callOn}
 use Rattle.sim_engine.specs.Kind.{plainKind}
-use Rattle.timeline.specs.Statement.{afterOn, heldOn, WholeList}
+use Rattle.timeline.specs.Statement.{afterOn, heldOn, FreshList}
 use Rattle.timeline.specs.Third.{demand}
 use Rattle.sim_laws.specs.Family.{plainFamily}
-use Rattle.sim_laws.specs.Instance.{plain-instances}
+use Rattle.sim_laws.specs.Instance.{plain-instances, plain-begins}
 use Rattle.reader.specs.Listing.{Sofar, tableIn, listing, asked}
 use Rattle.reader.specs.Asked.{asked-kept}
 use Rattle.rows.specs.Rows.{Row, row, rowOf, rowsOf, rowsOn, output}
@@ -49,7 +49,7 @@ module _ (s : List ℕ) (x : Sofar) (e : listing s ≡ asked x) where
     -- the output is the names line, and a row for each call
     pub rows : answerTo s ≡ output (rowsOf m t v (x .calls))
     -- the third demand, of these calls on this timeline: where the engine stands, what each call answers, which are refused, never
-    pub third : WholeList plainFamily m t (x .word) (asked-begins s x e .engine) v (x .calls)
+    pub third : FreshList plainFamily m t (x .word) (asked-begins s x e .engine) v (x .calls)
     -- in the place of each call stands the row of its result
     pub each : (before rest : List Call) (c : Call) → before ++ (c ∷ rest) ≡ x .calls
         → rowsOf m t v (x .calls)
@@ -66,7 +66,7 @@ module _ (s : List ℕ) (x : Sofar) (e : listing s ≡ asked x) where
   unfolding rowOf
   listing-told = record {
     rows = asked-rows s x e;
-    third = demand plainFamily plain-instances m t (x .word) (kept-bytes x (asked-kept s x e)) blankCells (asked-begins s x e .engine) (asked-begins s x e .created) 8 16 blankStore v (asked-begins s x e .begun) (x .calls);
+    third = demand plainFamily plain-instances plain-begins m t (x .word) (kept-bytes x (asked-kept s x e)) blankCells (asked-begins s x e .engine) (asked-begins s x e .created) 8 16 blankStore v (asked-begins s x e .begun) (x .calls);
     each = λ before rest c q. subst (λ cs. rowsOf m t v cs ≡ rowsOf m t v before ++ (rowAt m t (afterOn plainFamily m t v before) c ∷ rowsOf m t (callOn plainKind m t (afterOn plainFamily m t v before) c .1) rest)) q (rows-at m t v before rest c);
     holds = λ u o. refl;
     score = λ u. count-is (held (u .engine .sim .t0) (u .engine .c0));

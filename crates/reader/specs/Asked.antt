@@ -1,13 +1,13 @@
 -- What an accepted listing asks: its table and its word pass the checks of every operation that takes them. Assumes nothing.
-use Prim.Native.Nat.{ℕ, suc, zero, _+_, _*_, _^_, _≤_, _<_}
+use Prim.Native.Nat.{ℕ, suc, zero, _+_, _*_, _-_, _^_, _≤_, _<_}
 use mathlib.Core.Path.{_≡_, refl, sym, ap, _∙_, subst}
-use mathlib.Core.List.{List, [], _∷_}
+use mathlib.Core.List.{List, [], _∷_, _++_}
 use mathlib.Core.Option.{Option, none, some}
 use native.Mathlib.Omega.{arith}
 use native.Mathlib.Nat.{pow-zero, pow-suc}
 use lib.Dec.{leb, ltb}
-use lib.ListN.{length, getD, length-append, length-replicate, length-take}
-use lib.Seq.{getD-take, length-take-le}
+use lib.ListN.{length, getD, replicate, length-append, length-replicate, length-take}
+use lib.Seq.{getD-take, length-take-le, take-append-seam}
 use borrow.Author.Tests.{leb-true, ltb-true, lt-ltb, le-leb}
 use Rattle.laws.specs.Tests.{pick-true, pick-cases}
 use Rattle.laws.specs.ScanFacts.{clean-none}
@@ -19,8 +19,11 @@ use Rattle.machine.specs.Check.{answerAt, tableCheck}
 use Rattle.machine.specs.Word.{symbolIn, symbolsCheck, wordCheck}
 use Rattle.tables.specs.WellFormed.{LaidOut, WellFormed}
 use Rattle.tables.specs.CheckExact.{table-check-accepts}
+use Rattle.times.specs.Timeline.{Call, seek, forward, back, callFor}
 use Rattle.text.specs.Pieces.{sameList, lines}
+use Rattle.text.specs.Chain.{pick-inv}
 use Rattle.forms.specs.Forms.{firstLine, columnsLine, wordLine, headingLine, onSome, machineLine, entryLine, wordOf, callLine, given}
+use Rattle.forms.specs.Answers.{callsOf}
 use Rattle.forms.specs.FormFacts.{Good, good-small, machine-good, rule-ok}
 use Rattle.forms.specs.FormCases.{length-callsOf}
 use Rattle.reader.specs.declared.Due.{Due}
@@ -29,7 +32,8 @@ use Rattle.reader.specs.declared.Reader.{Reader}
 use Rattle.reader.specs.declared.Contents.{Contents}
 use Rattle.reader.specs.declared.Parsed.the-variants as P
 use Rattle.reader.specs.Listing.{Sofar, tableIn, nothing, Next, on, bad, line, Listing, refused, asked, atEnd, onNext, readFrom, listing}
-use Rattle.reader.specs.Reading.{sofar, listingOf, listingIn, ReaderOk}
+use Rattle.reader.specs.Contents.{brokenOff, readUpTo, lastRead, filled, kindOf, sizeOf, numbersOf, placesOf, readerOf, parsedOf, contentsOf}
+use Rattle.reader.specs.Reading.{sofar, ReaderOk}
 use Rattle.reader.specs.WordFacts.{AllBelow, word-good}
 use Rattle.reader.specs.TableFacts.{Laid, laid-blank, define-length, laid-define}
 
@@ -184,14 +188,95 @@ module _ (s : List ℕ) (x : Sofar) (e : listing s ≡ asked x) where
       ∙ ap (answerAt Why.WordSymbol) (clean-none (symbolIn (x .machine .symbols) (x .word)) (length (x .word)) 0
       (λ i a b. lt-ltb (getD (x .word) i 0) (x .machine .symbols) (k .in-range i (omega arith))))
 
--- ---- the ranges of what `read` hands back
+-- ---- what `read` hands back, taken apart
 
-pub contents-ok : (s : List ℕ) (r : Contents) (x : Reader) → listingIn r ≡ listing s → r .parsed ≡ P.Asked x → length (r .word) ≡ 81 → ReaderOk x
-unfolding listingIn listingOf sofar
-contents-ok s r x e z h =
-    let k : Kept (sofar x (r .table) (r .word) (r .calls)) = asked-kept s _ (sym e ∙ ap (λ p. listingOf p (r .table) (r .word) (r .calls)) z) in
-    record {
-      small = good-small (k .good);
-      word-ok = omega (arith, k .short, length-take (x .word) (r .word));
-      calls-ok = omega (arith, k .few-calls, length-callsOf (x .calls) (r .calls));
-    }
+no-asked : {n : ℕ} {x : Sofar} → refused n ≡ asked x → ⊥
+no-asked p = let z : _≡_ {A = ℕ} 0 1 = cc in omega arith
+
+-- an input without a bad line is read to its end
+end-read : (n : ℕ) (d : Due) (x y : Sofar) → atEnd n d x ≡ asked y → x ≡ y
+unfolding atEnd
+end-read n Names x y p = absurd (no-asked p)
+end-read n Numbers x y p = absurd (no-asked p)
+end-read n Columns x y p = absurd (no-asked p)
+end-read n Entries x y p = absurd (no-asked p)
+end-read n Word x y p = absurd (no-asked p)
+end-read n Heading x y p = absurd (no-asked p)
+end-read n Calls x y p = cc
+
+up-to-end : (n : ℕ) (d : Due) (x : Sofar) (ls : List (List ℕ)) (y : Sofar) → readFrom n d x ls ≡ asked y → readUpTo d x ls ≡ y
+unfolding readFrom readUpTo onNext
+up-to-end n d x [] y p = end-read n d x y p
+up-to-end n d x (l ∷ ls) y p =
+    let q = pick-inv (leb (length l) 80) _ no-asked p in
+    pick-true (leb (length l) 80) _ x (q .0) ∙ by (λ d′ x′ e. up-to-end (n + 1) d′ x′ ls y e) (line d x l) (q .1)
+  where
+    by : ((d′ : Due) (x′ : Sofar) → readFrom (n + 1) d′ x′ ls ≡ asked y → readUpTo d′ x′ ls ≡ y)
+        → (z : Next) → onNext z (refused n) (λ d′ x′. readFrom (n + 1) d′ x′ ls) ≡ asked y → onNext z (brokenOff d x l) (λ d′ x′. readUpTo d′ x′ ls) ≡ y
+    by rest (on d′ x′) e = rest d′ x′ e
+    by rest bad e = absurd (no-asked e)
+
+call-first : (n a b : ℕ) (xs : List ℕ) → callsOf (suc n) (a ∷ b ∷ xs) ≡ callFor a b ∷ callsOf n xs
+unfolding callsOf
+call-first zero a b xs = refl
+call-first (suc n) a b xs =
+    let z : 2 * suc n ≡ suc (suc (2 * n)) = omega arith in
+    let y : 2 * suc n + 1 ≡ suc (suc (2 * n + 1)) = omega arith in
+    let r : callsOf (suc n) (a ∷ b ∷ xs) ≡ callFor a b ∷ callsOf n xs = call-first n a b xs in
+    λ i. r i ++ (callFor (getD (a ∷ b ∷ xs) (z i) 0) (getD (a ∷ b ∷ xs) (y i) 0) ∷ [])
+
+call-back : (c : Call) → callFor (kindOf c) (sizeOf c) ≡ c
+call-back (seek n) = refl
+call-back (forward n) = refl
+call-back (back n) = refl
+
+calls-back : (cs : List Call) (zs : List ℕ) → callsOf (length cs) (numbersOf cs ++ zs) ≡ cs
+unfolding callsOf numbersOf
+calls-back [] zs = refl
+calls-back (c ∷ cs) zs = call-first (length cs) (kindOf c) (sizeOf c) (numbersOf cs ++ zs) ∙ (λ i. call-back c i ∷ calls-back cs zs i)
+
+-- what is asked stands in the arrays
+asked-back : (x : Sofar) → sofar (readerOf x) (placesOf x .0) (placesOf x .1) (placesOf x .2) ≡ x
+unfolding sofar placesOf filled
+asked-back x = λ i. record {
+  machine = x .machine;
+  table = x .table;
+  word = take-append-seam (x .word) (replicate (81 - length (x .word)) 0) i;
+  calls = calls-back (x .calls) (replicate (128 - length (numbersOf (x .calls))) 0) i;
+}
+
+module _ (s : List ℕ) (r : Contents) (e : r ≡ contentsOf s) where
+  parsed-is : r .parsed ≡ parsedOf (listing s)
+  unfolding contentsOf
+  parsed-is = ap (λ (g : Contents). g .parsed) e
+
+  pub contents-bad : (n : ℕ) → r .parsed ≡ P.Refused n → listing s ≡ refused n
+  unfolding parsedOf
+  contents-bad n z = by (listing s) (sym parsed-is ∙ z)
+    where
+      by : (l : Listing) → parsedOf l ≡ P.Refused n → l ≡ refused n
+      by (refused k) p = cc
+      by (asked x) p = let y : _≡_ {A = ℕ} 0 1 = cc in absurd (omega arith)
+
+  pub contents-asked : (x : Reader) → r .parsed ≡ P.Asked x → listing s ≡ asked (sofar x (r .table) (r .word) (r .calls))
+  unfolding contentsOf lastRead listing parsedOf
+  contents-asked x z = by (listing s) refl (sym parsed-is ∙ z)
+    where
+      by : (l : Listing) → listing s ≡ l → parsedOf l ≡ P.Asked x → listing s ≡ asked (sofar x (r .table) (r .word) (r .calls))
+      by (refused n) q p = let y : _≡_ {A = ℕ} 0 1 = cc in absurd (omega arith)
+      by (asked y) q p =
+          let k : readerOf y ≡ x = cc in
+          let u : lastRead s ≡ y = up-to-end 1 Names nothing (lines s) y q in
+          q ∙ ap asked (sym (asked-back y))
+          ∙ (λ i. asked (sofar (k i) (placesOf (sym u i) .0) (placesOf (sym u i) .1) (placesOf (sym u i) .2)))
+          ∙ (λ i. asked (sofar x (sym e i .table) (sym e i .word) (sym e i .calls)))
+
+  pub contents-ok : (x : Reader) → r .parsed ≡ P.Asked x → length (r .word) ≡ 81 → ReaderOk x
+  unfolding sofar
+  contents-ok x z h =
+      let k : Kept (sofar x (r .table) (r .word) (r .calls)) = asked-kept s _ (contents-asked x z) in
+      record {
+        small = good-small (k .good);
+        word-ok = omega (arith, k .short, length-take (x .word) (r .word));
+        calls-ok = omega (arith, k .few-calls, length-callsOf (x .calls) (r .calls));
+      }

@@ -1,8 +1,10 @@
 pub mod Listing
+pub mod Contents
 pub mod Reading
-pub mod TurnCases
-pub mod ParseCases
 pub mod WordFacts
+pub mod TurnCases
+pub mod LeftFacts
+pub mod ParseCases
 pub mod TableFacts
 pub mod Asked
 pub mod FirstBytes

@@ -14,7 +14,7 @@ use Rattle.text.specs.Numbers.{number, onNum, below}
 use Rattle.text.specs.PieceCases.{some-field}
 use Rattle.text.specs.Chain.{no-value, num-inv}
 use Rattle.text.specs.declared.Num.the-variants.{Value}
-use Rattle.forms.specs.Forms.{symbolsOf, wordOf}
+use Rattle.forms.specs.Forms.{symbolsOf, wordOf, symbolsBefore, wordBefore}
 use Rattle.forms.specs.FormFacts.{no-some, below-lt}
 
 -- ---- a line's bytes are those of its fields and one space less than it has fields
@@ -86,3 +86,21 @@ word-good k l w h p =
     let q : symbolsOf k [] (fields l) ≡ some w = sym (pick-false (eqb (length l) 0) (some []) (symbolsOf k [] (fields l)) t) ∙ p in
     let r : Spelled k [] (fields l) w = spelled k [] (fields l) w (λ i z. absurd (omega arith)) q in
     (r .in-range, omega (arith, r .each, r .room, sizes-fields 32 l)))
+
+-- ---- a word line without a bad field is read whole
+
+symbols-whole : (k : ℕ) (w : List ℕ) (fs : List (List ℕ)) (v : List ℕ) → symbolsOf k w fs ≡ some v → symbolsBefore k w fs ≡ v
+unfolding symbolsOf symbolsBefore onNum
+symbols-whole k w [] v p = cc
+symbols-whole k w (f ∷ fs) v p =
+    let i = num-inv (below k f) _ no-some p in
+    rw (i .1) (symbols-whole k (w ++ (i .0 ∷ [])) fs v (i .2))
+
+pub word-whole : (k : ℕ) (l v : List ℕ) → wordOf k l ≡ some v → wordBefore k l ≡ v
+unfolding wordOf wordBefore
+word-whole k l v p =
+    by-test (eqb (length l) 0)
+    (λ t. pick-true (eqb (length l) 0) [] (symbolsBefore k [] (fields l)) t ∙ cc (pick-true (eqb (length l) 0) (some []) (symbolsOf k [] (fields l)) t))
+    (λ t.
+    pick-false (eqb (length l) 0) [] (symbolsBefore k [] (fields l)) t
+    ∙ symbols-whole k [] (fields l) v (sym (pick-false (eqb (length l) 0) (some []) (symbolsOf k [] (fields l)) t) ∙ p))

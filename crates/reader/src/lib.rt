@@ -1,8 +1,7 @@
 // The reader of a listing: from bytes to a machine, its table, a word and calls, or to the first bad line.
 use machine::Machine;
 ghost use mathlib.Core.Path.{_≡_};
-ghost use Rattle.reader.specs.Listing.{listing};
-ghost use Rattle.reader.specs.Reading.{listingIn};
+ghost use Rattle.reader.specs.Contents.{contentsOf};
 
 mod lines;
 mod turns;
@@ -39,7 +38,7 @@ pub enum Parsed {
 }
 
 // What was read of a whole input: what it asks, with its table, and with its word and its calls in the first places of
-// theirs. The other places, and all places after a bad line, say nothing.
+// theirs. The other places hold 0. After a bad line the arrays hold what was read before it.
 pub struct Contents {
     pub parsed: Parsed,
     pub table: [u8; 4096],
@@ -49,7 +48,7 @@ pub struct Contents {
 
 // Reads a whole listing. The arrays go out by value, so that the caller lends nothing but the input.
 pub fn read(input: &[u8]) -> Contents
-    ensures { λ r. ⌜ listingIn r ≡ listing (now (input .entry)) ⌝ }
+    ensures { λ r. ⌜ r ≡ contentsOf (now (input .entry)) ⌝ }
 {
     let mut table: [u8; 4096] = [0; 4096];
     let mut word: [u8; 81] = [0; 81];

@@ -10,12 +10,13 @@ ghost use mathlib.Core.List.{List};
 ghost use Prim.Native.Nat.{ℕ, _+_, _≤_, min};
 ghost use lib.ListN.{length, replicate};
 ghost use Rattle.reader.specs.Listing.{line, atEnd, listing};
-ghost use Rattle.reader.specs.Reading.{sofar, nextOf, listingOf, ReaderOk, TurnOk, LentOk};
+ghost use Rattle.reader.specs.Contents.{lastRead, placesOf, parsedOf};
+ghost use Rattle.reader.specs.Reading.{sofar, nextOf, Leaves, ReaderOk, TurnOk, LentOk};
 
-// Reads the input line by line. The table is lent blank.
+// Reads the input line by line. The slices are lent blank.
 pub(crate) fn parse(input: &[u8], table: &mut [u8], word: &mut [u8], calls: &mut [u64]) -> Parsed
-    requires { ⌜ LentOk (length (now table)) (length (now word)) (length (now calls)) × (now table ≡ replicate 4096 0) ⌝ }
-    ensures { λ r. ⌜ listingOf r (now (table .exit)) (now (word .exit)) (now (calls .exit)) ≡ listing (now (input .entry)) ⌝ }
+    requires { ⌜ LentOk (length (now table)) (length (now word)) (length (now calls)) × (now table ≡ replicate 4096 0) × (now word ≡ replicate 81 0) × (now calls ≡ replicate 128 0) ⌝ }
+    ensures { λ r. ⌜ (r ≡ parsedOf (listing (now (input .entry)))) × ((now (table .exit), now (word .exit), now (calls .exit)) ≡ placesOf (lastRead (now (input .entry)))) ⌝ }
 {
     let mut x = Reader {
         due: Due::Names,
@@ -49,7 +50,7 @@ pub(crate) fn parse(input: &[u8], table: &mut [u8], word: &mut [u8], calls: &mut
 // What a line says, by which line is due.
 fn take_line(x: Reader, l: &[u8], table: &mut [u8], word: &mut [u8], calls: &mut [u64]) -> Turn
     requires { ⌜ ReaderOk x × (length (now l) ≤ 80) × LentOk (length (now table)) (length (now word)) (length (now calls)) ⌝ }
-    ensures { λ r. ⌜ (nextOf r (now (table .exit)) (now (word .exit)) (now (calls .exit)) ≡ line (x .due) (sofar x (now (table .entry)) (now (word .entry)) (now (calls .entry))) (now (l .entry))) × TurnOk r ⌝ }
+    ensures { λ r. ⌜ (nextOf r (now (table .exit)) (now (word .exit)) (now (calls .exit)) ≡ line (x .due) (sofar x (now (table .entry)) (now (word .entry)) (now (calls .entry))) (now (l .entry))) × TurnOk r × Leaves (x .due) r x (now (l .entry)) (now (table .entry)) (now (word .entry)) (now (calls .entry)) (now (table .exit)) (now (word .exit)) (now (calls .exit)) ⌝ }
 {
     let due = x.due;
     match due {
@@ -89,7 +90,7 @@ fn after(e: usize, len: usize) -> usize
 
 // Where the input ends: only call lines may be missing.
 fn finish(x: Reader, n: u64) -> Parsed
-    ensures { λ r. ⌜ ((t w k : List ℕ) → listingOf r t w k ≡ atEnd n (x .due) (sofar x t w k)) ⌝ }
+    ensures { λ r. ⌜ ((t w k : List ℕ) → x .word ≤ length w → r ≡ parsedOf (atEnd n (x .due) (sofar x t w k))) ⌝ }
 {
     let due = x.due;
     match due {

@@ -13,7 +13,9 @@ ghost use Prim.Native.Nat.{ℕ, _≤_};
 ghost use lib.ListN.{length};
 ghost use Rattle.reader.specs.declared.Due.the-variants.{Names, Numbers, Columns, Entries, Word, Heading, Calls};
 ghost use Rattle.reader.specs.Listing.{line};
-ghost use Rattle.reader.specs.Reading.{sofar, nextOf, ReaderOk, TurnOk};
+ghost use Rattle.forms.specs.Forms.{wordBefore};
+ghost use Rattle.forms.specs.Answers.{over};
+ghost use Rattle.reader.specs.Reading.{sofar, nextOf, TableLeft, CallsLeft, ReaderOk, TurnOk};
 
 pub(crate) fn names_turn(x: Reader, l: &[u8]) -> Turn
     requires { ⌜ ReaderOk x ⌝ }
@@ -65,7 +67,7 @@ pub(crate) fn columns_turn(x: Reader, l: &[u8]) -> Turn
 
 pub(crate) fn entries_turn(x: Reader, l: &[u8], table: &mut [u8]) -> Turn
     requires { ⌜ ReaderOk x × (length (now table) ≡ 4096) ⌝ }
-    ensures { λ r. ⌜ ((w k : List ℕ) → nextOf r (now (table .exit)) w k ≡ line Entries (sofar x (now (table .entry)) w k) (now (l .entry))) × TurnOk r ⌝ }
+    ensures { λ r. ⌜ ((w k : List ℕ) → nextOf r (now (table .exit)) w k ≡ line Entries (sofar x (now (table .entry)) w k) (now (l .entry))) × TurnOk r × TableLeft r (now (table .entry)) (now (table .exit)) ⌝ }
 {
     let machine = x.machine;
     if forms::is_word(l) {
@@ -93,7 +95,7 @@ pub(crate) fn entries_turn(x: Reader, l: &[u8], table: &mut [u8]) -> Turn
 
 pub(crate) fn word_turn(x: Reader, l: &[u8], word: &mut [u8]) -> Turn
     requires { ⌜ ReaderOk x × (length (now l) ≤ 80) × (81 ≤ length (now word)) ⌝ }
-    ensures { λ r. ⌜ ((t k : List ℕ) → nextOf r t (now (word .exit)) k ≡ line Word (sofar x t (now (word .entry)) k) (now (l .entry))) × TurnOk r ⌝ }
+    ensures { λ r. ⌜ ((t k : List ℕ) → nextOf r t (now (word .exit)) k ≡ line Word (sofar x t (now (word .entry)) k) (now (l .entry))) × TurnOk r × (now (word .exit) ≡ over (wordBefore (x .machine .symbols) (now (l .entry))) (now (word .entry))) ⌝ }
 {
     let machine = x.machine;
     let f = forms::inner::read_word(machine.symbols, l, word);
@@ -126,7 +128,7 @@ pub(crate) fn heading_turn(x: Reader, l: &[u8]) -> Turn
 
 pub(crate) fn calls_turn(x: Reader, l: &[u8], calls: &mut [u64]) -> Turn
     requires { ⌜ ReaderOk x × (128 ≤ length (now calls)) ⌝ }
-    ensures { λ r. ⌜ ((t w : List ℕ) → nextOf r t w (now (calls .exit)) ≡ line Calls (sofar x t w (now (calls .entry))) (now (l .entry))) × TurnOk r ⌝ }
+    ensures { λ r. ⌜ ((t w : List ℕ) → nextOf r t w (now (calls .exit)) ≡ line Calls (sofar x t w (now (calls .entry))) (now (l .entry))) × TurnOk r × CallsLeft r (x .calls) (now (l .entry)) (now (calls .entry)) (now (calls .exit)) ⌝ }
 {
     let machine = x.machine;
     let n = x.calls;

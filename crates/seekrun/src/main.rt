@@ -1,16 +1,62 @@
 // Reads a listing from standard input, and writes its rows to standard output. Of a longer input the first 65,536 bytes
-// are read: they are answered as the whole is (`answer-first`, in the specs of listing).
+// are read: they are answered as the whole is (`answer-first`, in the specs of listing). Where a read fails, nothing is
+// written to standard output, and one line to standard error; where a write fails, one line to standard error.
 use listing::Listed;
+ghost use Rattle.seekrun.specs.Input.{InputIn};
+
+// How many bytes were read, or that a read failed.
+enum Input {
+    Read(usize),
+    Failed,
+}
+
+// Reads standard input until it ends or buf is full.
+fn read_input(buf: &mut [u8]) -> Input
+    ensures { λ r. ⌜ InputIn r (now (buf .exit)) ⌝ }
+{
+    let mut at: usize = 0;
+    while at < buf.len() {
+        let got = libc::read(0, &mut buf[at..]);
+        if got < 0 {
+            return Input::Failed;
+        }
+        let n = io::count(got, &buf[at..]);
+        if n == 0 {
+            return Input::Read(at);
+        }
+        at += n;
+    }
+    Input::Read(at)
+}
+
+// Writes the answer, or that it cannot be written.
+fn write_output(answer: &[u8]) {
+    if !io::write_all(1, answer) {
+        io::write_all(2, b"seekrun: standard output cannot be written\n");
+    }
+}
+
+// What the input's listing answers.
+fn answer(input: &[u8]) {
+    let mut output = io::large_buffer();
+    let listed = listing::list(input, &mut output);
+    match listed {
+        Listed::Printed(m) => {
+            write_output(&output[..m]);
+        }
+        Listed::Refused(_) => {}
+    }
+}
 
 fn main() {
     let mut input = io::large_buffer();
-    let n = io::read_full(0, &mut input);
-    let mut output = io::large_buffer();
-    let listed = listing::list(&input[..n], &mut output);
-    match listed {
-        Listed::Printed(m) => {
-            io::write_all(1, &output[..m]);
+    let read = read_input(&mut input);
+    match read {
+        Input::Read(n) => {
+            answer(&input[..n]);
         }
-        Listed::Refused(_) => {}
+        Input::Failed => {
+            io::write_all(2, b"seekrun: standard input cannot be read\n");
+        }
     }
 }

@@ -1,6 +1,6 @@
 use mathlib.Core.Path.{refl}
 use borrow.Author.Needs.{needs}
-use Rattle.reader.specs.Reading.{listingIn}
+use Rattle.reader.specs.ParseCases.{read-all}
 use Rattle.reader.proofs.read.Statement.{statement}
 use Rattle.reader.proofs.read.Tie as tie
 
@@ -14,11 +14,10 @@ slice-aggregate-parse-3 : tie.Need-slice-aggregate-parse-3
 slice-aggregate-parse-3 c = search needs
 
 parse-requires : tie.Need-parse-requires
-parse-requires c κs = (search needs, refl)
+parse-requires c κs = (search needs, refl, refl, refl)
 
 returns : tie.Need-returns
-unfolding listingIn
-returns c = c .before .before .before .parse .ensures
+returns c = read-all _ _ _ _ _ (c .before .before .before .parse .ensures)
 
 pub read-spec : {M : Type 1} → statement M
 read-spec = tie.close (tie.spec slice-aggregate-parse slice-aggregate-parse-2 slice-aggregate-parse-3 parse-requires returns)

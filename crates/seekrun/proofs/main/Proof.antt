@@ -1,6 +1,4 @@
-use mathlib.Core.Path.{sym}
-use lib.Seq.{length-take-le}
-use Rattle.listing.specs.OutputCases.{printed-in}
+use Rattle.seekrun.specs.InputCases.{read-in, read-part}
 use borrow.Author.Needs.{needs}
 use Rattle.seekrun.proofs.main.Statement.{statement}
 use Rattle.seekrun.proofs.main.Tie as tie
@@ -8,41 +6,32 @@ use Rattle.seekrun.proofs.main.Tie as tie
 large-buffer-requires : tie.Need-large-buffer-requires
 large-buffer-requires c κs = search needs
 
-slice-aggregate-read-full : tie.Need-slice-aggregate-read-full
-slice-aggregate-read-full c = search needs
+slice-aggregate-read-input : tie.Need-slice-aggregate-read-input
+slice-aggregate-read-input c = search needs
 
-read-full-requires : tie.Need-read-full-requires
-read-full-requires c κs = search needs
+read-input-requires : tie.Need-read-input-requires
+read-input-requires c κs = search needs
 
-large-buffer-requires-2 : tie.Need-large-buffer-requires-2
-large-buffer-requires-2 c κs = search needs
+enum-known-read : tie.Need-enum-known-read
+enum-known-read c = search needs
 
 array-share-prefix-input : tie.Need-array-share-prefix-input
-array-share-prefix-input c = search needs
+array-share-prefix-input c = read-in _ _ _ (c .before .read .given .1) (c .before .before .before .before .read-input .ensures)
 
-slice-aggregate-list : tie.Need-slice-aggregate-list
-slice-aggregate-list c = search needs
+slice-aggregate-answer : tie.Need-slice-aggregate-answer
+slice-aggregate-answer c = read-part _ _ _ (c .before .before .read .given .1) (c .before .before .before .before .before .read-input .ensures)
 
-slice-aggregate-list-2 : tie.Need-slice-aggregate-list-2
-slice-aggregate-list-2 c = search needs
-
-list-requires : tie.Need-list-requires
-list-requires c κs = search needs
-
-enum-known-listed : tie.Need-enum-known-listed
-enum-known-listed c = search needs
-
-array-share-prefix-output : tie.Need-array-share-prefix-output
-array-share-prefix-output c = printed-in _ _ _ (c .before .listed .given .1) (c .before .before .before .before .list .ensures .1)
-
-slice-aggregate-write-all : tie.Need-slice-aggregate-write-all
-slice-aggregate-write-all c = sym (length-take-le _ _ (printed-in _ _ _ (c .before .before .listed .given .1) (c .before .before .before .before .before .list .ensures .1)))
-
-write-all-requires : tie.Need-write-all-requires
-write-all-requires c κs = search needs
+answer-requires : tie.Need-answer-requires
+answer-requires c κs = search needs
 
 enum-told : tie.Need-enum-told
 enum-told c = search needs
+
+slice-aggregate-write-all : tie.Need-slice-aggregate-write-all
+slice-aggregate-write-all c = search needs
+
+write-all-requires : tie.Need-write-all-requires
+write-all-requires c κs = search needs
 
 returns : tie.Need-returns
 returns c = search needs
@@ -55,17 +44,14 @@ main-spec =
     tie.close
     (tie.spec
     large-buffer-requires
-    slice-aggregate-read-full
-    read-full-requires
-    large-buffer-requires-2
+    slice-aggregate-read-input
+    read-input-requires
+    enum-known-read
     array-share-prefix-input
-    slice-aggregate-list
-    slice-aggregate-list-2
-    list-requires
-    enum-known-listed
-    array-share-prefix-output
+    slice-aggregate-answer
+    answer-requires
+    enum-told
     slice-aggregate-write-all
     write-all-requires
-    enum-told
     returns
     returns-2)

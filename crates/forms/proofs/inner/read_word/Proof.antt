@@ -1,16 +1,11 @@
-use mathlib.Core.Path.{_≡_}
-use Prim.Native.Nat.{_≤_, _-_}
+use Prim.Native.Nat.{_-_}
 use borrow.Author.Needs.{needs}
-use lib.ListN.{length, length-set}
-use Rattle.forms.specs.FormCases.{below-256, wordFrom, word-none, word-start, word-bad, word-next, word-end}
-use Rattle.forms.specs.Forms.{wordOf}
-use Rattle.text.specs.Pieces.{fields}
+use Rattle.forms.specs.FormCases.{WordInv, below-256, word-none, word-start, word-bad, word-next, word-end}
 use Rattle.forms.proofs.inner.read_word.Statement.{statement}
 use Rattle.forms.proofs.inner.read_word.Tie as tie
 
 abbrev Inv-loop : tie.InvT-loop
-Inv-loop k l word₀ n i₀ word i =
-    (i ≤ n) × (n ≡ length (fields l)) × (n ≤ 81) × (81 ≤ length word) × (length word ≡ length word₀) × (wordFrom k l word i ≡ wordOf k l)
+Inv-loop k l word₀ n i₀ word i = WordInv k l word₀ n word i
 
 abbrev μ-loop : tie.MeasureT-loop
 μ-loop k l word₀ n i₀ word i = n - i
@@ -52,7 +47,7 @@ loop-less : tie.Need-loop-less Inv-loop μ-loop
 loop-less c = search needs
 
 loop-again : tie.Need-loop-again Inv-loop μ-loop
-loop-again c = search (needs, word-next, length-set)
+loop-again c = search (needs, word-next)
 
 same-length-2 : tie.Need-same-length-2 Inv-loop μ-loop
 same-length-2 c = search needs

@@ -32,7 +32,7 @@ slice-aggregate-answer-3 : tie.Need-slice-aggregate-answer-3
 slice-aggregate-answer-3 c = search needs
 
 answer-requires : tie.Need-answer-requires
-answer-requires c κs = (c .before .before .before .before .before .before .before .before .before .before .before .before .before .pre, contents-ok _ _ _ (c .before .before .before .before .before .before .before .before .before .before .read .ensures) (c .before .before .before .before .before .before .before .before .parsed2 .given .1) (search needs), search needs, search needs, search needs)
+answer-requires c κs = (c .before .before .before .before .before .before .before .before .before .before .before .before .before .pre, contents-ok _ _ (c .before .before .before .before .before .before .before .before .before .before .read .ensures) _ (c .before .before .before .before .before .before .before .before .parsed2 .given .1) (search needs), search needs, search needs, search needs)
 
 same-length-2 : tie.Need-same-length-2
 same-length-2 c = search needs

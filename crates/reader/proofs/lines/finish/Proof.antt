@@ -1,7 +1,7 @@
 use borrow.Author.Needs.{needs}
-use Rattle.reader.specs.ParseCases.{end-due}
+use Rattle.reader.specs.ParseCases.{end-due, end-asked}
 use Rattle.reader.specs.Listing.{atEnd}
-use Rattle.reader.specs.Reading.{listingOf}
+use Rattle.reader.specs.Contents.{parsedOf}
 use Rattle.reader.proofs.lines.finish.Statement.{statement}
 use Rattle.reader.proofs.lines.finish.Tie as tie
 
@@ -9,50 +9,49 @@ enum-told : tie.Need-enum-told
 enum-told c = search needs
 
 returns : tie.Need-returns
-unfolding listingOf atEnd
-returns c t w k = search end-due
+returns c t w k h = search (end-due, end-asked)
 
 enum-told-2 : tie.Need-enum-told-2
 enum-told-2 c = search needs
 
 returns-2 : tie.Need-returns-2
-unfolding listingOf atEnd
-returns-2 c t w k = search end-due
+unfolding parsedOf atEnd
+returns-2 c t w k h = search end-due
 
 enum-told-3 : tie.Need-enum-told-3
 enum-told-3 c = search needs
 
 returns-3 : tie.Need-returns-3
-unfolding listingOf atEnd
-returns-3 c t w k = search end-due
+unfolding parsedOf atEnd
+returns-3 c t w k h = search end-due
 
 enum-told-4 : tie.Need-enum-told-4
 enum-told-4 c = search needs
 
 returns-4 : tie.Need-returns-4
-unfolding listingOf atEnd
-returns-4 c t w k = search end-due
+unfolding parsedOf atEnd
+returns-4 c t w k h = search end-due
 
 enum-told-5 : tie.Need-enum-told-5
 enum-told-5 c = search needs
 
 returns-5 : tie.Need-returns-5
-unfolding listingOf atEnd
-returns-5 c t w k = search end-due
+unfolding parsedOf atEnd
+returns-5 c t w k h = search end-due
 
 enum-told-6 : tie.Need-enum-told-6
 enum-told-6 c = search needs
 
 returns-6 : tie.Need-returns-6
-unfolding listingOf atEnd
-returns-6 c t w k = search end-due
+unfolding parsedOf atEnd
+returns-6 c t w k h = search end-due
 
 enum-told-7 : tie.Need-enum-told-7
 enum-told-7 c = search needs
 
 returns-7 : tie.Need-returns-7
-unfolding listingOf atEnd
-returns-7 c t w k = search end-due
+unfolding parsedOf atEnd
+returns-7 c t w k h = search end-due
 
 pub finish-spec : {M : Type 1} → statement M
 finish-spec =

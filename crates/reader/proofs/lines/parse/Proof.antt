@@ -1,10 +1,8 @@
-use mathlib.Core.Path.{_∙_}
 use Prim.Native.Nat.{_-_}
 use native.Mathlib.Omega.{arith}
 use borrow.Author.Needs.{needs}
 use lib.ListN.{length}
-use Rattle.reader.specs.ParseCases.{ParseInv, inv-start, inv-next, parse-long, parse-bad, parse-end}
-use Rattle.reader.specs.Reading.{listingOf}
+use Rattle.reader.specs.ParseCases.{ParseInv, inv-start, inv-next, long-parsed, long-places, bad-parsed, bad-places, stop-end}
 use Rattle.reader.proofs.lines.parse.Statement.{statement}
 use Rattle.reader.proofs.lines.parse.Tie as tie
 
@@ -34,8 +32,7 @@ same-length-3 : tie.Need-same-length-3 Inv-loop μ-loop
 same-length-3 c = search needs
 
 returns : tie.Need-returns Inv-loop μ-loop
-unfolding listingOf
-returns c = search parse-long
+returns c = (search long-parsed, search long-places)
 
 sub-take-line : tie.Need-sub-take-line Inv-loop μ-loop
 sub-take-line c = search needs
@@ -65,8 +62,7 @@ same-length-6 : tie.Need-same-length-6 Inv-loop μ-loop
 same-length-6 c = search needs
 
 returns-2 : tie.Need-returns-2 Inv-loop μ-loop
-unfolding listingOf
-returns-2 c = search (needs, parse-bad)
+returns-2 c = (search (needs, bad-parsed), search (needs, bad-places))
 
 after-requires : tie.Need-after-requires Inv-loop μ-loop
 after-requires c κs = search needs
@@ -93,7 +89,7 @@ same-length-9 : tie.Need-same-length-9 Inv-loop μ-loop
 same-length-9 c = search needs
 
 returns-3 : tie.Need-returns-3 Inv-loop μ-loop
-returns-3 c = c .finish .ensures _ _ _ ∙ parse-end _ _ _ _ _ _ (omega (arith, c .before .loop-test)) (c .before .before .loop .inv .same)
+returns-3 c = stop-end _ _ _ _ _ _ _ _ _ _ (c .before .before .loop .inv) (omega (arith, c .before .loop-test)) _ (c .finish .ensures)
 
 pub parse-spec : {M : Type 1} → statement M
 parse-spec =

@@ -1,10 +1,11 @@
+use mathlib.Core.Path.{refl}
 use borrow.Author.Needs.{needs}
-use Rattle.reader.specs.TurnCases.{calls-full, calls-bad, calls-on}
+use Rattle.reader.specs.TurnCases.{calls-full, calls-bad, calls-on, call-left}
 use Rattle.reader.proofs.turns.calls_turn.Statement.{statement}
 use Rattle.reader.proofs.turns.calls_turn.Tie as tie
 
 returns : tie.Need-returns
-returns c = (λ t w. search calls-full, tt)
+returns c = (λ t w. search calls-full, tt, refl)
 
 call-line-requires : tie.Need-call-line-requires
 call-line-requires c κs = search needs
@@ -16,7 +17,7 @@ enum-told : tie.Need-enum-told
 enum-told c = search needs
 
 returns-2 : tie.Need-returns-2
-returns-2 c = (λ t w. search calls-bad, tt)
+returns-2 c = (λ t w. search calls-bad, tt, refl)
 
 put-call-requires : tie.Need-put-call-requires
 put-call-requires c κs = search needs
@@ -28,7 +29,7 @@ same-length : tie.Need-same-length
 same-length c = search needs
 
 returns-3 : tie.Need-returns-3
-returns-3 c = (λ t w. search calls-on, search needs)
+returns-3 c = (λ t w. search calls-on, search needs, search call-left)
 
 pub calls-turn-spec : {M : Type 1} → statement M
 calls-turn-spec =

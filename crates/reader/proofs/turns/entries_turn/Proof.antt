@@ -1,8 +1,9 @@
+use mathlib.Core.Path.{refl}
 use borrow.Author.Needs.{needs}
 use Rattle.forms.specs.FormCases.{entry-ok}
 use Rattle.reader.specs.Listing.{line}
 use Rattle.reader.specs.Reading.{nextOf, sofar}
-use Rattle.reader.specs.TurnCases.{entries-given, entries-on}
+use Rattle.reader.specs.TurnCases.{entries-given, entries-on, given-left}
 use Rattle.forms.specs.FormCases.{forms}
 use Rattle.reader.proofs.turns.entries_turn.Statement.{statement}
 use Rattle.reader.proofs.turns.entries_turn.Tie as tie
@@ -12,7 +13,7 @@ is-word-requires c κs = search needs
 
 returns : tie.Need-returns
 unfolding line nextOf sofar
-returns c = (λ w k. search forms, search needs)
+returns c = (λ w k. search forms, search needs, tt)
 
 entry-line-requires : tie.Need-entry-line-requires
 entry-line-requires c κs = search needs
@@ -25,7 +26,7 @@ enum-told c = search needs
 
 returns-2 : tie.Need-returns-2
 unfolding line nextOf sofar
-returns-2 c = (λ w k. search forms depth 8, tt)
+returns-2 c = (λ w k. search forms depth 8, tt, refl)
 
 give-requires : tie.Need-give-requires
 give-requires c κs = search (needs, entry-ok)
@@ -34,13 +35,13 @@ same-length : tie.Need-same-length
 same-length c = search needs
 
 returns-3 : tie.Need-returns-3
-returns-3 c = (λ w k. search entries-given, tt)
+returns-3 c = (λ w k. search entries-given, tt, search given-left)
 
 same-length-2 : tie.Need-same-length-2
 same-length-2 c = search needs
 
 returns-4 : tie.Need-returns-4
-returns-4 c = (λ w k. search entries-on, search needs)
+returns-4 c = (λ w k. search entries-on, search needs, tt)
 
 pub entries-turn-spec : {M : Type 1} → statement M
 entries-turn-spec =

@@ -1,5 +1,5 @@
 use borrow.Author.Needs.{needs}
-use Rattle.reader.specs.TurnCases.{word-turn-bad, word-turn-on, count-on}
+use Rattle.reader.specs.TurnCases.{word-left, word-turn-bad, word-turn-on, count-on}
 use Rattle.reader.proofs.turns.word_turn.Statement.{statement}
 use Rattle.reader.proofs.turns.word_turn.Tie as tie
 
@@ -16,13 +16,13 @@ same-length : tie.Need-same-length
 same-length c = search needs
 
 returns : tie.Need-returns
-returns c = (λ t k. search word-turn-bad, tt)
+returns c = (λ t k. search word-turn-bad, tt, search word-left)
 
 same-length-2 : tie.Need-same-length-2
 same-length-2 c = search needs
 
 returns-2 : tie.Need-returns-2
-returns-2 c = (λ t k. search word-turn-on, search (needs, count-on))
+returns-2 c = (λ t k. search word-turn-on, search (needs, count-on), search word-left)
 
 pub word-turn-spec : {M : Type 1} → statement M
 word-turn-spec =
