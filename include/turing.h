@@ -2,10 +2,14 @@
  * The Turing machine engines, for C. Link target/staticlib/libcapi.a, which `rt staticlib capi` makes for x86-64 Linux.
  *
  * Every function returns 0, or the number of the first refusal that applies (below). A refused call changes nothing but
- * out[0], and that only where a place is named. No call allocates, prints, or keeps a pointer.
+ * out[0], and that only at 6, 10 and 17, which name a place there. No call allocates, prints, or keeps a pointer.
  *
- * Slices. `T *x, size_t x_len` is memory of x_len elements; an empty one may be NULL. Memory that a call may write must
- * overlap nothing else that is lent to the call.
+ * Slices. `T *x, size_t x_len` is memory of x_len elements, aligned as T is; an empty one may be NULL. Memory that a call
+ * may write must overlap nothing else that is lent to the call. `out`, `state`, `cur`, `engine` and `times` are arrays or
+ * single values: they are never NULL, and have at least as many elements as the declaration says.
+ *
+ * Out. An accepted call writes the places of `out` that its comment names, and leaves the others as they were. Where no
+ * place is named, it leaves all of `out`.
  *
  * Machine: tapes (1 to 3), symbols (1 to 256), states (1 to 65536), start state. `table` has eight bytes for each
  * entry; that of state q reading a0, a1, a2 is number q * symbols^tapes + a0 + symbols * a1 + symbols^2 * a2:
@@ -30,7 +34,7 @@
  * Stop rule: `rule` is the state whose step ends a run: on the plain engine after the step, on the run-length engine
  * before it. TM_NO_RULE, or any number from 65536 on, is no rule.
  *
- * Outcome of a run, in out:
+ * Outcome of a run, in out[0] to out[4]; a run leaves out[5] to out[7]:
  *     out[0]  TM_HALTED, TM_OUT_OF_FUEL, TM_NEVER_HALTS, TM_STOPPED or TM_FULL (the next step lacks space)
  *     out[1]  steps made since the start
  *     out[2]  the state, where halted or never halting, else 0
@@ -73,6 +77,12 @@ enum tm_outcome { TM_HALTED, TM_OUT_OF_FUEL, TM_NEVER_HALTS, TM_STOPPED, TM_FULL
 enum tm_status { TM_RUNNING, TM_HAS_HALTED, TM_LACKS_SPACE };
 enum tm_call { TM_SEEK, TM_FORWARD, TM_BACK };
 
+/* A run: a symbol, and how many cells in a row hold it. */
+struct tm_run {
+    uint8_t symbol;
+    uint64_t len;
+};
+
 /* ---- tables and words ---- */
 
 /* Whether the table is one of the machine. Refuses 1 to 6. */
@@ -97,6 +107,57 @@ uint8_t tm_encode(
     const uint8_t *flags, size_t flags_len,
     const uint32_t *word, size_t word_len,
     uint8_t *symbols, size_t symbols_len,
+    uint64_t out[8]);
+
+/* The entry for `state` and the symbols read on each tape (0 for a tape that the machine lacks): out[0] is 0 where it is
+ * not defined, as past the table's end, else 1; then out[1] is the next state, out[2] to out[4] are the symbols written
+ * and out[5] to out[7] the moves of tapes 0, 1 and 2.
+ * Refuses 1 to 6. */
+uint8_t tm_lookup(
+    uint64_t tapes, uint64_t symbols, uint64_t states, uint64_t start,
+    const uint8_t *table, size_t table_len,
+    uint16_t state, uint8_t a0, uint8_t a1, uint8_t a2,
+    uint64_t out[8]);
+
+/* out[0] is 0 where `glyph` is none of the first 256 of `glyphs`, else 1, and out[1] its symbol. Refuses nothing. */
+uint8_t tm_symbol_for(
+    const uint32_t *glyphs, size_t glyphs_len,
+    uint32_t glyph,
+    uint64_t out[8]);
+
+/* out[0] is 1 where the symbol has a flag that is not 0, else 0. Refuses nothing. */
+uint8_t tm_is_input(
+    const uint8_t *flags, size_t flags_len,
+    uint8_t symbol,
+    uint64_t out[8]);
+
+/* ---- packed words ---- */
+
+/* A packed word is move + 256 * write + 65536 * next + 2^32 * next * stride; 3 is that of an entry that is not defined,
+ * and any other word is that of one that is, a low byte over 1 being no move. None of these refuses. */
+
+/* out[0] is the word of an entry: for `defined` 0 of one that is not defined, else of this write, move (0 left, 1 right,
+ * else none) and next state; 3 where next * stride passes 32 bits. */
+uint8_t tm_packed_new(
+    uint8_t defined, uint8_t write, uint8_t dir, uint16_t next,
+    uint64_t stride,
+    uint64_t out[8]);
+
+/* The parts of any word: out[0] is 0 where it is not defined, else 1; out[1] the move, out[2] the write, out[3] the next
+ * state, out[4] next * stride. */
+uint8_t tm_packed(
+    uint64_t word,
+    uint64_t out[8]);
+
+/* The step of any word, defined or not: out[0] is the next state, out[1] to out[3] are the symbols written and out[4] to
+ * out[6] the moves of tapes 0, 1 and 2. */
+uint8_t tm_packed_action(
+    uint64_t word,
+    uint64_t out[8]);
+
+/* The entry of any word; out as tm_lookup's. */
+uint8_t tm_packed_entry(
+    uint64_t word,
     uint64_t out[8]);
 
 /* ---- the plain engine ---- */
@@ -153,8 +214,8 @@ uint8_t tm_sim_get(
     uint64_t tape, int64_t at,
     uint64_t out[8]);
 
-/* out[0] is 0 for a blank tape, else 1; then out[1] and out[2] are the lowest and the highest position that is not
- * blank, raised by 2^63. */
+/* out[0] is 0 for a blank tape, and out[1] and out[2] are left; else it is 1, and out[1] and out[2] are the lowest and
+ * the highest position that is not blank, raised by 2^63. */
 uint8_t tm_sim_non_blank(
     uint64_t tapes, uint64_t symbols, uint64_t states, uint64_t start,
     const uint8_t *table, size_t table_len,
@@ -183,7 +244,8 @@ uint8_t tm_sim_window(
     uint64_t out[8]);
 
 /* The nearest cell that is not blank, from position `from` on, to the left for dir 0, to the right for 1, else at
- * `from` alone: out[0] is 0 where there is none, else 1, and out[1] its position raised by 2^63. */
+ * `from` alone: out[0] is 0 where there is none, and out[1] is left; else it is 1, and out[1] is the cell's position
+ * raised by 2^63. */
 uint8_t tm_sim_find(
     uint64_t tapes, uint64_t symbols, uint64_t states, uint64_t start,
     const uint8_t *table, size_t table_len,
@@ -197,6 +259,8 @@ uint8_t tm_sim_find(
 /* A new timeline on the engine at hand, which is saved in slot 0: at most `most` slots are kept (1 to 512), `every`
  * steps apart at first (1 to 2^32). Writes slot 0 of `store`, and `times`: most, starting step, slots recorded,
  * interval. A slot is 128 bytes more than the cells of the machine's tapes; the store has most + 1 slots.
+ * Between the calls of one timeline the caller leaves its table, cells, store and numbers alone: a call does not notice
+ * that they were changed, unless they no longer fit (12, 14, 15, 16).
  * Refuses 1 to 6; 11 cells over 2^30; 12; 14; 15. */
 uint8_t tm_sim_timeline_new(
     uint64_t tapes, uint64_t symbols, uint64_t states, uint64_t start,
@@ -209,7 +273,8 @@ uint8_t tm_sim_timeline_new(
 
 /* Moves to step `number` (which: TM_SEEK), or that many steps forward (TM_FORWARD) or back (TM_BACK, or any other): no
  * further than where the machine halts, and not back beyond the starting step. out is the outcome of a run there with
- * fuel 0, or TM_FULL where a step on the way lacked space.
+ * fuel 0, or TM_FULL where a step on the way lacked space. `which` has 8 bits: 256 arrives as 0, a seek, so the caller
+ * tests a wider number first.
  * Refuses 1 to 6; 11 cells over 2^30; 12; 14; 15; 13; 16. */
 uint8_t tm_sim_timeline_call(
     uint64_t tapes, uint64_t symbols, uint64_t states, uint64_t start,
@@ -284,6 +349,27 @@ uint8_t tm_chain_window(
     uint16_t state, uint8_t cur, const uint64_t engine[7],
     int64_t from,
     uint8_t *cells, size_t cells_len,
+    uint64_t out[8]);
+
+/* Writes the runs on the left of the head, the nearest last, to the first places of `runs`; out[0] is how many they are.
+ * Refuses also, after 12, 18 fewer places than runs. */
+uint8_t tm_chain_left(
+    uint64_t tapes, uint64_t symbols, uint64_t states, uint64_t start,
+    const uint8_t *table, size_t table_len,
+    const uint8_t *ls, size_t ls_len, const uint64_t *ll, size_t ll_len,
+    const uint8_t *rs, size_t rs_len, const uint64_t *rl, size_t rl_len,
+    uint16_t state, uint8_t cur, const uint64_t engine[7],
+    struct tm_run *runs, size_t runs_len,
+    uint64_t out[8]);
+
+/* The same of those on the right, the nearest last too. */
+uint8_t tm_chain_right(
+    uint64_t tapes, uint64_t symbols, uint64_t states, uint64_t start,
+    const uint8_t *table, size_t table_len,
+    const uint8_t *ls, size_t ls_len, const uint64_t *ll, size_t ll_len,
+    const uint8_t *rs, size_t rs_len, const uint64_t *rl, size_t rl_len,
+    uint16_t state, uint8_t cur, const uint64_t engine[7],
+    struct tm_run *runs, size_t runs_len,
     uint64_t out[8]);
 
 /* ---- a timeline of the run-length engine ---- */

@@ -6,5 +6,7 @@ pub mod chain_timelines;
 pub mod encoder;
 pub mod plain;
 pub mod questions;
+pub mod sides;
 pub mod tables;
 pub mod timelines;
+pub mod words;

@@ -1,12 +1,17 @@
-// The table check and packing.
+// The table check, the lookup of an entry, and packing.
 use numbers::answers;
 use numbers::engines;
+use numbers::parts;
+use symbol::State;
+use symbol::Symbol;
 ghost use mathlib.Core.Path.{_≡_};
 ghost use lib.ListN.{length};
-ghost use Rattle.machine.specs.Check.{tableCheck};
+ghost use Rattle.symbol.specs.Kinds.{symbolOf, stateOf};
+ghost use Rattle.machine.specs.Check.{tableCheck, lookupOf};
 ghost use Rattle.machine.specs.Packing.{packCheck, packInto};
 ghost use Rattle.numbers.specs.Engines.{machineOf};
 ghost use Rattle.numbers.specs.Answers.{checkedCode, checkedOut};
+ghost use Rattle.numbers.specs.Parts.{lookedCode, lookedOut};
 
 #[no_mangle]
 pub extern "C" fn tm_check(
@@ -39,4 +44,26 @@ pub extern "C" fn tm_pack(
     let m = engines::machine_of(tapes, symbols, states, start);
     let checked = m.pack(table, words);
     answers::tell_checked(out, checked)
+}
+
+// The entry for a state and the symbols read: 0 in out[0] where it is undefined, else 1, and then the next state, the
+// writes and the moves.
+#[no_mangle]
+pub extern "C" fn tm_lookup(
+    tapes: u64,
+    symbols: u64,
+    states: u64,
+    start: u64,
+    table: &[u8],
+    state: u16,
+    a0: u8,
+    a1: u8,
+    a2: u8,
+    out: &mut [u64; 8],
+) -> u8
+    ensures { λ r. ⌜ (r ≡ lookedCode (lookupOf (machineOf tapes symbols states start) (now (table .entry)) (stateOf state) (symbolOf a0) (symbolOf a1) (symbolOf a2))) × (now (out .exit) ≡ lookedOut (lookupOf (machineOf tapes symbols states start) (now (table .entry)) (stateOf state) (symbolOf a0) (symbolOf a1) (symbolOf a2)) (now (out .entry))) ⌝ }
+{
+    let m = engines::machine_of(tapes, symbols, states, start);
+    let looked = m.lookup(table, State(state), Symbol(a0), Symbol(a1), Symbol(a2));
+    parts::tell_looked(out, looked)
 }

@@ -1,16 +1,20 @@
 -- A refused call of an exported function leaves everything lent or passed as it was: the first demand's operations, across the C boundary. Assumes nothing.
-use Rattle.machine.specs.Check.{tableCheck}
+use Rattle.machine.specs.Check.{tableCheck, lookupOf}
 use Rattle.sim.specs.Questions as PlainAsks
 use Rattle.rle.specs.Questions as ChainAsks
+use Rattle.rle.specs.Records.{leftAnswer, rightAnswer}
+use Rattle.rle.specs.Engine.{leftOf, rightOf}
+use lib.ListN.{length}
 use Rattle.sim_engine.specs.Kind.{plainKind}
 use Rattle.rle_engine.specs.Kind.{chainKind}
 use Rattle.demands.specs.First.{first-demand}
 use Rattle.capi_laws.specs.Refusals.{ExportsRefuse}
-use Rattle.capi_laws.specs.RefusalFacts.{checked, filled, got, extent, counted, located, made-kept, stepped, ran, chain-made, chain-ran, begun, moved, chain-moved}
+use Rattle.capi_laws.specs.RefusalFacts.{checked, filled, looked, got, extent, counted, located, listed, made-kept, stepped, ran, chain-made, chain-ran, begun, moved, chain-moved}
 
 pub exports-refuse : ExportsRefuse
 exports-refuse = record {
   check = λ m s out. checked (tableCheck m s) out;
+  lookup = λ m s q a0 a1 a2 out. looked (lookupOf m s q a0 a1 a2) out;
   pack = λ m s words out. filled _ out words _ (first-demand .tables .pack m s words .unchanged);
   encode = λ glyphs flags word symbols out. filled _ out symbols _ (first-demand .tables .encode glyphs flags word symbols .unchanged);
   sim-new = λ m s w state engine out c0 c1 c2. made-kept state engine out c0 c1 c2 _ _ _ _ (first-demand .plain .new m s w c0 c1 c2 .unchanged);
@@ -28,6 +32,8 @@ exports-refuse = record {
   chain-non-blank = λ m s σ out. extent (ChainAsks.extentAnswer m s σ) out;
   chain-count = λ m s σ out. counted (ChainAsks.countAnswer m s σ) out;
   chain-window = λ m s z σ cells out. filled _ out cells _ (first-demand .chain .window m s z σ cells .unchanged);
+  chain-left = λ m s σ runs out. listed (leftAnswer m s (length runs) σ) (leftOf σ) runs out;
+  chain-right = λ m s σ runs out. listed (rightAnswer m s (length runs) σ) (rightOf σ) runs out;
   sim-timeline-new = λ m s most every σ times out store. begun plainKind times out store _ _ (first-demand .timelines .plain .new m s most every σ store .unchanged);
   sim-timeline-call = λ m s state engine times out c0 c1 c2 store c. moved state engine times out c0 c1 c2 store _ _ (first-demand .timelines .plain .call m s _ c .unchanged);
   chain-timeline-new = λ m s most every σ times out store. begun chainKind times out store _ _ (first-demand .timelines .chain .new m s most every σ store .unchanged);

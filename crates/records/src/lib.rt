@@ -4,7 +4,8 @@ use symbol::Symbol;
 
 pub mod inner;
 
-// A run: a symbol, and how many cells in a row hold it.
+// A run: a symbol, and how many cells in a row hold it. A slice of runs crosses the C boundary.
+#[repr(C)]
 pub struct Run {
     pub symbol: Symbol,
     pub len: u64,

@@ -6,7 +6,9 @@ ghost use Rattle.symbol.specs.Kinds.{symbolOf, stateOf, dirNumber, delta
 
 pub mod position;
 
-// A tape symbol, by its number. Number 0 is the blank, which fills every cell that was never written.
+// A tape symbol, by its number. Number 0 is the blank, which fills every cell that was never written. A record of a run
+// holds one, and crosses the C boundary.
+#[repr(C)]
 pub struct Symbol(pub u8);
 
 impl Symbol {

@@ -1,0 +1,15 @@
+use borrow.Author.Needs.{needs}
+use Rattle.capi.proofs.words.tm_packed_entry.Statement.{statement}
+use Rattle.capi.proofs.words.tm_packed_entry.Tie as tie
+
+entry-requires : tie.Need-entry-requires
+entry-requires c κs = search needs
+
+tell-entry-requires : tie.Need-tell-entry-requires
+tell-entry-requires c κs = search needs
+
+returns : tie.Need-returns
+returns c = rw (← c .before .before .entry .ensures) (c .tell-entry .ensures)
+
+pub tm-packed-entry-spec : {M : Type 1} → statement M
+tm-packed-entry-spec = tie.close (tie.spec entry-requires tell-entry-requires returns)
