@@ -9,7 +9,6 @@ use Rattle.symbol.specs.Kinds.{symbolOf, stateOf}
 use Rattle.symbol.specs.declared.Dir.the-variants.{R}
 use Rattle.outcome.specs.declared.NonHaltProof.the-variants.{StayLoop, ChainToInfinity}
 use Rattle.outcome.specs.declared.Outcome.the-variants.{Halted, OutOfFuel, NeverHalts}
-use Rattle.outcome.specs.declared.Refusal.the-variants as Why
 use Rattle.machine.specs.declared.Machine.{Machine}
 use Rattle.machine.specs.declared.Entry.the-variants.{Defined}
 use Rattle.machine.specs.Layout.{actionAt, entryAt, singleOf}
@@ -20,7 +19,6 @@ use Rattle.tape.specs.Growth.{extra}
 use Rattle.tape.specs.Moves.{blanked, laid, movedUp, freshOf, readOf, leaves, roomFor, grownBy, shiftOf, moveOf, actOf}
 use Rattle.tape.specs.Fits.{tapeFits}
 use Rattle.tape.specs.Questions.{blankBeyond}
-use Rattle.course.specs.declared.Answer.the-variants.{Done, Refused}
 use Rattle.sim.specs.Engine.{stays, staysAll, loopOf, judgeOf, lookOn, entryOf, lookWith, roomsOf, stepOf, matches, runWith, runOf}
 use Rattle.sim.specs.Operations.{bareSim, handBack, sizesFit, simFits, valueCheck, fuelFits, fuelCheck, runCheck, runAnswer, freshSizes, freshCheck, newAnswer}
 use Rattle.stacks.specs.Sides.{symbolUnder, aheadOf, grownOf, pushOf, lacks, takeOf, runFits, runsFit, sumOf}
@@ -29,9 +27,9 @@ use Rattle.rle.specs.Fits as Fits
 use Rattle.rle.specs.Operations as Chains
 use Rattle.rle_refines.specs.Meaning.{empty, over}
 use Rattle.demands.specs.CaseTables.{machine, listing, walker, stayer, writer, pair, keeper}
-use Rattle.demands.specs.CaseRuns.{plain, chain, chainWith, stacks, stacksOf}
+use Rattle.demands.specs.CaseRuns.{ended, refused, plain, chain, chainWith, stacks, stacksOf}
 
--- what document 01 says, beside what is asked: an answer, an answer with the number of macro steps, a fresh engine's stacks, or a packed word
+-- what document 01 says, beside what is asked: an answer, a refusal by its number; an answer with the number of macro steps; a fresh engine's stacks; or a packed word
 pub record Case : Type 1 where
   pub of : Type 0
   pub says : of
@@ -46,34 +44,34 @@ one n = machine 1 2 n
 abbrev pub starred : List Case
 starred =
     -- "The listing's table, blank word: fuel 5 out of fuel at 5; fuel 6 halted at 6."
-    case (Done (OutOfFuel 5)) (plain (one 3) listing [] 5)
-    ∷ case (Done (OutOfFuel 5)) (chain (one 3) listing [] 5)
-    ∷ case (Done (Halted 6 (stateOf 2))) (plain (one 3) listing [] 6)
-    ∷ case (Done (Halted 6 (stateOf 2))) (chain (one 3) listing [] 6)
+    case (ended (OutOfFuel 5)) (plain (one 3) listing [] 5)
+    ∷ case (ended (OutOfFuel 5)) (chain (one 3) listing [] 5)
+    ∷ case (ended (Halted 6 (stateOf 2))) (plain (one 3) listing [] 6)
+    ∷ case (ended (Halted 6 (stateOf 2))) (chain (one 3) listing [] 6)
     -- "State 0 on blank writes 1, moves R, stays in 0: fuel 0 or 2^62 never at 0; 2^62 + 1 refused 13."
-    ∷ case (Done (NeverHalts 0 (ChainToInfinity (stateOf 0) R))) (plain (one 1) walker [] 0)
-    ∷ case (Done (NeverHalts 0 (ChainToInfinity (stateOf 0) R))) (chain (one 1) walker [] 0)
-    ∷ case (Done (NeverHalts 0 (ChainToInfinity (stateOf 0) R))) (plain (one 1) walker [] (2 ^ 62))
-    ∷ case (Done (NeverHalts 0 (ChainToInfinity (stateOf 0) R))) (chain (one 1) walker [] (2 ^ 62))
-    ∷ case (Refused Why.StepLimit) (plain (one 1) walker [] (2 ^ 62 + 1))
-    ∷ case (Refused Why.StepLimit) (chain (one 1) walker [] (2 ^ 62 + 1))
+    ∷ case (ended (NeverHalts 0 (ChainToInfinity (stateOf 0) R))) (plain (one 1) walker [] 0)
+    ∷ case (ended (NeverHalts 0 (ChainToInfinity (stateOf 0) R))) (chain (one 1) walker [] 0)
+    ∷ case (ended (NeverHalts 0 (ChainToInfinity (stateOf 0) R))) (plain (one 1) walker [] (2 ^ 62))
+    ∷ case (ended (NeverHalts 0 (ChainToInfinity (stateOf 0) R))) (chain (one 1) walker [] (2 ^ 62))
+    ∷ case (refused 13) (plain (one 1) walker [] (2 ^ 62 + 1))
+    ∷ case (refused 13) (chain (one 1) walker [] (2 ^ 62 + 1))
     -- the same with no place on the left: never comes before space
-    ∷ case (Done (NeverHalts 0 (ChainToInfinity (stateOf 0) R)), 0) (chainWith 0 (one 1) walker [] 10 [])
+    ∷ case (ended (NeverHalts 0 (ChainToInfinity (stateOf 0) R)), 0) (chainWith 0 (one 1) walker [] 10 [])
     -- "Blank rewritten, N, same state: StayLoop at 0." "Blank to 1, N, 1 undefined: halted at 1."
-    ∷ case (Done (NeverHalts 0 (StayLoop (stateOf 0)))) (plain (one 1) stayer [] 10)
-    ∷ case (Done (NeverHalts 0 (StayLoop (stateOf 0)))) (chain (one 1) stayer [] 10)
-    ∷ case (Done (Halted 1 (stateOf 0))) (plain (one 1) writer [] 10)
-    ∷ case (Done (Halted 1 (stateOf 0))) (chain (one 1) writer [] 10)
+    ∷ case (ended (NeverHalts 0 (StayLoop (stateOf 0)))) (plain (one 1) stayer [] 10)
+    ∷ case (ended (NeverHalts 0 (StayLoop (stateOf 0)))) (chain (one 1) stayer [] 10)
+    ∷ case (ended (Halted 1 (stateOf 0))) (plain (one 1) writer [] 10)
+    ∷ case (ended (Halted 1 (stateOf 0))) (chain (one 1) writer [] 10)
     -- "Two tapes both moving R on blanks, same state, fuel 10: out of fuel at 10."; the run-length engine refuses two tapes, 8
-    ∷ case (Done (OutOfFuel 10)) (plain (machine 2 2 1) pair [] 10)
-    ∷ case (Refused Why.SeveralTapes) (chain (machine 2 2 1) pair [] 10)
+    ∷ case (ended (OutOfFuel 10)) (plain (machine 2 2 1) pair [] 10)
+    ∷ case (refused 8) (chain (machine 2 2 1) pair [] 10)
     -- "Word 1 1 0: right stack one run, symbol 1, length 1. 0 0 0: both empty."
     ∷ case (stacks empty (over 1 1 empty)) (stacksOf (one 1) keeper (1 ∷ 1 ∷ 0 ∷ []))
     ∷ case (stacks empty empty) (stacksOf (one 1) keeper (0 ∷ 0 ∷ 0 ∷ []))
     -- "Word 1 1 1 1, 1 kept moving R, blank undefined: halted at 4, one macro step; fuel 2 twice, two."
-    ∷ case (Done (Halted 4 (stateOf 0))) (plain (one 1) keeper (1 ∷ 1 ∷ 1 ∷ 1 ∷ []) 10)
-    ∷ case (Done (Halted 4 (stateOf 0)), 1) (chainWith 8 (one 1) keeper (1 ∷ 1 ∷ 1 ∷ 1 ∷ []) 10 [])
-    ∷ case (Done (Halted 4 (stateOf 0)), 2) (chainWith 8 (one 1) keeper (1 ∷ 1 ∷ 1 ∷ 1 ∷ []) 2 (2 ∷ []))
+    ∷ case (ended (Halted 4 (stateOf 0))) (plain (one 1) keeper (1 ∷ 1 ∷ 1 ∷ 1 ∷ []) 10)
+    ∷ case (ended (Halted 4 (stateOf 0)), 1) (chainWith 8 (one 1) keeper (1 ∷ 1 ∷ 1 ∷ 1 ∷ []) 10 [])
+    ∷ case (ended (Halted 4 (stateOf 0)), 2) (chainWith 8 (one 1) keeper (1 ∷ 1 ∷ 1 ∷ 1 ∷ []) 2 (2 ∷ []))
     -- "Packed 1, R, next 1, stride 2: 8,590,000,385."
     ∷ case 8590000385 (packWord (Defined (singleOf (symbolOf 1) R (stateOf 1))) 2)
     ∷ []

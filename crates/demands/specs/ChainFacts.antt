@@ -18,7 +18,7 @@ use Rattle.machine.specs.declared.Action.{Action}
 use Rattle.machine.specs.declared.Entry.the-variants.{Defined}
 use Rattle.machine.specs.declared.Checked.the-variants.{Accepted}
 use Rattle.tables.specs.WellFormed.{Bytes}
-use Rattle.turing.specs.TableMachine.{Table, Config, entry, Sideways, Verdict, halts, stays, walks, goes}
+use Rattle.turing.specs.TableMachine.{Table, Config, readT, entry, Sideways, Verdict, halts, stays, walks, goes}
 use Rattle.turing.specs.Tables.{tableOf, TableOf}
 use Rattle.turing.specs.TableFacts.{accepted-table}
 use Rattle.turing.specs.RunFacts.{not-defined}
@@ -27,17 +27,19 @@ use Rattle.course.specs.declared.StopRule.{StopRule}
 use Rattle.course.specs.declared.StopRule.the-variants.{Never}
 use Rattle.course.specs.declared.Answer.the-variants as Ans
 use Rattle.sim.specs.Engine.{Task, task, entryOf, matches}
-use Rattle.stacks.specs.Sides.{aheadOf}
+use Rattle.stacks.specs.Sides.{Side, aheadOf}
 use Rattle.rle.specs.declared.inner.Turn.{Turn}
 use Rattle.rle.specs.Engine.{Conf, leftOf, rightOf, chainFor, loopsOf, stepOf, fueledOf, provedOf, turnOn, turnOf, timesOf, leapBy, planBy, planOf, leapOf, End, end, runOf, Leap, Plan, Stop, Go}
 use Rattle.rle.specs.RunFacts.{run-ends, run-goes}
 use Rattle.rle.specs.Fits.{runCheck}
 use Rattle.rle.specs.Operations.{given, runOn, runAnswer}
-use Rattle.rle_refines.specs.Meaning.{configOf, Alike, aheadOn}
+use Rattle.rle_refines.specs.Meaning.{Stack, empty, over, stackOf, tapeOf, configOf, Alike}
 use Rattle.rle_refines.specs.Statement.{FullWithin, Went, Answers, verdict, halted, spent, stopped, full, Refines}
 use Rattle.rle_refines.specs.Canonical.{full-exact, not-full}
 use Rattle.rle_refines.specs.PlanFacts as P
-use Rattle.rle_refines.specs.LeapFacts.{entry-at}
+use Rattle.rle_refines.specs.StackFacts.{ahead as aheadIn}
+use Rattle.rle_refines.specs.SideFacts.{ahead-is}
+use Rattle.rle_refines.specs.LeapFacts.{read-held, entry-at}
 use Rattle.rle_refines.specs.PatternFacts.{Sees, unsure, stay, walk, loop-sees}
 use Rattle.rle_refines.specs.PlanFacts.{Plans, plan-right}
 use Rattle.rle_refines.specs.MidFacts.{leapt-macros}
@@ -46,7 +48,7 @@ use Rattle.rle_refines.specs.SpaceFacts.{full-iff}
 use Rattle.rle_refines.specs.CutFacts.{one-run}
 use Rattle.rle_refines.specs.OperationFacts.{Passed, run-says, run-holds}
 use Rattle.demands.specs.FirstSpace.{GoesOn, ChainFull}
-use Rattle.demands.specs.ChainClaims.{Lasts, one, ahead, loop, MacroStep}
+use Rattle.demands.specs.ChainClaims.{runAhead, stackAhead, Lasts, one, ahead, loop, MacroStep}
 
 -- a verdict is not that there is no space
 pub not-full-verdict : (t : ℕ) (d : Table) (c : Config) (o : Outcome) → Verdict t d c o → (n : ℕ) → ¬ (o ≡ Full n)
@@ -54,6 +56,16 @@ not-full-verdict t d c o (halts h) n e = let z : _≡_ {A = ℕ} 0 1 = cc in ome
 not-full-verdict t d c o (stays a h s) n e = let z : _≡_ {A = ℕ} 0 1 = cc in omega arith
 not-full-verdict t d c o (walks a x h w) n e = let z : _≡_ {A = ℕ} 0 1 = cc in omega arith
 not-full-verdict t d c o (goes a h s w) n e = let z : _≡_ {A = ℕ} 0 1 = cc in omega arith
+
+-- the run ahead, of a side and of its stack
+run-ahead : (a : ℕ) (r : Stack) → runAhead a r ≡ aheadIn a r
+run-ahead a empty = refl
+run-ahead a (over s n r) = refl
+
+side-ahead : (σ : Conf) (x : Side) → runAhead (readT (tapeOf σ)) (stackOf x) ≡ aheadOf (σ .sim .tape .cur) x
+side-ahead σ x =
+    ap (λ a. runAhead a (stackOf x)) (read-held σ) ∙ run-ahead (σ .sim .tape .cur) (stackOf x)
+    ∙ sym (ahead-is (σ .sim .tape .cur) (x .symbols) (x .lengths) (x .count))
 
 -- ---- a plan that goes on is the entry's, so often
 
@@ -109,21 +121,29 @@ module _ (m : Machine) (s : List ℕ) (bytes : Bytes s) (fuel : ℕ) (σ : Conf)
           let q : entryOf m s (σ .sim .state) (σ .sim .tape .cur) 0 0 ≡ Defined a = sym (entry-at (tableOf m s) σ) ∙ has in
           proved-goes a fuel σ j proves loops rule (ap (λ x. planBy (turnOn x proves rule fuel (σ .sim)) fuel σ) (sym q) ∙ planned)
 
-      lasts : {b : Bool} → Sees k σ a b → Lasts m s fuel σ a (times a fuel σ j b)
+      abbrev LastsHere : ℕ → Type 0
+      LastsHere = Lasts m (tableOf m s) fuel (configOf σ) a (stackOf (leftOf σ)) (stackOf (rightOf σ))
+
+      lasts : {b : Bool} → Sees k σ a b → LastsHere (times a fuel σ j b)
       unfolding pick chainFor
-      lasts (unsure h g) = pick-cases (eqb (a .next .0) (σ .sim .state .0)) _ _ (Lasts m s fuel σ a)
+      lasts (unsure h g) = pick-cases (eqb (a .next .0) (σ .sim .state .0)) _ _ LastsHere
           (λ t. by (eqb-true _ _ t) (a .dir0) refl)
           (λ t. one (goes a has h g) (λ r. eqb-false _ _ t (r .0)))
         where
-          by : a .next .0 ≡ σ .sim .state .0 → (x : Dir) → a .dir0 ≡ x → Lasts m s fuel σ a (chainFor x (σ .sim .tape .cur) fuel (leftOf σ) (rightOf σ))
-          by q L e = subst (λ x. Lasts m s fuel σ a (min (aheadOf (σ .sim .tape .cur) (aheadOn x σ) + 1) fuel)) e (ahead (goes a has h g) (q, subst Sideways (sym e) tt))
-          by q R e = subst (λ x. Lasts m s fuel σ a (min (aheadOf (σ .sim .tape .cur) (aheadOn x σ) + 1) fuel)) e (ahead (goes a has h g) (q, subst Sideways (sym e) tt))
+          -- the run on the side that the move goes to
+          to : (x : Dir) (y : Side) → a .dir0 ≡ x → stackAhead x (stackOf (leftOf σ)) (stackOf (rightOf σ)) ≡ stackOf y
+              → runAhead (readT (tapeOf σ)) (stackAhead (a .dir0) (stackOf (leftOf σ)) (stackOf (rightOf σ))) ≡ aheadOf (σ .sim .tape .cur) y
+          to x y e q = ap (λ z. runAhead (readT (tapeOf σ)) (stackAhead z (stackOf (leftOf σ)) (stackOf (rightOf σ)))) e ∙ ap (runAhead (readT (tapeOf σ))) q ∙ side-ahead σ y
+
+          by : a .next .0 ≡ σ .sim .state .0 → (x : Dir) → a .dir0 ≡ x → LastsHere (chainFor x (σ .sim .tape .cur) fuel (leftOf σ) (rightOf σ))
+          by q L e = subst (λ n. LastsHere (min (n + 1) fuel)) (to L (leftOf σ) e refl) (ahead (goes a has h g) (q, subst Sideways (sym e) tt))
+          by q R e = subst (λ n. LastsHere (min (n + 1) fuel)) (to R (rightOf σ) e refl) (ahead (goes a has h g) (q, subst Sideways (sym e) tt))
           by q N e = one (goes a has h g) (λ r. subst Sideways e (r .1))
       lasts (stay h) = loop _ (stays a has h)
       lasts (walk x w) = loop _ (walks a x has w)
 
-      lasts-so : Lasts m s fuel σ a (j .repeats)
-      lasts-so = subst (Lasts m s fuel σ a) (sym so-often) (lasts (loop-sees k (passed .0 .single) σ (passed .0 .fits) a (table _ _ _ _ a has)))
+      lasts-so : LastsHere (j .repeats)
+      lasts-so = subst LastsHere (sym so-often) (lasts (loop-sees k (passed .0 .single) σ (passed .0 .fits) a (table _ _ _ _ a has)))
 
     pub macro-step : MacroStep k fuel σ j
     macro-step = record {

@@ -1,20 +1,25 @@
--- THE FIRST DEMAND: "Every public operation takes every table, word, buffer, engine value, fuel and target; it returns and wraps no counter. A refusal carries
--- document 01's number and changes nothing. Lack of space stops a run before the step that needs it, earlier steps kept."
+-- THE FIRST DEMAND: "Every operation takes every table, word, buffer, engine value, fuel and target, returns, and wraps no counter. A refusal carries its number
+-- from document 01 and changes no state, tape, run stack or store. Lack of space stops a run before the step that needs it, earlier steps kept."
 -- That every operation takes everything, returns and wraps nothing is what the check of the crates proves: no public operation has a `requires`. The rest is here.
 use Rattle.demands.specs.FirstTables.{TableOperations, table-operations}
 use Rattle.demands.specs.FirstPlain.{PlainOperations, plain-operations}
 use Rattle.demands.specs.FirstChain.{ChainOperations, chain-operations}
 use Rattle.demands.specs.FirstTimelines.{BothTimelines, both-timelines}
+use Rattle.demands.specs.FirstListing.{ListingOperation, listing-operation}
 
 pub record FirstDemand : Type 0 where
-  -- the table check, the lookup, packing, the word's check, the encoder
+  -- "A refusal carries its number from document 01 and changes no state, tape, run stack or store.": the table check, the lookup, packing, the word's check,
+  -- the encoder
   pub tables : TableOperations
-  -- the plain engine: new, step, run, the fast run, the tape questions; space
+  -- the same, and "Lack of space stops a run before the step that needs it, earlier steps kept.": the plain engine's new, step, run, fast run, tape questions
+  -- and check
   pub plain : PlainOperations
-  -- the run-length engine: new, run, the tape questions, left and right; space
+  -- the same of the run-length engine: new, run, the tape questions, left and right, check
   pub chain : ChainOperations
-  -- the timelines over both: new, seek, forward and back
+  -- the same of the timelines over both: new, seek, forward and back
   pub timelines : BothTimelines
+  -- the first of the two sentences of the listing
+  pub listing : ListingOperation
 
 pub first-demand : FirstDemand
 first-demand = record {
@@ -22,4 +27,5 @@ first-demand = record {
   plain = plain-operations;
   chain = chain-operations;
   timelines = both-timelines;
+  listing = listing-operation;
 }

@@ -3,14 +3,15 @@ use mathlib.Core.Path.{_≡_}
 use mathlib.Core.Logic.{_↔_}
 use mathlib.Core.Bool.{true, false}
 use mathlib.Core.List.{List, [], _∷_}
-use Prim.Native.Nat.{ℕ, _+_, _<_, _^_}
+use Prim.Native.Nat.{ℕ, _+_, _≤_, _<_, _^_}
 use lib.IntN.{ℤ}
-use lib.ListN.{length}
+use lib.ListN.{length, getD}
 use Rattle.outcome.specs.declared.Outcome.the-variants.{OutOfFuel, Full}
 use Rattle.machine.specs.declared.Machine.{Machine}
 use Rattle.machine.specs.declared.Checked.{Checked}
 use Rattle.machine.specs.declared.Checked.the-variants.{Accepted, Refused}
 use Rattle.tables.specs.WellFormed.{Bytes}
+use Rattle.turing.specs.TableMachine.{start}
 use Rattle.turing.specs.Tables.{tableOf}
 use Rattle.course.specs.declared.StopRule.{StopRule}
 use Rattle.course.specs.declared.Answer.the-variants as Ans
@@ -24,25 +25,29 @@ use Rattle.records.specs.declared.Listed.the-variants as Listed
 use Rattle.rle.specs.declared.Fresh.the-variants as New
 use Rattle.rle.specs.Engine.{Conf}
 use Rattle.rle.specs.Fits.{chainFits, engineCheck, runCheck}
-use Rattle.rle.specs.Operations.{Given, given, runAnswer, Made, made, newAnswer}
+use Rattle.rle.specs.Operations.{freshSizes, Given, given, runAnswer, Made, made, newAnswer}
 use Rattle.rle.specs.Questions.{getAnswer, extentAnswer, countAnswer, windowInto}
 use Rattle.rle.specs.Records.{leftAnswer, leftInto, rightAnswer, rightInto}
-use Rattle.rle_refines.specs.Meaning.{configOf, ChainFits, leftEnd, rightEnd, Near, Alike}
+use Rattle.rle_refines.specs.Meaning.{Stack, empty, configOf, ChainFits, leftEnd, rightEnd, Near, Alike}
+use Rattle.rle_refines.specs.Full.{height, Stacked}
 use Rattle.rle_refines.specs.FitFacts.{fits-holds, holds-fits, ends-near}
 use Rattle.demands.specs.ChainFacts.{full-stands, full-there}
 use Rattle.demands.specs.FirstClaims.{TurnsAway, ofChain, ofAnswer, ofGot, ofExtent, ofCounted, ofListed}
 use Rattle.demands.specs.FirstTests.{chainNewTests, chainRunTests, chainAskTests, chainListTests}
 use Rattle.demands.specs.FirstSpace.{GoesOn, EndsFull, ChainFull}
-use Rattle.demands.specs.FirstFactsChain.{chain-new-turns, chain-run-turns, chain-get-turns, chain-extent-turns, chain-count-turns, chain-window-turns, chain-left-turns, chain-right-turns}
+use Rattle.demands.specs.FirstFactsChain.{chain-new-turns, chain-engine-turns, chain-run-turns, chain-get-turns, chain-extent-turns, chain-count-turns, chain-window-turns, chain-left-turns, chain-right-turns, chain-new-stack, chain-new-sizes}
 use Rattle.demands.specs.FirstFactsChainSpace.{chain-full, chain-onward}
 
 pub record ChainOperations : Type 0 where
-  -- ---- "A refusal carries document 01's number and changes nothing."
+  -- ---- "A refusal carries its number from document 01 and changes no state, tape, run stack or store."
 
   -- a fresh engine: the answer, with the right side's places; the left side's are lent for reading alone
   pub new : (m : Machine) (s w ls ll rs rl : List ℕ)
       → TurnsAway (1 ∷ 2 ∷ 3 ∷ 4 ∷ 5 ∷ 6 ∷ 8 ∷ 9 ∷ 10 ∷ 11 ∷ []) (chainNewTests m s w ls ll rs rl) (λ (x : Made). ofChain (x .answer)) (λ why. made (New.Refused why) rs rl)
       (newAnswer m s w ls ll rs rl)
+  -- the check of an engine value: it writes nothing
+  pub engine-check : (m : Machine) (s : List ℕ) (σ : Conf)
+      → TurnsAway (1 ∷ 2 ∷ 3 ∷ 4 ∷ 5 ∷ 6 ∷ 8 ∷ 11 ∷ 12 ∷ []) (chainAskTests m s σ) (λ (r : Checked). r) Refused (engineCheck m s σ)
   -- a run: the answer, with the engine handed back and the places of both sides
   pub run : (m : Machine) (s : List ℕ) (rule : StopRule) (fuel : ℕ) (σ : Conf)
       → TurnsAway (1 ∷ 2 ∷ 3 ∷ 4 ∷ 5 ∷ 6 ∷ 8 ∷ 11 ∷ 12 ∷ 13 ∷ []) (chainRunTests m s σ fuel) (λ (x : Given). ofAnswer (x .answer)) (λ why. given σ (Ans.Refused why))
@@ -63,6 +68,14 @@ pub record ChainOperations : Type 0 where
   pub right : (m : Machine) (s : List ℕ) (σ : Conf) (out : List Run)
       → TurnsAway (1 ∷ 2 ∷ 3 ∷ 4 ∷ 5 ∷ 6 ∷ 8 ∷ 11 ∷ 12 ∷ 18 ∷ []) (chainListTests m s σ (σ .sim .tape .right) (length out)) (λ (x : Listed × List Run). ofListed (x .0))
       (λ why. (Listed.Refused why, out)) (rightAnswer m s (length out) σ, rightInto m s σ out)
+  -- ---- "11 .. fewer right run places than the word's right stack has runs, or a run side over 1,048,576": what freshSizes of the tests asks
+
+  -- a word with symbols below k leaves two stacks on the table machine's start tape; the stack rule leaves no other two
+  pub new-stack : (m : Machine) (w : List ℕ) → ((i : ℕ) → i < length w → getD w i 0 < m .symbols)
+      → (right : Stack) × Stacked (m .symbols) (start (m .start) w .tape0) empty right
+  -- and the test passes exactly where neither side has over 1,048,576 places, and the right one no fewer than the right stack has runs
+  pub new-sizes : (m : Machine) (w : List ℕ) (left right : Stack) → Stacked (m .symbols) (start (m .start) w .tape0) left right
+      → (lefts rights : ℕ) → (freshSizes w lefts rights ≡ true) ↔ ((lefts ≤ 1048576) × (rights ≤ 1048576) × (height right ≤ rights))
   -- ---- "12 an engine value that doesn't fit": what chainFits of the tests asks
 
   -- "Fits: state below n, steps to 2^62, symbols below k. .. Chain: the stack rule, each side's sum, and its furthest cell's distance from 0, at most steps + 2^20,
@@ -89,6 +102,7 @@ pub record ChainOperations : Type 0 where
 pub chain-operations : ChainOperations
 chain-operations = record {
   new = chain-new-turns;
+  engine-check = chain-engine-turns;
   run = chain-run-turns;
   get = chain-get-turns;
   non-blank = chain-extent-turns;
@@ -96,6 +110,8 @@ chain-operations = record {
   window = chain-window-turns;
   left = chain-left-turns;
   right = chain-right-turns;
+  new-stack = chain-new-stack;
+  new-sizes = chain-new-sizes;
   fits = λ m σ. (fits-holds m σ, holds-fits m σ);
   near = ends-near;
   full = chain-full;

@@ -31,6 +31,8 @@ use Rattle.rle.specs.declared.Fresh as Chain
 use Rattle.rle.specs.declared.Fresh.the-variants as ChainNew
 use Rattle.records.specs.declared.Listed.{Listed}
 use Rattle.records.specs.declared.Listed.the-variants as Listed
+use Rattle.listing.specs.declared.Listed as Printed
+use Rattle.listing.specs.declared.Listed.the-variants as Did
 
 -- ---- a list of refusals
 
@@ -52,6 +54,16 @@ unfoldable pub numbersOf : List Test → List ℕ
 numbersOf [] = []
 numbersOf (t ∷ rest) = refusalNumber (t .why) ∷ numbersOf rest
 
+-- the number of an answer: document 01's of its refusal, and 0 where it is none
+abbrev pub numberOf : Checked → ℕ
+numberOf Accepted = 0
+numberOf (Refused why) = refusalNumber why
+
+-- the number of the first test that fails; 0 where none does
+unfoldable pub firstNumber : List Test → ℕ
+firstNumber [] = 0
+firstNumber (t ∷ rest) = pick (t .holds) (firstNumber rest) (refusalNumber (t .why))
+
 -- "(lowest entry number given)", "(first place given)": of the n numbers from 0 on the lowest of which the test fails; 0 where there is none
 abbrev pub numberOr0 : Option ℕ → ℕ
 numberOr0 none = 0
@@ -72,7 +84,7 @@ pub record TurnsAway {X : Type 0} (numbers : List ℕ) (tests : List Test) (refu
   -- whatever the refusal, everything is as it came in
   pub unchanged : (why : Refusal) → refusal left ≡ Refused why → left ≡ asItWas why
 
--- ---- the refusal in an answer
+-- ---- the refusal in an answer: its number is `numberOf`'s, and the answer's other case holds what was asked for
 
 abbrev pub ofFresh : Fresh → Checked
 ofFresh (New.Made v) = Accepted
@@ -113,3 +125,7 @@ ofChain (ChainNew.Refused why) = Refused why
 abbrev pub ofListed : Listed → Checked
 ofListed (Listed.Filled n) = Accepted
 ofListed (Listed.Refused why) = Refused why
+
+abbrev pub ofPrinted : Printed.Listed → Checked
+ofPrinted (Did.Printed n) = Accepted
+ofPrinted (Did.Refused why) = Refused why

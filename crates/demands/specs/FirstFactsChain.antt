@@ -1,12 +1,16 @@
 -- Each operation of the run-length engine turns away what its list says, and changes nothing then. Assumes nothing.
 use mathlib.Core.Path.{_≡_, refl, subst⁻¹}
+use mathlib.Core.Logic.{_↔_}
 use mathlib.Core.Bool.{Bool, true, false}
 use mathlib.Core.List.{List, [], _∷_}
-use Prim.Native.Nat.{ℕ, _-_}
+use Prim.Native.Nat.{ℕ, suc, _-_, _≤_, _<_}
+use native.Mathlib.Omega.{arith}
+use borrow.Author.Tests.{leb-true, le-leb}
 use lib.Dec.{leb}
 use lib.IntN.{ℤ}
-use lib.ListN.{length}
-use Rattle.laws.specs.Choice.{pick}
+use lib.ListN.{length, getD}
+use Rattle.laws.specs.Choice.{pick, both}
+use Rattle.laws.specs.Tests.{both-split, both-true}
 use Rattle.symbol.specs.Kinds.{symbolOf}
 use Rattle.symbol.specs.Places.{raisedOf}
 use Rattle.outcome.specs.declared.Refusal.{Refusal}
@@ -15,6 +19,7 @@ use Rattle.machine.specs.declared.Machine.{Machine}
 use Rattle.machine.specs.declared.Checked.{Checked}
 use Rattle.machine.specs.declared.Checked.the-variants.{Accepted, Refused}
 use Rattle.machine.specs.Check.{checkedOn, demand}
+use Rattle.turing.specs.TableMachine.{start}
 use Rattle.course.specs.declared.StopRule.{StopRule}
 use Rattle.course.specs.declared.Answer.the-variants as Ans
 use Rattle.course.specs.declared.questions.Got.the-variants as Got
@@ -30,9 +35,12 @@ use Rattle.records.specs.Records.{roomFor}
 use Rattle.rle.specs.declared.Fresh.the-variants as New
 use Rattle.rle.specs.Engine.{Conf, leftOf, rightOf, runOf}
 use Rattle.rle.specs.Fits.{engineCheck}
-use Rattle.rle.specs.Operations.{Given, given, runOn, runAnswer, laidOf, Made, made, madeWith, freshOn, newAnswer}
+use Rattle.rle.specs.Operations.{freshSizes, runsOf, Given, given, runOn, runAnswer, laidOf, Made, made, madeWith, freshOn, newAnswer}
 use Rattle.rle.specs.Questions.{raisedCell, windowFrom, spanOf, countOf, getAnswer, extentAnswer, countAnswer, windowInto}
 use Rattle.rle.specs.Records.{listedOn, sideAnswer, sideInto, leftAnswer, leftInto, rightAnswer, rightInto}
+use Rattle.rle_refines.specs.Meaning.{Stack, empty}
+use Rattle.rle_refines.specs.Full.{height, Stacked}
+use Rattle.rle_refines.specs.WordStack.{wordStack, word-stacked, word-height}
 use Rattle.demands.specs.FirstClaims.{or, firstOf, numbersOf, TurnsAway, ofAnswer, ofGot, ofExtent, ofCounted, ofChain, ofListed}
 use Rattle.demands.specs.FirstTests.{chainNewTests, chainAskTests, chainListTests, chainRunTests}
 use Rattle.demands.specs.FirstFacts.{turns, on-first, chain-new-first, chain-ask-first, chain-run-first}
@@ -43,6 +51,29 @@ pub chain-new-turns : (m : Machine) (s w ls ll rs rl : List ℕ)
 unfolding numbersOf newAnswer
 chain-new-turns m s w ls ll rs rl = turns _ (chainNewTests m s w ls ll rs rl) (λ (x : Made). ofChain (x .answer)) (λ why. made (New.Refused why) rs rl)
     (λ c. freshOn c rs rl (madeWith m w (laidOf w (length w - 1) (side rs rl 0)))) _ refl (chain-new-first m s w ls ll rs rl) refl (λ why. refl) (λ why. refl)
+
+-- ---- the sizes of a fresh engine
+
+pub chain-new-stack : (m : Machine) (w : List ℕ) → ((i : ℕ) → i < length w → getD w i 0 < m .symbols)
+    → (right : Stack) × Stacked (m .symbols) (start (m .start) w .tape0) empty right
+chain-new-stack m w b = (wordStack w, word-stacked (m .symbols) w (λ i h. b (suc i) h))
+
+pub chain-new-sizes : (m : Machine) (w : List ℕ) (left right : Stack) → Stacked (m .symbols) (start (m .start) w .tape0) left right
+    → (lefts rights : ℕ) → (freshSizes w lefts rights ≡ true) ↔ ((lefts ≤ 1048576) × (rights ≤ 1048576) × (height right ≤ rights))
+unfolding freshSizes
+chain-new-sizes m w left right st l r = (says, holds)
+  where
+    many : height right ≡ runsOf w (length w - 1) 0 0
+    many = word-height (m .symbols) w left right st
+
+    says : both (leb l 1048576) (both (leb r 1048576) (leb (runsOf w (length w - 1) 0 0) r)) ≡ true → (l ≤ 1048576) × (r ≤ 1048576) × (height right ≤ r)
+    says h =
+        let p = both-split h in
+        let q = both-split (p .1) in
+        (leb-true _ _ (p .0), leb-true _ _ (q .0), omega (arith, many, leb-true (runsOf w (length w - 1) 0 0) r (q .1)))
+
+    holds : (l ≤ 1048576) × (r ≤ 1048576) × (height right ≤ r) → both (leb l 1048576) (both (leb r 1048576) (leb (runsOf w (length w - 1) 0 0) r)) ≡ true
+    holds h = both-true (le-leb _ _ (h .0)) (both-true (le-leb _ _ (h .1)) (le-leb (runsOf w (length w - 1) 0 0) r (omega (arith, many, h .2))))
 
 pub chain-run-turns : (m : Machine) (s : List ℕ) (rule : StopRule) (fuel : ℕ) (σ : Conf)
     → TurnsAway (1 ∷ 2 ∷ 3 ∷ 4 ∷ 5 ∷ 6 ∷ 8 ∷ 11 ∷ 12 ∷ 13 ∷ []) (chainRunTests m s σ fuel) (λ (x : Given). ofAnswer (x .answer)) (λ why. given σ (Ans.Refused why))
@@ -58,6 +89,9 @@ module _ (m : Machine) (s : List ℕ) where
       → TurnsAway (1 ∷ 2 ∷ 3 ∷ 4 ∷ 5 ∷ 6 ∷ 8 ∷ 11 ∷ 12 ∷ []) (chainAskTests m s σ) refusal asItWas (on (engineCheck m s σ))
   unfolding numbersOf
   chain-asked σ refusal asItWas on = turns _ (chainAskTests m s σ) refusal asItWas on _ refl (chain-ask-first m s σ)
+
+  pub chain-engine-turns : (σ : Conf) → TurnsAway (1 ∷ 2 ∷ 3 ∷ 4 ∷ 5 ∷ 6 ∷ 8 ∷ 11 ∷ 12 ∷ []) (chainAskTests m s σ) (λ (r : Checked). r) Refused (engineCheck m s σ)
+  chain-engine-turns σ = chain-asked σ (λ (r : Checked). r) Refused (λ c. c) refl (λ why. refl) (λ why. refl)
 
   pub chain-get-turns : (z : ℤ) (σ : Conf) → TurnsAway (1 ∷ 2 ∷ 3 ∷ 4 ∷ 5 ∷ 6 ∷ 8 ∷ 11 ∷ 12 ∷ []) (chainAskTests m s σ) ofGot Got.Refused (getAnswer m s z σ)
   unfolding getAnswer

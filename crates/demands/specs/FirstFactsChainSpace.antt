@@ -44,13 +44,15 @@ module _ (m : Machine) (s : List ℕ) (bytes : Bytes s) where
     ended q (full a l h u r g) =
         let stand : τ .sim .steps ≡ n = cc in
         record {
-          made = ran .made;
-          within = l;
-          counted = sym stand ∙ ran .went .counted;
-          steps = stand;
-          stands = ran .went .holds;
+          stops = record {
+            made = ran .made;
+            within = omega (arith, l);
+            counted = sym stand ∙ ran .went .counted;
+            steps = stand;
+            stands = ran .went .holds;
+            next = full-there m s bytes rule fuel σ τ n done;
+          };
           going = u refl;
-          next = full-there m s bytes rule fuel σ τ n done;
         }
 
     pub chain-full : EndsFull m (tableOf m s) (configOf σ) (configOf τ) fuel n (ChainFull m s τ)

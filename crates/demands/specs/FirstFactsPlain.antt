@@ -1,6 +1,6 @@
 -- Each operation on tables and words and of the plain engine turns away what its list says, and changes nothing then. Assumes nothing.
 use mathlib.Core.Path.{_≡_, refl}
-use mathlib.Core.Bool.{true, false}
+use mathlib.Core.Bool.{true}
 use mathlib.Core.Option.{Option}
 use mathlib.Core.List.{List, [], _∷_}
 use Prim.Native.Nat.{ℕ, _≤_, _<_}
@@ -26,8 +26,7 @@ use Rattle.machine.specs.Layout.{strideOf, entryCount, entryNumber, entryAt}
 use Rattle.machine.specs.Check.{answerAt, filledOn, tableCheck, lookedOn, lookupOf}
 use Rattle.machine.specs.Packing.{wordAt, packCheck, packInto}
 use Rattle.machine.specs.Word.{symbolIn, symbolsCheck, wordCheck}
-use Rattle.alphabet.specs.Encode.{allowedAt, byteAt, encodeCheck, encodeInto}
-use Rattle.alphabet.specs.EncodeFacts.{refused-place}
+use Rattle.alphabet.specs.Encode.{byteAt, encodeCheck, encodeInto}
 use Rattle.tape.specs.Moves.{freshOf}
 use Rattle.tape.specs.Questions.{cellOf, nonBlankOf, countOf, windowOf, findOf}
 use Rattle.course.specs.declared.StopRule.{StopRule}
@@ -43,6 +42,8 @@ use Rattle.sim.specs.Operations as Plains
 use Rattle.sim.specs.Questions as Asks
 use Rattle.demands.specs.FirstClaims.{numbersOf, TurnsAway, ofFresh, ofAnswer, ofStep, ofGot, ofExtent, ofCounted, ofLocated, ofLooked}
 use Rattle.demands.specs.FirstTests.{tableTests, packTests, wordTests, encodeTests, plainNewTests, plainRunTests, plainFastTests, plainAskTests}
+use Rattle.demands.specs.FirstTimeline.{plainEngineTests}
+use Rattle.demands.specs.FirstFactsTimeline.{plain-engine-first}
 use Rattle.demands.specs.FirstFacts.{turns, table-first, pack-first, word-first, encode-first, plain-new-first, plain-run-first, plain-fast-first, plain-ask-first}
 
 -- ---- tables and words
@@ -92,12 +93,6 @@ module _ (glyphs flags word : List ℕ) where
   encode-turns out = turns _ (encodeTests glyphs flags word (length out)) (λ (x : Checked × List ℕ). x .0) (λ why. (Refused why, out))
       (λ c. (c, filledOn c out (fillFrom (byteAt glyphs word) (length word) 0 out))) _ refl (encode-first glyphs flags word (length out)) refl (λ why. refl) (λ why. refl)
 
-  pub encode-place : (room i : ℕ) → encodeCheck glyphs flags word room ≡ Refused (Why.Glyph i)
-      → (i < length word) × (allowedAt glyphs flags word i ≡ false) × ((j : ℕ) → j < i → allowedAt glyphs flags word j ≡ true)
-  encode-place room i e =
-      let f = refused-place glyphs flags word room i e in
-      (f .inside, f .bad, f .good)
-
 -- ---- the plain engine
 
 pub plain-new-turns : (m : Machine) (s w c0 c1 c2 : List ℕ)
@@ -109,6 +104,10 @@ plain-new-turns m s w c0 c1 c2 = turns _ (plainNewTests m s w c0 c1 c2) (λ (x :
     _ refl (plain-new-first m s w c0 c1 c2) refl (λ why. refl) (λ why. refl)
 
 module _ (m : Machine) (s : List ℕ) (σ : Plain.Conf) where
+  pub plain-engine-turns : TurnsAway (1 ∷ 2 ∷ 3 ∷ 4 ∷ 5 ∷ 6 ∷ 11 ∷ 12 ∷ []) (plainEngineTests m s σ) (λ (r : Checked). r) Refused (Plains.engineCheck m s σ)
+  unfolding numbersOf
+  plain-engine-turns = turns _ (plainEngineTests m s σ) _ Refused (λ (c : Checked). c) _ refl (plain-engine-first m s σ) refl (λ why. refl) (λ why. refl)
+
   pub plain-step-turns : TurnsAway (1 ∷ 2 ∷ 3 ∷ 4 ∷ 5 ∷ 6 ∷ 11 ∷ 12 ∷ 13 ∷ []) (plainRunTests m s σ 1) (λ (x : Plains.StepGiven). ofStep (x .answer))
       (λ why. Plains.stepGiven σ (StepAns.Refused why)) (Plains.stepAnswer m s σ)
   unfolding numbersOf Plains.stepAnswer

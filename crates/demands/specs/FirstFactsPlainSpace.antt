@@ -88,14 +88,16 @@ module _ (m : Machine) (s : List ℕ) (bytes : Bytes s) where
     bare-full q (full a l e u r) =
         let stand : bareOf m τ .sim .steps ≡ n = cc in
         record {
-          made = ran .refines .made;
-          within = l;
-          counted = sym stand ∙ ran .refines .went .counted;
-          steps = stand;
-          stands = ran .refines .went .holds;
+          stops = record {
+            made = ran .refines .made;
+            within = omega (arith, l);
+            counted = sym stand ∙ ran .refines .went .counted;
+            steps = stand;
+            stands = ran .refines .went .holds;
+            next = lacks-room τ (run-says m s fuel σ (run-accepted m s rule fuel σ τ (Full n) done) .0 .table) (bare-fits m τ (ran .back .fits)) a
+                (sym (ap (entry (tableOf m s)) (config-bare m τ)) ∙ e) r;
+          };
           going = u refl;
-          next = lacks-room τ (run-says m s fuel σ (run-accepted m s rule fuel σ τ (Full n) done) .0 .table) (bare-fits m τ (ran .back .fits)) a
-              (sym (ap (entry (tableOf m s)) (config-bare m τ)) ∙ e) r;
         }
 
     pub plain-full : Ended (configOf m σ) (configOf m τ)
@@ -121,7 +123,7 @@ module _ (m : Machine) (s : List ℕ) (bytes : Bytes s) where
         ∙ ap (λ (x : Conf). given x (Ans.Done (Full (σ .sim .steps)))) (back-bare m σ)
 
     pub plain-stands : (runAnswer m s rule fuel σ ≡ given σ (Ans.Done (Full (σ .sim .steps)))) ↔ PlainFull m s σ
-    plain-stands = (λ e. plain-full rule fuel σ σ (σ .sim .steps) e .next, stands-full)
+    plain-stands = (λ e. plain-full rule fuel σ σ (σ .sim .steps) e .stops .next, stands-full)
 
   -- ---- and more fuel does not go past it
 

@@ -17,6 +17,7 @@ use Rattle.machine.specs.declared.Machine.{Machine}
 use Rattle.machine.specs.declared.Checked.{Checked}
 use Rattle.machine.specs.declared.Checked.the-variants.{Accepted, Refused}
 use Rattle.machine.specs.Check.{checkedOn}
+use Rattle.tables.specs.WellFormed.{Bytes}
 use Rattle.slots.specs.Slots.{slotCount}
 use Rattle.times.specs.Ops.{limit, Ops}
 use Rattle.times.specs.Timeline.{Call, Reply, refused, target, newOk, timesOk, slotFor, slotStep, goOn, fromSlot, goBack, stay, goTo, callCheck, onCheck, call, newCheck, born, onNew, new}
@@ -27,6 +28,8 @@ use Rattle.demands.specs.FirstClaims.{Test, or, firstOf, numbersOf, Turn
 use Rattle.demands.specs.FirstTests.{tableTests, plainSizes, plainFits}
 use Rattle.demands.specs.FirstFacts.{turns, on-first, table-first}
 use Rattle.demands.specs.FirstTimeline.{ofReply, isThere, plainEngineTests, slotHolds, timelineNewTests, timelineCallTests, TimelineOperations}
+use Rattle.demands.specs.FirstSlots.{Meaning}
+use Rattle.demands.specs.FirstFactsTimelineSpace.{Slots, Engine, slot-says, call-stops}
 
 -- ---- tests before an operation that itself turns away
 
@@ -150,8 +153,14 @@ module _ (X : Kind) (numbers : List ℕ) (engineTests : Machine → (table : Lis
             (subst (λ l. TurnsAway (numbers ++ 14 ∷ 15 ∷ 13 ∷ [] ++ 16 ∷ []) l (λ (x : Left). ofReply (x .0)) (λ why. (refused why, w)) (callOn X m s w c))
             (append-assoc (engineTests m s (w .engine)) asked slot) parted)
 
-  pub timeline-operations : TimelineOperations X numbers engineTests
-  timeline-operations = record { new = new-turns; call = call-turns }
+  pub timeline-operations : (M : Meaning X) → ((m : Machine) → Slots X M m) → ((m : Machine) (s : List ℕ) → Bytes s → Engine X M m s)
+      → TimelineOperations X M numbers engineTests
+  timeline-operations M slots engine = record {
+    new = new-turns;
+    call = call-turns;
+    slot-fits = λ m. slot-says X M m (slots m);
+    full = λ m s bytes w w′ c n. call-stops X M m s (engine m s bytes) w w′ n c;
+  }
 
 -- ---- the plain engine's own refusals
 

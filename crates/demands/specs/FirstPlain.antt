@@ -22,24 +22,28 @@ use Rattle.course.specs.declared.questions.Extent.the-variants as Extent
 use Rattle.course.specs.declared.questions.Counted.the-variants as Counted
 use Rattle.course.specs.declared.questions.Located.the-variants as Located
 use Rattle.sim.specs.Engine.{Conf}
-use Rattle.sim.specs.Operations.{bareOf, simFits, runCheck, Given, given, runAnswer, fastAnswer, StepGiven, stepGiven, stepAnswer, Made, made, newAnswer}
+use Rattle.sim.specs.Operations.{bareOf, simFits, engineCheck, runCheck, Given, given, runAnswer, fastAnswer, StepGiven, stepGiven, stepAnswer, Made, made, newAnswer}
 use Rattle.sim.specs.Questions.{questionCheck, getAnswer, extentAnswer, countAnswer, windowInto, findAnswer}
 use Rattle.sim_refines.specs.Meaning.{configOf, EngineFits}
 use Rattle.sim_refines.specs.BareFacts.{bare-fits, fits-bare}
 use Rattle.sim_refines.specs.OperationFacts.{fast-done}
 use Rattle.demands.specs.FirstClaims.{TurnsAway, ofFresh, ofAnswer, ofStep, ofGot, ofExtent, ofCounted, ofLocated}
 use Rattle.demands.specs.FirstTests.{plainNewTests, plainRunTests, plainFastTests, plainAskTests}
+use Rattle.demands.specs.FirstTimeline.{plainEngineTests}
 use Rattle.demands.specs.FirstSpace.{GoesOn, EndsFull, PlainFull}
-use Rattle.demands.specs.FirstFactsPlain.{plain-new-turns, plain-step-turns, plain-run-turns, plain-fast-turns, plain-get-turns, plain-extent-turns, plain-count-turns, plain-window-turns, plain-find-turns}
+use Rattle.demands.specs.FirstFactsPlain.{plain-new-turns, plain-engine-turns, plain-step-turns, plain-run-turns, plain-fast-turns, plain-get-turns, plain-extent-turns, plain-count-turns, plain-window-turns, plain-find-turns}
 use Rattle.demands.specs.FirstFactsPlainSpace.{plain-full, plain-stands, plain-onward, plain-step-full, plain-step-stands}
 
 pub record PlainOperations : Type 0 where
-  -- ---- "A refusal carries document 01's number and changes nothing."
+  -- ---- "A refusal carries its number from document 01 and changes no state, tape, run stack or store."
 
   -- a fresh engine: the answer, with the three cells buffers
   pub new : (m : Machine) (s w c0 c1 c2 : List ℕ)
       → TurnsAway (1 ∷ 2 ∷ 3 ∷ 4 ∷ 5 ∷ 6 ∷ 9 ∷ 10 ∷ 11 ∷ []) (plainNewTests m s w c0 c1 c2) (λ (x : Made). ofFresh (x .answer)) (λ why. made (New.Refused why) c0 c1 c2)
       (newAnswer m s w c0 c1 c2)
+  -- the check of an engine value: it writes nothing
+  pub engine-check : (m : Machine) (s : List ℕ) (σ : Conf)
+      → TurnsAway (1 ∷ 2 ∷ 3 ∷ 4 ∷ 5 ∷ 6 ∷ 11 ∷ 12 ∷ []) (plainEngineTests m s σ) (λ (r : Checked). r) Refused (engineCheck m s σ)
   -- a step, a run, the fast run: the answer, with the engine handed back and the three buffers
   pub step : (m : Machine) (s : List ℕ) (σ : Conf)
       → TurnsAway (1 ∷ 2 ∷ 3 ∷ 4 ∷ 5 ∷ 6 ∷ 11 ∷ 12 ∷ 13 ∷ []) (plainRunTests m s σ 1) (λ (x : StepGiven). ofStep (x .answer)) (λ why. stepGiven σ (StepAns.Refused why))
@@ -89,6 +93,7 @@ pub record PlainOperations : Type 0 where
 pub plain-operations : PlainOperations
 plain-operations = record {
   new = plain-new-turns;
+  engine-check = plain-engine-turns;
   step = plain-step-turns;
   run = plain-run-turns;
   fast = plain-fast-turns;

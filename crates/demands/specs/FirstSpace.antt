@@ -23,18 +23,23 @@ use Rattle.rle_refines.specs.Full.{FullAt}
 abbrev pub GoesOn : Machine → Table → Config → Type 0
 GoesOn m d c = Verdict (m .tapes) d c (outOfFuelAt c)
 
--- "Lack of space stops a run before the step that needs it, earlier steps kept": a run from the configuration `before` that left `after` and answered Full n
-pub record EndsFull (m : Machine) (d : Table) (before after : Config) (fuel n : ℕ) (NextIsFull : Type 0) : Type 0 where
+-- "Lack of space stops a run before the step that needs it, earlier steps kept": a run or a timeline's call that went on from the configuration `before` to the
+-- step t, left `after` and answered Full n
+pub record StopsFull (d : Table) (before after : Config) (t n : ℕ) (NextIsFull : Type 0) : Type 0 where
   pub made : ℕ
-  -- there was fuel for the next step
-  pub within : made < fuel
+  -- the next step was on the way
+  pub within : before .steps + made < t
   -- n steps are counted, and the configuration is the table machine's after exactly those
   pub counted : n ≡ before .steps + made
   pub steps : after .steps ≡ n
   pub stands : after ≡ run d made before
-  -- it would go on, but that the next step is full by the engine's rule
-  pub going : GoesOn m d after
+  -- the next step is full by the engine's rule
   pub next : NextIsFull
+
+-- a run with so much fuel, which tests for a proved loop before it looks for space: it would go on, but for the space
+pub record EndsFull (m : Machine) (d : Table) (before after : Config) (fuel n : ℕ) (NextIsFull : Type 0) : Type 0 where
+  pub stops : StopsFull d before after (before .steps + fuel) n NextIsFull
+  pub going : GoesOn m d after
 
 -- ---- the plain engine: "Moving off either end doubles the length ..; full exactly when that passes the buffer, on any tape."
 

@@ -1,6 +1,6 @@
 -- THE FIRST DEMAND of the operations on tables and input words: the table check, the lookup, packing, the word's check, and the encoder.
 use mathlib.Core.Path.{_≡_}
-use mathlib.Core.Bool.{true, false}
+use mathlib.Core.Bool.{true}
 use mathlib.Core.Logic.{_↔_}
 use mathlib.Core.List.{List, [], _∷_}
 use Prim.Native.Nat.{ℕ, _≤_, _<_}
@@ -16,14 +16,18 @@ use Rattle.machine.specs.declared.Looked.the-variants as Looked
 use Rattle.machine.specs.Check.{tableCheck, lookupOf}
 use Rattle.machine.specs.Packing.{packCheck, packInto}
 use Rattle.machine.specs.Word.{wordCheck}
-use Rattle.alphabet.specs.Encode.{allowedAt, encodeCheck, encodeInto}
+use Rattle.alphabet.specs.Encode.{symbolFor, allowedAt, encodeCheck, encodeInto}
+use Rattle.alphabet.specs.Glyphs.{First, Absent, namedNumbers, Allowed, FirstNotAllowed}
+use Rattle.alphabet.specs.GlyphFacts.{symbol-place, symbol-none, allowed-exact, refused-exact}
 use Rattle.tables.specs.WellFormed.{Bytes, WellFormed, FirstRefusal}
 use Rattle.tables.specs.CheckExact.{table-check-refuses-first, table-check-accepted, table-check-accepts}
 use Rattle.demands.specs.FirstClaims.{TurnsAway, ofLooked}
 use Rattle.demands.specs.FirstTests.{tableTests, packTests, wordTests, encodeTests}
-use Rattle.demands.specs.FirstFactsPlain.{table-turns, lookup-turns, pack-turns, word-turns, word-place, encode-turns, encode-place}
+use Rattle.demands.specs.FirstFactsPlain.{table-turns, lookup-turns, pack-turns, word-turns, word-place, encode-turns}
 
 pub record TableOperations : Type 0 where
+  -- ---- "A refusal carries its number from document 01 and changes no state, tape, run stack or store."
+
   -- the table check, "first in every operation that takes one"; it writes nothing
   pub check : (m : Machine) (s : List ℕ) → TurnsAway (1 ∷ 2 ∷ 3 ∷ 4 ∷ 5 ∷ 6 ∷ []) (tableTests m s) (λ (r : Checked). r) Refused (tableCheck m s)
   -- in document 01's words, by the layout and not by the check: the first that applies, of 6 with the lowest entry; none for a well-formed table
@@ -40,12 +44,17 @@ pub record TableOperations : Type 0 where
   pub word : (k : ℕ) (w : List ℕ) → TurnsAway (9 ∷ 10 ∷ []) (wordTests k w) (λ (r : Checked). r) Refused (wordCheck k w)
   pub word-first : (k : ℕ) (w : List ℕ) (i : ℕ) → wordCheck k w ≡ Refused (Why.WordSymbol i)
       → (i < length w) × (k ≤ getD w i 0) × ((j : ℕ) → j < i → getD w j 0 < k)
-  -- the encoder: the answer, with the lent output; of 17 the first place
+  -- a glyph's symbol, "the first equal one among the first 256": its place (First), and none exactly where there is no place; nothing is refused
+  pub symbol-for : (glyphs : List ℕ) (glyph i : ℕ) → (namedNumbers (symbolFor glyphs glyph) ≡ 1 ∷ i ∷ []) ↔ First glyphs glyph i
+  pub symbol-none : (glyphs : List ℕ) (glyph : ℕ) → (namedNumbers (symbolFor glyphs glyph) ≡ 0 ∷ []) ↔ Absent glyphs glyph
+  -- the encoder: the answer, with the lent output
   pub encode : (glyphs flags word out : List ℕ)
       → TurnsAway (17 ∷ 18 ∷ []) (encodeTests glyphs flags word (length out)) (λ (x : Checked × List ℕ). x .0) (λ why. (Refused why, out))
       (encodeCheck glyphs flags word (length out), encodeInto glyphs flags word out)
-  pub encode-first : (glyphs flags word : List ℕ) (room i : ℕ) → encodeCheck glyphs flags word room ≡ Refused (Why.Glyph i)
-      → (i < length word) × (allowedAt glyphs flags word i ≡ false) × ((j : ℕ) → j < i → allowedAt glyphs flags word j ≡ true)
+  -- "A glyph is the first equal one among the first 256; it must be blank or flagged input, a missing flag counting as unset." (Allowed): what the test asks
+  pub encode-glyph : (glyphs flags word : List ℕ) (i : ℕ) → (allowedAt glyphs flags word i ≡ true) ↔ Allowed glyphs flags (getD word i 0)
+  -- "17 glyph not allowed (first place)" (FirstNotAllowed), exactly there: no place below 256 holds the glyph, or the first that does is neither 0 nor flagged
+  pub encode-first : (glyphs flags word : List ℕ) (room i : ℕ) → (encodeCheck glyphs flags word room ≡ Refused (Why.Glyph i)) ↔ FirstNotAllowed glyphs flags word i
 
 pub table-operations : TableOperations
 table-operations = record {
@@ -56,6 +65,9 @@ table-operations = record {
   pack = pack-turns;
   word = word-turns;
   word-first = word-place;
+  symbol-for = symbol-place;
+  symbol-none = symbol-none;
   encode = encode-turns;
-  encode-first = encode-place;
+  encode-glyph = allowed-exact;
+  encode-first = refused-exact;
 }

@@ -6,7 +6,7 @@ use mathlib.Core.List.{List}
 use Prim.Native.Nat.{ℕ, _+_, _≤_, _<_, _^_}
 use lib.IntN.{ℤ, pos, _+ℤ_}
 use lib.ListN.{length, getD}
-use lib.Signed.{_<ℤ_}
+use lib.Signed.{_≤ℤ_, _<ℤ_}
 use Rattle.laws.specs.Position.{dn}
 use Rattle.symbol.specs.declared.State.{State}
 use Rattle.symbol.specs.declared.Symbol.{Symbol}
@@ -16,8 +16,8 @@ use Rattle.outcome.specs.declared.Outcome.{Outcome}
 use Rattle.outcome.specs.declared.Outcome.the-variants.{NeverHalts, OutOfFuel, Full}
 use Rattle.machine.specs.declared.Machine.{Machine}
 use Rattle.machine.specs.declared.Checked.the-variants.{Accepted}
-use Rattle.tables.specs.WellFormed.{Bytes}
-use Rattle.turing.specs.TableMachine.{run, start, Halted}
+use Rattle.tables.specs.WellFormed.{Bytes, WellFormed}
+use Rattle.turing.specs.TableMachine.{Table, Config, run, startTape, start, Halted}
 use Rattle.turing.specs.Tables.{tableOf}
 use Rattle.tape.specs.declared.Span.{Span}
 use Rattle.tape.specs.Answers.{Spans}
@@ -30,23 +30,54 @@ use Rattle.course.specs.declared.questions.Counted.the-variants as Counted
 use Rattle.sim.specs.Engine.{task}
 use Rattle.rle.specs.declared.ChainSim.{ChainSim}
 use Rattle.rle.specs.declared.Fresh.the-variants as New
-use Rattle.rle.specs.Engine.{Conf, conf, planOf, runOf, Leap, Go}
+use Rattle.records.specs.declared.Run.{Run}
+use Rattle.records.specs.declared.Listed.the-variants.{Filled}
+use Rattle.rle.specs.Engine.{Conf, conf, leftOf, rightOf, planOf, runOf, Leap, Go}
 use Rattle.rle.specs.Fits.{engineCheck, runCheck}
 use Rattle.rle.specs.Operations.{given, runAnswer, made, newAnswer}
 use Rattle.rle.specs.Questions.{getAnswer, extentAnswer, countAnswer, windowInto}
+use Rattle.rle.specs.Records.{leftAnswer, leftInto, rightAnswer, rightInto}
 use Rattle.sim_refines.specs.Counts.{Counts}
-use Rattle.rle_refines.specs.Meaning.{tapeOf, configOf, Alike}
+use Rattle.rle_refines.specs.Meaning.{Stack, empty, stackOf, tapeOf, configOf, Alike}
+use Rattle.rle_refines.specs.Full.{height, Stacked}
 use Rattle.rle_refines.specs.Statement.{FullWithin}
 use Rattle.rle_refines.specs.Operations.{RunHolds}
 use Rattle.rle_refines.specs.PatternFacts.{empty-exact}
 use Rattle.rle_refines.specs.OperationFacts.{engine-says, run-holds, run-never-halts, new-holds}
 use Rattle.rle_refines.specs.RuleFacts.{run-off}
 use Rattle.rle_refines.specs.QuestionFacts.{get-is, extent-is, window-into}
-use Rattle.demands.specs.ChainClaims.{MacroStep}
+use Rattle.demands.specs.Accepts.{WordOf, FreshPlaces, ChainTaken}
+use Rattle.demands.specs.ChainClaims.{MacroStep, Macros, Lists}
 use Rattle.demands.specs.ChainQuestions.{chain-counts}
 use Rattle.demands.specs.ChainFacts.{macro-step, space-exact, cut-same}
+use Rattle.demands.specs.ChainAccepts.{right-stack, chain-new-answers, chain-run-answers, chain-get-answers, chain-span-answers, chain-count-answers, chain-asked}
+use Rattle.demands.specs.ChainMacros.{own-stacks, run-macros, macros-one}
+use Rattle.demands.specs.ChainRecords.{left-lists, right-lists, left-answers, right-answers}
+use Rattle.demands.specs.WindowFacts.{chain-window-past}
 
 pub record ChainEngine : Type 0 where
+  -- ---- "For every table, word and engine value that document 01 accepts, with step totals up to 2^62 and while space lasts, answers and tapes equal the Rust's in
+  -- differential runs, save its named departures, and both engines are proved equal to document 01's table machine.": these are the tables, words and engine
+  -- values. What document 01 accepts (Accepts), the engine answers; the other parts say that the answer is the table machine's
+
+  -- a fresh engine; every word has a right stack
+  pub accepts-new : (m : Machine) (s w ls ll rs rl : List ℕ) → WellFormed m s → WordOf m w → FreshPlaces m w ls ll rs rl
+      → (v : ChainSim) × (rs′ : List ℕ) × (rl′ : List ℕ) × (newAnswer m s w ls ll rs rl ≡ made (New.Made v) rs′ rl′)
+  pub right-stacks : (m : Machine) (w : List ℕ) → WordOf m w → (r : Stack) × Stacked (m .symbols) (startTape w) empty r
+  -- a run
+  pub accepts-run : (m : Machine) (s : List ℕ) (σ : Conf) → ChainTaken m s σ → (rule : StopRule) (fuel : ℕ) → σ .sim .steps + fuel ≤ 2 ^ 62
+      → (τ : Conf) × (o : Outcome) × (runAnswer m s rule fuel σ ≡ given τ (Ans.Done o))
+  -- the questions; `window` fills its slice (windows), and a slice of records has a place for each run
+  pub accepts-get : (m : Machine) (s : List ℕ) (σ : Conf) → ChainTaken m s σ → (z : ℤ) → (x : Symbol) × (getAnswer m s z σ ≡ Got.Found x)
+  pub accepts-span : (m : Machine) (s : List ℕ) (σ : Conf) → ChainTaken m s σ → (x : Span) × (extentAnswer m s σ ≡ Extent.Found x)
+  pub accepts-count : (m : Machine) (s : List ℕ) (σ : Conf) → ChainTaken m s σ → (n : ℕ) × (countAnswer m s σ ≡ Counted.Found n)
+  pub accepts-window : (m : Machine) (s : List ℕ) (σ : Conf) → ChainTaken m s σ → engineCheck m s σ ≡ Accepted
+  pub accepts-left : (m : Machine) (s : List ℕ) (σ : Conf) → ChainTaken m s σ → (out : List Run) → height (stackOf (leftOf σ)) ≤ length out
+      → leftAnswer m s (length out) σ ≡ Filled (height (stackOf (leftOf σ)))
+  pub accepts-right : (m : Machine) (s : List ℕ) (σ : Conf) → ChainTaken m s σ → (out : List Run) → height (stackOf (rightOf σ)) ≤ length out
+      → rightAnswer m s (length out) σ ≡ Filled (height (stackOf (rightOf σ)))
+  -- ---- "and both engines are proved equal to document 01's table machine."
+
   -- "It starts in the start state, heads at 0, tape 0 holding the word from 0 rightward, all else blank.": a fresh engine holds that configuration, and is accepted
   pub fresh : (m : Machine) (s w ls ll rs rl : List ℕ) (v : ChainSim) (rs′ rl′ : List ℕ) → newAnswer m s w ls ll rs rl ≡ made (New.Made v) rs′ rl′
       → (configOf (conf v ls ll rs′ rl′) ≡ start (m .start) w) × (engineCheck m s (conf v ls ll rs′ rl′) ≡ Accepted)
@@ -63,7 +94,11 @@ pub record ChainEngine : Type 0 where
   -- a macro step of n repeats is n steps of the table machine, head, lowest and highest included; n as document 01 says; one more macro step (MacroStep)
   pub macro-steps : (m : Machine) (s : List ℕ) → Bytes s → (fuel : ℕ) (σ : Conf) → runCheck m s fuel σ ≡ Accepted → (proves : Bool) (rule : StopRule) (j : Leap)
       → planOf (task m s proves rule) fuel σ ≡ Go j → MacroStep (task m s proves rule) fuel σ j
-  -- "`macro_steps` .. depends on how fuel was cut": fuel a and then b, or a + b at once, is the same answer, and the same engine but for the macro steps and what
+  -- "`macro_steps` adds one a macro step": a run adds the number of macro steps that it is made of (Macros). There is one such number between two configurations
+  pub macros : (m : Machine) (s : List ℕ) → Bytes s → (rule : StopRule) (fuel : ℕ) (σ τ : Conf) (o : Outcome) → runAnswer m s rule fuel σ ≡ given τ (Ans.Done o)
+      → (n : ℕ) × (τ .sim .macros ≡ σ .sim .macros + n) × Macros m (tableOf m s) fuel (configOf σ) n (configOf τ)
+  pub macros-one : (m : Machine) (d : Table) (fuel n n′ : ℕ) (c e : Config) → Macros m d fuel c n e → Macros m d fuel c n′ e → n ≡ n′
+  -- "so it depends on how fuel was cut": fuel a and then b, or a + b at once, is the same answer, and the same engine but for the macro steps and what
   -- lies past the live runs (Alike)
   pub cuts : (m : Machine) (s : List ℕ) → Bytes s → (rule : StopRule) (a b : ℕ) (σ τ υ ω : Conf) (n : ℕ) (o p : Outcome)
       → runAnswer m s rule a σ ≡ given τ (Ans.Done (OutOfFuel n)) → runAnswer m s rule b τ ≡ given υ (Ans.Done o) → runAnswer m s rule (a + b) σ ≡ given ω (Ans.Done p)
@@ -77,6 +112,14 @@ pub record ChainEngine : Type 0 where
       → (σ .sim .tape .left ≡ 0) ↔ ((z : ℤ) → z <ℤ tapeOf σ .head → tapeOf σ .cell z ≡ 0)
   pub empty-right : (m : Machine) (s : List ℕ) (σ : Conf) → engineCheck m s σ ≡ Accepted
       → (σ .sim .tape .right ≡ 0) ↔ ((z : ℤ) → tapeOf σ .head <ℤ z → tapeOf σ .cell z ≡ 0)
+  -- the live runs of the two sides are the stacks of the tape held; the stack rule leaves no other two
+  pub stacks : (m : Machine) (s : List ℕ) (σ : Conf) → engineCheck m s σ ≡ Accepted → Stacked (m .symbols) (tapeOf σ) (stackOf (leftOf σ)) (stackOf (rightOf σ))
+  -- "`left()` and `right()` fill a lent slice of records: the runs of one side, topmost last, symbol and length together": so many as are answered, and the places
+  -- past these stay (Lists)
+  pub lefts : (m : Machine) (s : List ℕ) (σ : Conf) (out : List Run) (n : ℕ) → leftAnswer m s (length out) σ ≡ Filled n
+      → Lists (stackOf (leftOf σ)) n out (leftInto m s σ out)
+  pub rights : (m : Machine) (s : List ℕ) (σ : Conf) (out : List Run) (n : ℕ) → rightAnswer m s (length out) σ ≡ Filled n
+      → Lists (stackOf (rightOf σ)) n out (rightInto m s σ out)
   -- "`get`, `non_blank`, `count_non_blank`, `window` .. answer over all of i64; a cell outside is blank": the questions answer what the table machine's tape
   -- holds. At a position of 64 bits the cell; of the non-blank cells the smallest range (Spans) and the number (Counts)
   pub gets : (m : Machine) (s : List ℕ) (σ : Conf) (z : ℤ) → dn z ≤ 2 ^ 63 → (x : Symbol) → getAnswer m s z σ ≡ Got.Found x → x .0 ≡ tapeOf σ .cell z
@@ -85,20 +128,38 @@ pub record ChainEngine : Type 0 where
   -- "`window` fills its whole lent slice, positions past i64 blank": place j holds the cell at z + j, and past i64 the tape is blank
   pub windows : (m : Machine) (s : List ℕ) (σ : Conf) → engineCheck m s σ ≡ Accepted → (z : ℤ) → dn z ≤ 2 ^ 63 → (out : List ℕ)
       → (length (windowInto m s z σ out) ≡ length out) × ((j : ℕ) → j < length out → getD (windowInto m s z σ out) j 0 ≡ tapeOf σ .cell (z +ℤ pos j))
+  -- where the position z + j is 2^63 or more, the place holds 0
+  pub windows-past : (m : Machine) (s : List ℕ) (σ : Conf) → engineCheck m s σ ≡ Accepted → (z : ℤ) → dn z ≤ 2 ^ 63 → (out : List ℕ) (j : ℕ) → j < length out
+      → pos (2 ^ 63) ≤ℤ (z +ℤ pos j) → getD (windowInto m s z σ out) j 0 ≡ 0
 
 pub chain-engine : ChainEngine
 chain-engine = record {
+  accepts-new = chain-new-answers;
+  right-stacks = right-stack;
+  accepts-run = chain-run-answers;
+  accepts-get = chain-get-answers;
+  accepts-span = chain-span-answers;
+  accepts-count = chain-count-answers;
+  accepts-window = chain-asked;
+  accepts-left = λ m s σ t out h. left-answers m s σ out (chain-asked m s σ t) h;
+  accepts-right = λ m s σ t out h. right-answers m s σ out (chain-asked m s σ t) h;
   fresh = λ m s w ls ll rs rl v rs′ rl′ e. let h = new-holds m s w ls ll rs rl v rs′ rl′ e in (h .holds, h .accepted);
   runs = run-holds;
   rules = run-off;
   never = λ m s b rule fuel σ τ n p e. run-never-halts m s b rule fuel σ τ (NeverHalts n p) e n p refl;
   macro-steps = macro-step;
+  macros = run-macros;
+  macros-one = λ m d fuel n n′ c e x y. macros-one m d x y refl;
   cuts = cut-same;
   space = space-exact;
   empty-left = λ m s σ c. empty-exact m σ (engine-says m s σ c .fits) L tt;
   empty-right = λ m s σ c. empty-exact m σ (engine-says m s σ c .fits) R tt;
+  stacks = λ m s σ c. own-stacks m σ (engine-says m s σ c .fits);
+  lefts = left-lists;
+  rights = right-lists;
   gets = get-is;
   spans = extent-is;
   counts = chain-counts;
   windows = window-into;
+  windows-past = chain-window-past;
 }

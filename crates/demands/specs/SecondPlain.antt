@@ -2,9 +2,10 @@
 use mathlib.Core.Path.{_≡_, refl}
 use mathlib.Core.Bool.{true}
 use mathlib.Core.List.{List}
-use Prim.Native.Nat.{ℕ, _≤_, _<_, _^_}
+use Prim.Native.Nat.{ℕ, _+_, _≤_, _<_, _^_}
 use lib.IntN.{ℤ, pos, _+ℤ_}
 use lib.ListN.{length, getD}
+use lib.Signed.{_≤ℤ_}
 use Rattle.laws.specs.Position.{dn}
 use Rattle.symbol.specs.declared.State.{State}
 use Rattle.symbol.specs.declared.Symbol.{Symbol}
@@ -15,7 +16,7 @@ use Rattle.outcome.specs.declared.Outcome.the-variants.{NeverHalts}
 use Rattle.outcome.specs.declared.Status.{Status}
 use Rattle.machine.specs.declared.Machine.{Machine}
 use Rattle.machine.specs.declared.Checked.the-variants.{Accepted}
-use Rattle.tables.specs.WellFormed.{Bytes}
+use Rattle.tables.specs.WellFormed.{Bytes, WellFormed}
 use Rattle.turing.specs.TableMachine.{run, start, Halted}
 use Rattle.turing.specs.Tables.{tableOf}
 use Rattle.tape.specs.declared.Span.{Span}
@@ -47,11 +48,37 @@ use Rattle.times.specs.Timeline.{Call}
 use Rattle.times.specs.Kind.{WorldOf, callOn}
 use Rattle.sim_engine.specs.Kind.{plainKind}
 use Rattle.sim_laws.specs.PastFacts.{call-past}
+use Rattle.demands.specs.Accepts.{WordOf, FreshCells, PlainTaken, PackedOf}
+use Rattle.demands.specs.PlainAccepts.{plain-new-answers, plain-run-answers, plain-fast-answers, plain-step-answers, plain-get-answers, plain-span-answers, plain-count-answers, plain-asked, plain-find-answers}
 use Rattle.demands.specs.PlainClaims.{tapeOn}
 use Rattle.demands.specs.PlainLive.{get-live, span-live, count-live, window-live, find-live}
 use Rattle.demands.specs.PlainQuestions.{plain-gets, plain-spans, plain-counts, plain-windows, plain-finds}
+use Rattle.demands.specs.WindowFacts.{plain-window-past}
 
 pub record PlainEngine : Type 0 where
+  -- ---- "For every table, word and engine value that document 01 accepts, with step totals up to 2^62 and while space lasts, answers and tapes equal the Rust's in
+  -- differential runs, save its named departures, and both engines are proved equal to document 01's table machine.": these are the tables, words and engine
+  -- values. What document 01 accepts (Accepts), the engine answers; the other parts say that the answer is the table machine's
+
+  -- a fresh engine
+  pub accepts-new : (m : Machine) (s w c0 c1 c2 : List ℕ) → WellFormed m s → WordOf m w → FreshCells m w c0 c1 c2
+      → (v : Simulator) × (d0 : List ℕ) × (d1 : List ℕ) × (d2 : List ℕ) × (newAnswer m s w c0 c1 c2 ≡ made (New.Made v) d0 d1 d2)
+  -- a run, the fast run over the table's packed words, and a step, which counts as fuel 1
+  pub accepts-run : (m : Machine) (s : List ℕ) (σ : Conf) → PlainTaken m s σ → (fuel : ℕ) → σ .sim .steps + fuel ≤ 2 ^ 62 → (rule : StopRule)
+      → (τ : Conf) × (o : Outcome) × (runAnswer m s rule fuel σ ≡ given τ (Ans.Done o))
+  pub accepts-fast : (m : Machine) (s : List ℕ) (σ : Conf) → PlainTaken m s σ → (fuel : ℕ) → σ .sim .steps + fuel ≤ 2 ^ 62 → (words : List ℕ) → PackedOf m s words
+      → (rule : StopRule) → (τ : Conf) × (o : Outcome) × (fastAnswer m s words rule fuel σ ≡ given τ (Ans.Done o))
+  pub accepts-step : (m : Machine) (s : List ℕ) (σ : Conf) → PlainTaken m s σ → σ .sim .steps + 1 ≤ 2 ^ 62
+      → (τ : Conf) × (x : Status) × (stepAnswer m s σ ≡ stepGiven τ (StepAns.Done x))
+  -- the five questions, of a tape that the machine has; `window` fills its slice (windows)
+  pub accepts-get : (m : Machine) (s : List ℕ) (σ : Conf) → PlainTaken m s σ → (i : ℕ) → i < m .tapes → (z : ℤ) → (x : Symbol) × (getAnswer m s i z σ ≡ Got.Found x)
+  pub accepts-span : (m : Machine) (s : List ℕ) (σ : Conf) → PlainTaken m s σ → (i : ℕ) → i < m .tapes → (x : Span) × (extentAnswer m s i σ ≡ Extent.Found x)
+  pub accepts-count : (m : Machine) (s : List ℕ) (σ : Conf) → PlainTaken m s σ → (i : ℕ) → i < m .tapes → (n : ℕ) × (countAnswer m s i σ ≡ Counted.Found n)
+  pub accepts-window : (m : Machine) (s : List ℕ) (σ : Conf) → PlainTaken m s σ → (i : ℕ) → i < m .tapes → questionCheck m s i σ ≡ Accepted
+  pub accepts-find : (m : Machine) (s : List ℕ) (σ : Conf) → PlainTaken m s σ → (i : ℕ) → i < m .tapes → (z : ℤ) (d : Dir)
+      → (x : Spot) × (findAnswer m s i z d σ ≡ Located.Found x)
+  -- ---- "and both engines are proved equal to document 01's table machine."
+
   -- "It starts in the start state, heads at 0, tape 0 holding the word from 0 rightward, all else blank.": a fresh engine holds that configuration, and fits
   pub fresh : (m : Machine) (s w c0 c1 c2 : List ℕ) (v : Simulator) (d0 d1 d2 : List ℕ) → newAnswer m s w c0 c1 c2 ≡ made (New.Made v) d0 d1 d2
       → (configOf m (conf v d0 d1 d2) ≡ start (m .start) w) × (simFits m v d0 d1 d2 ≡ true)
@@ -103,12 +130,24 @@ pub record PlainEngine : Type 0 where
   -- "`window` fills its whole lent slice, positions past i64 blank": place j holds the cell at z + j, and past i64 the tape is blank
   pub windows : (m : Machine) (s : List ℕ) (i : ℕ) (σ : Conf) → questionCheck m s i σ ≡ Accepted → (z : ℤ) → dn z ≤ 2 ^ 63 → (out : List ℕ)
       → (length (windowInto m s i z σ out) ≡ length out) × ((j : ℕ) → j < length out → getD (windowInto m s i z σ out) j 0 ≡ tapeOn i (configOf m σ) .cell (z +ℤ pos j))
+  -- where the position z + j is 2^63 or more, the place holds 0
+  pub windows-past : (m : Machine) (s : List ℕ) (i : ℕ) (σ : Conf) → questionCheck m s i σ ≡ Accepted → (z : ℤ) → dn z ≤ 2 ^ 63 → (out : List ℕ) (j : ℕ) → j < length out
+      → pos (2 ^ 63) ≤ℤ (z +ℤ pos j) → getD (windowInto m s i z σ out) j 0 ≡ 0
   -- "`find_non_blank` answers none exactly where there is no such cell": none, or the nearest (Finds)
   pub finds : (m : Machine) (s : List ℕ) (i : ℕ) (σ : Conf) (z : ℤ) (d : Dir) (x : Spot) → findAnswer m s i z d σ ≡ Located.Found x
       → Finds (tapeOn i (configOf m σ) .cell) z d x
 
 pub plain-engine : PlainEngine
 plain-engine = record {
+  accepts-new = plain-new-answers;
+  accepts-run = plain-run-answers;
+  accepts-fast = plain-fast-answers;
+  accepts-step = plain-step-answers;
+  accepts-get = plain-get-answers;
+  accepts-span = plain-span-answers;
+  accepts-count = plain-count-answers;
+  accepts-window = plain-asked;
+  accepts-find = plain-find-answers;
   fresh = λ m s w c0 c1 c2 v d0 d1 d2 e. (new-holds m s w c0 c1 c2 v d0 d1 d2 e, new-fits m s w c0 c1 c2 v d0 d1 d2 e);
   runs = λ m s b rule fuel σ τ o e. run-holds m s b rule fuel σ τ o e;
   rules = run-off;
@@ -134,5 +173,6 @@ plain-engine = record {
   spans = plain-spans;
   counts = plain-counts;
   windows = plain-windows;
+  windows-past = plain-window-past;
   finds = plain-finds;
 }

@@ -1,14 +1,19 @@
--- THE THIRD DEMAND: "ONE claim over every list of seek, forward and back calls on a fresh timeline over either engine: where the engine stands, what each
--- call answers, which are refused, and that `never` means never."
--- `Demand` (timeline/Statement) is the claim, and `WholeList` there says what is claimed of a list. The calls and the new timeline are `callOn` and `newOn`
--- (times/Kind), which the contracts of `new`, `seek`, `forward` and `back` cite for `plainKind` and `chainKind`.
+-- THE THIRD DEMAND: "Take any fresh timeline, whatever its settings, over a fresh engine of either kind, and any list of seek, forward and back calls on it,
+-- refused ones included, none ending for lack of space. After the list the engine holds the table machine's configuration after p steps, p read from the list
+-- by document 01's rule. Each accepted call is answered with the verdict of the configuration that the engine then holds. A call is refused exactly when its
+-- target is over 2^62. So from any such p, forward a and then forward b end in the same configuration and answer as one forward a + b, where p + a + b is
+-- within that limit and none of the three calls ends for lack of space. Where an answer is never, the table machine, run without limits, halts at no later
+-- step."
+-- `Demand` (timeline/Statement) is the claim, and `WholeList` there says what is claimed of a list, of lists with calls that end for lack of space too.
+-- The calls and the new timeline are `callOn` and `newOn` (times/Kind), which the contracts of `new`, `seek`, `forward` and `back` cite for `plainKind` and
+-- `chainKind`.
 use Rattle.timeline.specs.Family.{Family}
-use Rattle.timeline.specs.Statement.{Demand}
-use Rattle.timeline.specs.Third.{demand}
+use Rattle.timeline.specs.Statement.{Demand, DemandFrom}
+use Rattle.timeline.specs.Third.{demand, demand-from}
 use Rattle.sim_laws.specs.Family.{plainFamily}
-use Rattle.sim_laws.specs.Instance.{plain-instances}
+use Rattle.sim_laws.specs.Instance.{plain-instances, plain-begins}
 use Rattle.rle_laws.specs.Family.{chainFamily}
-use Rattle.rle_laws.specs.Instance.{chain-instances}
+use Rattle.rle_laws.specs.Instance.{chain-instances, chain-begins}
 
 -- the kind of engine
 pub data Kinds : Type 0 where
@@ -19,5 +24,12 @@ familyOf plain = plainFamily
 familyOf chain = chainFamily
 
 pub third-demand : (k : Kinds) → Demand (familyOf k)
-third-demand plain = demand plainFamily plain-instances
-third-demand chain = demand chainFamily chain-instances
+third-demand plain = demand plainFamily plain-instances plain-begins
+third-demand chain = demand chainFamily chain-instances chain-begins
+
+-- The same claim of a new timeline over any engine value that it accepts. The configuration that the value holds is in the place of the start, and its step
+-- count in the place of 0: "A new timeline saves slot 0 at its starting step." "A target below the start counts as the start." Of both, `slots`: "reading a
+-- recorded slot must give the engine saved."
+pub third-demand-from : (k : Kinds) → DemandFrom (familyOf k)
+third-demand-from plain = demand-from plainFamily plain-instances
+third-demand-from chain = demand-from chainFamily chain-instances
