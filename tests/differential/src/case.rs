@@ -77,6 +77,11 @@ pub enum Act {
         fuel: u64,
         words: Words,
     },
+    /// The entry for a state and three symbols, whatever they are.
+    Lookup {
+        state: u16,
+        read: [u8; 3],
+    },
     Ask(Question),
 }
 

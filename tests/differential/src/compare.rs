@@ -9,8 +9,8 @@ use crate::held::Plain;
 use crate::law::{self, Refusal, fields, tape_fields};
 use crate::lent::{GUARD, Held};
 use crate::oracle::{self, Sim};
-use crate::port::{self, View};
-use crate::tally::{Difference, OUT, Tally, same};
+use crate::port::{self, Out, View};
+use crate::tally::{Difference, FAR_FIND, FULL, LACKING_SYMBOL, OUT, Tally, same};
 
 /// A list of calls under way.
 struct Pairing<'a> {
@@ -109,6 +109,7 @@ impl<'a> Pairing<'a> {
         match *act {
             Act::Check => self.check(tally),
             Act::Pack { more } => self.pack(more, tally),
+            Act::Lookup { state, read } => self.lookup(state, read, tally),
             Act::Step => self.step(tally),
             Act::Run { rule, fuel } => self.run(rule, fuel, None, tally),
             Act::Fast { rule, fuel, words } => {
@@ -148,6 +149,24 @@ impl<'a> Pairing<'a> {
         Ok(true)
     }
 
+    fn lookup(&mut self, state: u16, read: [u8; 3], tally: &mut Tally) -> Result<bool, Difference> {
+        let Subject { sizes, table, refusal, machine, .. } = self.subject;
+        let mut out = OUT;
+        let result = port::lookup(*sizes, table, state, read, &mut out);
+        if !self.held.settle((result, &out), *refusal, 8, tally)? {
+            return Ok(true);
+        }
+        let want = sizes.entry(table, state, read);
+        same!(entry_told(&out)?, want, "entry (by its number)");
+        let rust = oracle::lookup(machine.as_ref().expect("an accepted table has its machine"), state, read);
+        if read[self.tapes()..].iter().all(|&a| a == 0) {
+            same!(entry_told(&out)?, rust, "entry (the Rust's)");
+        } else {
+            tally.departures[LACKING_SYMBOL] += u64::from(rust != want);
+        }
+        Ok(true)
+    }
+
     fn step(&mut self, tally: &mut Tally) -> Result<bool, Difference> {
         let Subject { sizes, table, refusal, .. } = self.subject;
         let expected = refusal.or(self.refusal).or_else(|| law::fuel(self.held.engine[0], 1));
@@ -160,7 +179,7 @@ impl<'a> Pairing<'a> {
         let room = self.held.room();
         let sim = self.sim.as_mut().expect("an accepted engine has its oracle");
         let want = if oracle::is_full(sim, room) {
-            tally.departures[0] += 1;
+            tally.departures[FULL] += 1;
             2
         } else {
             match sim.step() {
@@ -216,7 +235,7 @@ impl<'a> Pairing<'a> {
             if made == fuel || !oracle::is_full(sim, room) {
                 return Err(format!("the port is full at {end}, where there is no fuel left or room enough"));
             }
-            tally.departures[0] += 1;
+            tally.departures[FULL] += 1;
         } else {
             // Some fuel more than the port used: enough to tell, and no endless run.
             let want = oracle::answer(oracle::run(sim, rule, fuel.min(made + 64)));
@@ -327,7 +346,7 @@ impl<'a> Pairing<'a> {
                         let want = law::find_non_blank(cells, origin, from, dir);
                         same!(port, want, "place found (by definition, the Rust's sum overflows)");
                         if want != rust {
-                            tally.departures[2] += 1;
+                            tally.departures[FAR_FIND] += 1;
                         }
                     }
                 }
@@ -335,6 +354,16 @@ impl<'a> Pairing<'a> {
         }
         Ok(())
     }
+}
+
+/// An entry as `out` tells it: next state, writes, moves; none leaves all but `out[0]` as it was.
+pub fn entry_told(out: &Out) -> Result<Option<[u64; 7]>, Difference> {
+    same!(out[0] > 1, false, "out[0] = {} is 0 or 1", out[0]);
+    if out[0] == 0 {
+        same!(out[1..], OUT[1..], "out past an undefined entry");
+        return Ok(None);
+    }
+    Ok(Some(std::array::from_fn(|i| out[1 + i])))
 }
 
 /// The words that are lent to a fast run.

@@ -11,6 +11,7 @@ pub fn every_operation(rng: &mut Rng) -> Vec<Act> {
     vec![
         Act::Check,
         Act::Pack { more: rng.pick(&[-1, 0, 0, 1]) },
+        Act::Lookup { state: rng.below(4) as u16, read: [rng.below(3) as u8, 0, 0] },
         Act::Step,
         run(rng.below(30)),
         fast(rng.below(30)),

@@ -1,4 +1,4 @@
-//! The encoder against the Rust's `Machine::encode_input`.
+//! The encoder against the Rust's `Machine::encode_input`, and its two parts against `Alphabet::symbol` and `is_input`.
 
 use std::fmt;
 
@@ -6,6 +6,7 @@ use crate::case::{Short, Trial, smaller_lists};
 use crate::generate::Rng;
 use crate::law::{Refusal, at, when};
 use crate::lent::Lent;
+use crate::machine::Machine;
 use crate::runner::Runner;
 use crate::tally::{Difference, OUT, Tally, judge, same};
 use crate::{oracle, port};
@@ -33,15 +34,47 @@ impl Case {
         at(bad, 17).or_else(|| when(self.room < self.word.len(), 18))
     }
 
-    /// The Rust's answer. Its glyphs are `char`s: each number here becomes one of its own, since only equality counts.
-    pub(crate) fn rust(&self) -> Result<Vec<u8>, usize> {
+    /// The Rust's machine with these glyphs and flags, and its glyphs for ours. Its glyphs are `char`s: each number here
+    /// becomes one of its own, since only equality counts.
+    fn machine(&self) -> (Machine, impl Fn(&u32) -> char) {
         let mut seen: Vec<u32> = [&self.glyphs[..], &self.word].concat();
         seen.sort_unstable();
         seen.dedup();
-        let char_of = |glyph: &u32| char::from_u32(0x100 + seen.binary_search(glyph).unwrap() as u32).unwrap();
-        let word: String = self.word.iter().map(char_of).collect();
+        let char_of = move |glyph: &u32| char::from_u32(0x100 + seen.binary_search(glyph).unwrap() as u32).unwrap();
         let input = self.flags.iter().map(|&f| f != 0).collect();
-        oracle::encode(self.glyphs.iter().map(char_of).collect(), input, &word)
+        (oracle::with_alphabet(self.glyphs.iter().map(&char_of).collect(), input), char_of)
+    }
+
+    /// The Rust's answer.
+    pub(crate) fn rust(&self) -> Result<Vec<u8>, usize> {
+        let (machine, char_of) = self.machine();
+        oracle::encode(&machine, &self.word.iter().map(char_of).collect::<String>())
+    }
+
+    /// The symbol of each glyph of the word and of some of the list, and whether the symbols around it are input.
+    fn parts(&self, tally: &mut Tally) -> Result<(), Difference> {
+        let (machine, char_of) = self.machine();
+        let at = |i: usize| self.glyphs.get(i);
+        let listed = [0, 1, 254, 255, 256, 257].into_iter().filter_map(at).chain(self.glyphs.last());
+        let mut symbols = vec![0, 254, 255, self.flags.len() as u8, self.flags.len().wrapping_sub(1) as u8];
+        for glyph in self.word.iter().chain(listed) {
+            let (mut out, want) = (OUT, oracle::symbol_for(&machine, char_of(glyph)));
+            same!(port::symbol_for(&self.glyphs, *glyph, &mut out), 0, "symbol_for {glyph}: result");
+            same!(out[0] > 1, false, "symbol_for {glyph}: out[0] = {} is 0 or 1", out[0]);
+            let told = if out[0] == 0 { 1 } else { 2 };
+            same!(out[told..], OUT[told..], "symbol_for {glyph}: the rest of out");
+            same!((out[0] == 1).then_some(out[1]), want.map(u64::from), "symbol_for {glyph}");
+            symbols.extend(want);
+            tally.questions += 1;
+        }
+        for symbol in symbols {
+            let mut out = OUT;
+            same!(port::is_input(&self.flags, symbol, &mut out), 0, "is_input {symbol}: result");
+            same!(out[0], u64::from(oracle::is_input(&machine, symbol)), "is_input {symbol}");
+            same!(out[1..], OUT[1..], "is_input {symbol}: the rest of out");
+            tally.questions += 1;
+        }
+        Ok(())
     }
 }
 
@@ -69,7 +102,7 @@ impl Trial for Case {
         if accepted {
             same!(Ok(symbols.part()[..length].to_vec()), rust, "symbols");
         }
-        Ok(())
+        self.parts(tally)
     }
 
     fn smaller(&self) -> Vec<Self> {

@@ -44,6 +44,13 @@ impl Rng {
         self.below(n) == 0
     }
 
+    /// A number from `low`, at least 1, to `high`, its number of bits as often any as another.
+    pub fn log(&mut self, low: u64, high: u64) -> u64 {
+        let bits = self.between(u64::from(low.ilog2()), u64::from(high.ilog2()));
+        let end = if bits == 63 { u64::MAX } else { (2 << bits) - 1 };
+        self.between(low.max(1 << bits), high.min(end))
+    }
+
     pub fn pick<T: Copy>(&mut self, from: &[T]) -> T {
         from[self.below(from.len() as u64) as usize]
     }
@@ -85,6 +92,16 @@ pub fn sizes(rng: &mut Rng, most: u64) -> Sizes {
             return Sizes { tapes, symbols, states, start: rng.below(states) };
         }
     }
+}
+
+/// Sizes of a machine of any number of symbols and states with at most so many entries, their numbers of bits as often
+/// any as another; once in a while as many symbols, or as many states, as there can be.
+pub fn wide_sizes(rng: &mut Rng, tapes: u64, most: u64) -> Sizes {
+    let largest = (1..=256).rev().find(|k: &u64| k.pow(tapes as u32) <= most).expect("at least one entry");
+    let symbols = if rng.once_in(6) { largest } else { rng.log(1, largest) };
+    let largest = (most / symbols.pow(tapes as u32)).min(65_536);
+    let states = if rng.once_in(6) { largest } else { rng.log(1, largest) };
+    Sizes { tapes, symbols, states, start: rng.below(states) }
 }
 
 /// A random table that passes its check.
@@ -278,6 +295,18 @@ pub fn wrong_words(rng: &mut Rng) -> Words {
     }
 }
 
+/// An entry to look up: mostly one of the table's, else any state and symbols.
+pub fn lookup(rng: &mut Rng, sizes: &Sizes) -> Act {
+    let state = if rng.once_in(4) { rng.next() as u16 } else { rng.below(sizes.states) as u16 };
+    let read = std::array::from_fn(|i| match rng.below(8) {
+        0 => rng.next() as u8,
+        1 => (sizes.symbols - 1) as u8,
+        _ if i as u64 >= sizes.tapes => 0,
+        _ => rng.below(sizes.symbols) as u8,
+    });
+    Act::Lookup { state, read }
+}
+
 /// So many random calls. `steps` is about where the engine stands.
 pub fn acts(rng: &mut Rng, sizes: &Sizes, count: u64, steps: u64) -> Vec<Act> {
     let one = |rng: &mut Rng| {
@@ -286,8 +315,9 @@ pub fn acts(rng: &mut Rng, sizes: &Sizes, count: u64, steps: u64) -> Vec<Act> {
             0 => Act::Check,
             1 => Act::Pack { more: rng.pick(&[-1, 0, 1, 7]) },
             2 => Act::Fast { rule, fuel, words: wrong_words(rng) },
+            4 => lookup(rng, sizes),
             3 => Act::Ask(Question::Count { tape: rng.pick(&[sizes.tapes, 3, 256, 1 << 32, u64::MAX]) }),
-            4..=12 => Act::Step,
+            5..=12 => Act::Step,
             13..=20 if sizes.tapes == 1 => Act::Fast { rule, fuel, words: Words::Right },
             13 => Act::Fast { rule, fuel, words: Words::Right },
             _ => Act::Run { rule, fuel },
@@ -307,15 +337,28 @@ pub fn fitting(rng: &mut Rng, sizes: &Sizes) -> Begin {
         4 => rng.below(MAX_STEPS),
         _ => rng.below(1000),
     };
+    tapes_of(rng, sizes, engine, |rng| match rng.below(4) {
+        0 => 32,
+        1 => rng.between(32, 40),
+        _ => rng.between(32, 200),
+    })
+}
+
+/// An engine value that fits, set from outside, with tapes of up to so many cells, thousands mostly.
+pub fn long_value(rng: &mut Rng, sizes: &Sizes, most: u64) -> Begin {
+    let mut engine: Engine = std::array::from_fn(|_| rng.next());
+    let steps = if rng.once_in(3) { MAX_STEPS } else { 10_000 };
+    engine[0] = rng.below(steps);
+    tapes_of(rng, sizes, engine, |rng| if rng.once_in(6) { rng.log(32, most) } else { rng.between(1000, most) })
+}
+
+/// A value with these steps and tapes of the lengths that `len` draws.
+fn tapes_of(rng: &mut Rng, sizes: &Sizes, mut engine: Engine, len: impl Fn(&mut Rng) -> u64) -> Begin {
     let cells = std::array::from_fn(|t| {
         if t as u64 >= sizes.tapes {
             return (0..rng.pick(&[0, 5, 33])).map(|_| rng.next() as u8).collect();
         }
-        let len = match rng.below(4) {
-            0 => 32,
-            1 => rng.between(32, 40),
-            _ => rng.between(32, 200),
-        };
+        let len = len(rng);
         let room = match rng.below(5) {
             0 => len,
             1 => 2 * len - 1,

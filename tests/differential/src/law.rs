@@ -79,6 +79,16 @@ impl Sizes {
             .or_else(|| at(bytes.chunks(8).position(|e| !self.is_entry(e)), 6))
     }
 
+    /// The entry for a state and three symbols, of an accepted table: next state, writes, moves. It is number
+    /// q × stride + a0 + k × a1 + k² × a2; there is none past the table's end.
+    pub fn entry(&self, bytes: &[u8], state: u16, read: [u8; 3]) -> Option<[u64; 7]> {
+        let [a0, a1, a2] = read.map(usize::from);
+        let k = self.symbols as usize;
+        let number = usize::from(state) * self.stride() + a0 + k * a1 + k * k * a2;
+        let e = bytes.chunks(8).nth(number).filter(|e| e[0] == 1)?.iter().map(|&b| u64::from(b)).collect::<Vec<_>>();
+        Some([e[1] + 256 * e[2], e[3], e[4], e[5], e[6] % 3, e[6] / 3 % 3, e[6] / 9])
+    }
+
     /// Packing, after the table check.
     pub fn packing(&self, room: usize) -> Option<Refusal> {
         when(self.tapes > 1, 7).or_else(|| when(room < self.entries(), 18))
@@ -135,6 +145,14 @@ impl Sizes {
 pub fn tape_fields(engine: &Engine, tape: usize) -> [u64; 5] {
     let from = fields(tape);
     core::array::from_fn(|i| engine[from + i])
+}
+
+/// The word of an action with that move, write, next state and stride; undefined where the row passes 32 bits.
+pub fn word_of(d0: u64, write: u8, next: u16, stride: u64) -> u64 {
+    match u32::try_from(u128::from(next) * u128::from(stride)) {
+        Ok(row) => d0 + 256 * u64::from(write) + 65_536 * u64::from(next) + (u64::from(row) << 32),
+        Err(_) => 3,
+    }
 }
 
 /// Refusal 13, the last one of step and run.

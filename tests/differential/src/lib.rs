@@ -18,12 +18,15 @@ pub mod faults;
 #[path = "gen.rs"] // `gen` is a word of the language
 pub mod generate;
 pub mod held;
+pub mod large;
 pub mod law;
 pub mod lent;
 pub mod limits;
 #[cfg(feature = "mock")]
 pub mod mock;
+pub mod named;
 pub mod oracle;
+pub mod packed;
 pub mod port;
 pub mod record;
 pub mod runner;

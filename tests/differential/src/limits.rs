@@ -239,7 +239,7 @@ fn cells_at_limits(r: &mut Runner) {
 }
 
 /// Tables of 128 MiB.
-fn largest_tables(r: &mut Runner) {
+pub fn largest_tables(r: &mut Runner) {
     for (tapes, symbols, states) in [(1, 256, 65_536), (3, 256, 1), (2, 256, 256)] {
         let mut rng = r.rng();
         let sizes = Sizes { tapes, symbols, states, start: states - 1 };

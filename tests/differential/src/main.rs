@@ -1,22 +1,22 @@
-//! The differential runs. Options: `--scale N`, `--seed S`, `--only KIND`, `--trace`, `--list`.
+//! The differential runs. Options: `--scale N`, `--seed S`, `--only KIND`, `--wide`, `--trace`, `--list`.
 
 use std::process::exit;
 use std::sync::atomic::Ordering;
 use std::time::{Duration, Instant};
 
-use differential::ORACLE_DIGEST;
-use differential::runner::{KINDS, PROGRESS, Runner};
+use differential::runner::{BY_HAND, KINDS, PROGRESS, Runner};
 use differential::tally::{DEPARTURES, TIMELINE, Tally};
 
 struct Options {
     scale: u64,
     seed: u64,
     only: Vec<String>,
+    wide: bool,
     trace: bool,
 }
 
 fn options() -> Options {
-    let mut options = Options { scale: 1, seed: 1, only: Vec::new(), trace: false };
+    let mut options = Options { scale: 1, seed: 1, only: Vec::new(), wide: false, trace: false };
     let mut arguments = std::env::args().skip(1);
     while let Some(argument) = arguments.next() {
         let mut value = || arguments.next().unwrap_or_else(|| usage(&argument));
@@ -25,14 +25,16 @@ fn options() -> Options {
             "--seed" => options.seed = value().parse().unwrap_or_else(|_| usage(&argument)),
             "--only" => {
                 let kind = value();
-                if !KINDS.iter().any(|k| k.0 == kind) {
+                if !KINDS.iter().chain(&BY_HAND).any(|k| k.0 == kind) {
                     usage(&kind);
                 }
                 options.only.push(kind);
             }
+            "--wide" => options.wide = true,
             "--trace" => options.trace = true,
             "--list" => {
                 KINDS.iter().for_each(|(name, what, _)| println!("{name:9} {what}"));
+                BY_HAND.iter().for_each(|(name, what, _)| println!("{name:9} {what} (--wide)"));
                 exit(0);
             }
             _ => usage(&argument),
@@ -42,7 +44,9 @@ fn options() -> Options {
 }
 
 fn usage(at: &str) -> ! {
-    eprintln!("not understood: {at}\nusage: differential [--scale N] [--seed S] [--only KIND].. [--trace] [--list]");
+    eprintln!(
+        "not understood: {at}\nusage: differential [--scale N] [--seed S] [--only KIND].. [--wide] [--trace] [--list]"
+    );
     exit(2);
 }
 
@@ -66,15 +70,17 @@ fn watch() {
 fn main() {
     let options = options();
     let port = if cfg!(feature = "mock") { "mock.rs" } else { "libcapi" };
-    println!("port: {port}, oracle: eight files with digest {ORACLE_DIGEST:#018x}");
+    println!("port: {port}, oracle: eight files with the pinned digests");
     println!("seed {}, scale {}", options.seed, options.scale);
     watch();
     let begin = Instant::now();
     let mut rows = Vec::new();
-    for (kind, _, runs) in KINDS {
-        if !options.only.is_empty() && !options.only.iter().any(|k| k == kind) {
-            continue;
-        }
+    let chosen = |kind: &str, by_hand: bool| match options.only.is_empty() {
+        true => by_hand == options.wide,
+        false => options.only.iter().any(|k| k == kind),
+    };
+    let usual = KINDS.into_iter().filter(|k| chosen(k.0, false));
+    for (kind, _, runs) in usual.chain(BY_HAND.into_iter().filter(|k| chosen(k.0, true))) {
         let Options { scale, seed, trace, .. } = options;
         let mut runner = Runner { kind, seed, scale, trace, tally: Tally::default() };
         let start = Instant::now();
@@ -114,18 +120,21 @@ fn report(rows: &[(&str, Tally, Duration)]) {
     for (i, what) in DEPARTURES.iter().enumerate() {
         println!("({}) {what}", i + 1);
     }
-    println!("{:8} {:>9} {:>9} {:>9} {:>9}", "kind", "(1)", "(2)", "(3)", "(4)");
+    print!("{:8}", "kind");
+    (1..=DEPARTURES.len()).for_each(|n| print!(" {:>9}", format!("({n})")));
+    println!();
     for (kind, t, _) in rows {
         print!("{kind:8}");
         t.departures.iter().for_each(|n| print!(" {n:>9}"));
         println!();
     }
-    if rows.iter().any(|r| r.1.timeline != [0; 4]) {
+    let counted = |t: &Tally| t.timeline.iter().any(|&n| n > 0);
+    if rows.iter().any(|r| counted(&r.1)) {
         println!("\ntimelines, calls compared");
         print!("{:8}", "kind");
         TIMELINE.iter().for_each(|what| print!("  {what}"));
         println!();
-        for (kind, t, _) in rows.iter().filter(|r| r.1.timeline != [0; 4]) {
+        for (kind, t, _) in rows.iter().filter(|r| counted(&r.1)) {
             print!("{kind:8}");
             TIMELINE.iter().zip(t.timeline).for_each(|(what, n)| print!("  {n:>width$}", width = what.len()));
             println!();

@@ -122,6 +122,9 @@ impl Machine<'_> {
         for i in (0..self.tapes).rev() {
             place = place * self.symbols + usize::from(read[i]);
         }
+        if fault(152) && self.tapes == 3 && self.symbols > 16 {
+            place = usize::from(read[0]) + self.symbols * usize::from(read[1]);
+        }
         let stride = self.symbols.pow(self.tapes as u32);
         let at = 8 * (usize::from(state) * stride + place);
         let e = self.table.get(at..at + 8)?;
@@ -147,17 +150,88 @@ impl Machine<'_> {
     }
 }
 
-/// The entry that a packed word stands for.
-fn unpack(word: u64) -> Option<Entry> {
-    if word == 3 {
-        return None;
-    }
+/// The action that any word stands for.
+fn action(word: u64) -> Entry {
     let move0 = match word & 0xff {
         0 => L,
         1 => R,
+        3 if fault(125) => R,
         _ => N,
     };
-    Some(Entry { next: (word >> 16) as u16, write: [(word >> 8) as u8, 0, 0], moves: [move0, N, N] })
+    let lacking = if fault(126) { [word as u8; 2] } else { [0; 2] };
+    let write = [(word >> 8) as u8, lacking[0], lacking[1]];
+    Entry { next: (word >> 16) as u16, write, moves: [move0, N, N] }
+}
+
+/// The entry that a packed word stands for.
+fn unpack(word: u64) -> Option<Entry> {
+    let undefined = word == 3 || fault(127) && word & 0xff == 3;
+    (!undefined).then(|| action(word))
+}
+
+/// The word of an action, with that stride.
+fn packed_new(write: u8, dir: u8, next: u16, stride: u64) -> u64 {
+    let row = match u64::from(next).checked_mul(stride) {
+        None if fault(128) => u64::from(next).wrapping_mul(stride),
+        None => return 3,
+        Some(row) => row,
+    };
+    if row >= 1 << 32 && !(fault(129) && row == 1 << 32) {
+        return 3;
+    }
+    let dir = if fault(130) { dir } else { dir.min(2) };
+    u64::from(dir) + (u64::from(write) << 8) + (u64::from(next) << 16) + (row << 32)
+}
+
+/// An entry in numbers.
+fn tell_entry(entry: Option<Entry>, out: &mut [u64; 8]) {
+    out[0] = u64::from(entry.is_some());
+    if let Some(e) = entry {
+        out[1] = u64::from(e.next);
+        for i in 0..3 {
+            (out[2 + i], out[5 + i]) = (u64::from(e.write[i]), u64::from(e.moves[i]));
+        }
+    } else if fault(131) {
+        out[1..].fill(0);
+    }
+}
+
+/// The entry for a state and three symbols, whatever they are.
+fn lookup(sizes: [u64; 4], table: &[u8], state: u16, read: [u8; 3]) -> Answer<Option<Entry>> {
+    let m = accept(sizes, table)?;
+    if fault(132) && (usize::from(state) >= m.states || usize::from(read[0]) >= m.symbols) {
+        return Ok(None);
+    }
+    let [a0, a1, a2] = read.map(usize::from);
+    let (k, stride) = (m.symbols, m.symbols.pow(m.tapes as u32));
+    let number = match fault(133) {
+        true => usize::from(state) * stride + a0 * k * k + a1 * k + a2,
+        false => usize::from(state) * stride + a0 + k * a1 + k * k * a2,
+    };
+    let last = if fault(134) { table.len() / 8 - 1 } else { table.len() / 8 };
+    let Some(e) = table.get(8 * number..8 * number + 8).filter(|e| e[0] == 1 && number < last) else {
+        return Ok(None);
+    };
+    let moves = [e[6] % 3, e[6] / 3 % 3, e[6] / 9];
+    Ok(Some(Entry { next: u16::from_le_bytes([e[1], e[2]]), write: [e[3], e[4], e[5]], moves }))
+}
+
+/// A glyph's symbol.
+fn symbol_for(glyphs: &[u32], glyph: u32) -> Option<u8> {
+    let most = if fault(135) { 255 } else { 256 };
+    let found = match fault(136) {
+        true => glyphs.iter().take(most).rposition(|&g| g == glyph),
+        false => glyphs.iter().take(most).position(|&g| g == glyph),
+    };
+    found.map(|i| i as u8)
+}
+
+/// Whether a symbol is flagged as input.
+fn is_input(flags: &[u8], symbol: u8) -> bool {
+    match flags.get(usize::from(symbol)) {
+        None => fault(137),
+        Some(&flag) => flag != 0 && !(fault(138) && flag == 2) || fault(139) && symbol == 0,
+    }
 }
 
 /// One tape's numbers; the cells stand apart.
@@ -193,7 +267,8 @@ impl Tape {
             self.len = self.grown();
             let extra = self.len - len;
             if d == L {
-                cells.copy_within(0..len, extra);
+                let moved = if fault(151) { len.min(4096) } else { len };
+                cells.copy_within(0..moved, extra);
                 cells[..extra].fill(0);
                 self.origin += extra;
                 self.head += extra;

@@ -55,6 +55,56 @@ pub unsafe extern "C" fn tm_encode(
     number(encode(glyphs, flags, word, symbols), out)
 }
 
+pub unsafe extern "C" fn tm_lookup(
+    tapes: u64, symbols: u64, states: u64, start: u64, table: *const u8, table_len: usize,
+    state: u16, a0: u8, a1: u8, a2: u8, out: *mut [u64; 8],
+) -> u8 {
+    let (table, out) = unsafe { (read((table, table_len)), &mut *out) };
+    let found = lookup([tapes, symbols, states, start], table, state, [a0, a1, a2]);
+    number(found.map(|entry| tell_entry(entry, out)), out)
+}
+
+pub unsafe extern "C" fn tm_packed_new(defined: u8, write: u8, dir: u8, next: u16, stride: u64, out: *mut [u64; 8]) -> u8 {
+    let undefined = defined == 0 || fault(140) && defined > 1;
+    unsafe { (*out)[0] = if undefined { 3 } else { packed_new(write, dir, next, stride) } };
+    0
+}
+
+pub unsafe extern "C" fn tm_packed(word: u64, out: *mut [u64; 8]) -> u8 {
+    let (e, out) = (action(word), unsafe { &mut *out });
+    let row = if fault(141) { word >> 32 & 0x003f_ffff } else { word >> 32 };
+    out[..5].copy_from_slice(&[u64::from(unpack(word).is_some()), u64::from(e.moves[0]), u64::from(e.write[0]), u64::from(e.next), row]);
+    0
+}
+
+pub unsafe extern "C" fn tm_packed_action(word: u64, out: *mut [u64; 8]) -> u8 {
+    let (e, out) = (action(word), unsafe { &mut *out });
+    out[0] = u64::from(e.next);
+    for i in 0..3 {
+        (out[1 + i], out[4 + i]) = (u64::from(e.write[i]), u64::from(e.moves[i]));
+    }
+    0
+}
+
+pub unsafe extern "C" fn tm_packed_entry(word: u64, out: *mut [u64; 8]) -> u8 {
+    tell_entry(unpack(word), unsafe { &mut *out });
+    0
+}
+
+pub unsafe extern "C" fn tm_symbol_for(glyphs: *const u32, glyphs_len: usize, glyph: u32, out: *mut [u64; 8]) -> u8 {
+    let (glyphs, out) = unsafe { (from_raw_parts(glyphs, glyphs_len), &mut *out) };
+    match symbol_for(glyphs, glyph) {
+        Some(symbol) => out[..2].copy_from_slice(&[1, u64::from(symbol)]),
+        None => out[0] = 0,
+    }
+    0
+}
+
+pub unsafe extern "C" fn tm_is_input(flags: *const u8, flags_len: usize, symbol: u8, out: *mut [u64; 8]) -> u8 {
+    unsafe { (*out)[0] = u64::from(is_input(read((flags, flags_len)), symbol)) };
+    0
+}
+
 pub unsafe extern "C" fn tm_sim_new(
     tapes: u64, symbols: u64, states: u64, start: u64, table: *const u8, table_len: usize,
     word: *const u8, word_len: usize,

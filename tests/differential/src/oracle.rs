@@ -2,11 +2,10 @@
 //! engine value, and reads everything back. It stands in the oracle's crate for the sake of the
 //! `pub(crate)` fields.
 
-use std::hash::{Hash, Hasher};
 use std::rc::Rc;
 
 use crate::law::{Engine, MAX_STEPS, Sizes, fields, tape_fields};
-use crate::machine::{Action, Decoder, Kind, Machine, Packed, StateInfo};
+use crate::machine::{Action, Decoder, Kind, Machine, Packed, StateInfo, door};
 use crate::outcome::{NonHaltProof, Outcome};
 use crate::sim::Simulator;
 use crate::symbol::{Dir, State, Symbol};
@@ -55,34 +54,77 @@ pub fn machine(sizes: &Sizes, table: &[u8]) -> Machine {
     }
 }
 
-/// The symbols of a word over any glyphs and flags, or the place of its first glyph that is not allowed.
-pub fn encode(glyphs: Vec<char>, input: Vec<bool>, word: &str) -> Result<Vec<u8>, usize> {
+/// A machine with an alphabet of these glyphs and flags, whatever they are.
+pub fn with_alphabet(glyphs: Vec<char>, input: Vec<bool>) -> Machine {
     let mut machine = machine(&Sizes { tapes: 1, symbols: 1, states: 1, start: 0 }, &[0; 8]);
     machine.alphabet = crate::alphabet::door::any(glyphs, input);
+    machine
+}
+
+/// The symbols of a word, or the place of its first glyph that is not allowed.
+pub fn encode(machine: &Machine, word: &str) -> Result<Vec<u8>, usize> {
     let symbols = machine.encode_input(word).map_err(|e| e.position)?;
     Ok(symbols.into_iter().map(Symbol::get).collect())
 }
 
-/// The machine's packed words. The number inside is private; its hash is not.
-pub fn words(machine: &Machine) -> Vec<u64> {
-    struct Catch(u64);
-    impl Hasher for Catch {
-        fn write(&mut self, _: &[u8]) {
-            unreachable!("a packed entry is one u64");
-        }
-        fn write_u64(&mut self, word: u64) {
-            self.0 = word;
-        }
-        fn finish(&self) -> u64 {
-            self.0
-        }
+/// A glyph's symbol.
+pub fn symbol_for(machine: &Machine, glyph: char) -> Option<u8> {
+    machine.alphabet().symbol(glyph).map(Symbol::get)
+}
+
+/// Whether a symbol is flagged as input.
+pub fn is_input(machine: &Machine, symbol: u8) -> bool {
+    machine.alphabet().is_input(Symbol::new(symbol))
+}
+
+/// The number of a move.
+fn number(dir: Dir) -> u64 {
+    match dir {
+        Dir::L => 0,
+        Dir::R => 1,
+        Dir::N => 2,
     }
-    let word = |p: &Packed| {
-        let mut catch = Catch(0);
-        p.hash(&mut catch);
-        catch.finish()
-    };
-    machine.packed.iter().map(word).collect()
+}
+
+/// An action in numbers: next state, writes, moves.
+pub fn numbers(action: &Action) -> [u64; 7] {
+    let [w0, w1, w2] = action.write.map(|a| u64::from(a.get()));
+    let [d0, d1, d2] = action.dir.map(number);
+    [u64::from(action.next.get()), w0, w1, w2, d0, d1, d2]
+}
+
+/// The entry for a state and the symbols read, by the Rust's `action`, and by its `action1` where the machine has one
+/// tape.
+pub fn lookup(machine: &Machine, state: u16, read: [u8; 3]) -> Option<[u64; 7]> {
+    let (q, read) = (State::new(state), read.map(Symbol::new));
+    let action = machine.action(q, &read);
+    if machine.tapes() == 1 {
+        assert_eq!(action, machine.action1(q, read[0]), "the Rust's action and action1");
+    }
+    action.as_ref().map(numbers)
+}
+
+/// The word of an action of one tape, or of none; next × stride must have 64 bits.
+pub fn packed_new(action: Option<(u8, u8, u16)>, stride: u64) -> u64 {
+    let action = action.map(|(write, d, next)| Action::single(Symbol::new(write), dir(d), State::new(next)));
+    door::word(Packed::new(action, stride as usize))
+}
+
+/// A word's parts: whether it is defined, move, write, next state, row.
+pub fn packed(word: u64) -> [u64; 5] {
+    let p = door::packed(word);
+    let (write, next) = (u64::from(p.write().get()), u64::from(p.next().get()));
+    [u64::from(p.is_defined()), number(p.dir()), write, next, p.row() as u64]
+}
+
+/// A word's action, defined or not.
+pub fn packed_action(word: u64) -> [u64; 7] {
+    numbers(&door::packed(word).action())
+}
+
+/// The machine's packed words.
+pub fn words(machine: &Machine) -> Vec<u64> {
+    machine.packed.iter().map(|&packed| door::word(packed)).collect()
 }
 
 /// A fresh engine.
@@ -182,19 +224,14 @@ pub fn ends_soon(sim: &Sim, room: [usize; 3], rule: u64, limit: u64) -> bool {
 /// An answer of `run` in the port's numbers: outcome, steps, state, pattern, move; `None` for the
 /// parts that an outcome does not have.
 pub fn answer(outcome: Outcome) -> [Option<u64>; 5] {
-    let number = |state: State| Some(u64::from(state.get()));
+    let of_state = |state: State| Some(u64::from(state.get()));
     match outcome {
-        Outcome::Halted { steps, state } => [Some(0), Some(steps), number(state), None, None],
+        Outcome::Halted { steps, state } => [Some(0), Some(steps), of_state(state), None, None],
         Outcome::OutOfFuel { steps } => [Some(1), Some(steps), None, None, None],
         Outcome::NeverHalts { steps, proof } => match proof {
-            NonHaltProof::StayLoop { state } => [Some(2), Some(steps), number(state), Some(0), None],
+            NonHaltProof::StayLoop { state } => [Some(2), Some(steps), of_state(state), Some(0), None],
             NonHaltProof::ChainToInfinity { state, dir } => {
-                let d = match dir {
-                    Dir::L => 0,
-                    Dir::R => 1,
-                    Dir::N => 2,
-                };
-                [Some(2), Some(steps), number(state), Some(1), Some(d)]
+                [Some(2), Some(steps), of_state(state), Some(1), Some(number(dir))]
             }
         },
         Outcome::Stopped { steps } => [Some(3), Some(steps), None, None, None],

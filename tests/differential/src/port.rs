@@ -22,6 +22,14 @@ pub type PlacesMut<'a> = (&'a mut [u8], &'a mut [u64], &'a mut [u8], &'a mut [u6
 /// Run places lent for reading.
 pub type Places<'a> = (&'a [u8], &'a [u64], &'a [u8], &'a [u64]);
 
+/// A run as `left` and `right` give it.
+#[repr(C)]
+#[derive(Clone, Copy, Debug, PartialEq, Eq)]
+pub struct Run {
+    pub symbol: u8,
+    pub len: u64,
+}
+
 #[cfg(feature = "mock")]
 mod sys {
     pub use crate::chain::mock::exports::*;
@@ -37,6 +45,14 @@ mod sys {
         pub fn tm_pack(tapes: u64, symbols: u64, states: u64, start: u64, table: *const u8, table_len: usize, words: *mut u64, words_len: usize, out: *mut Out) -> u8;
         pub fn tm_encode(glyphs: *const u32, glyphs_len: usize, flags: *const u8, flags_len: usize, word: *const u32, word_len: usize,
             symbols: *mut u8, symbols_len: usize, out: *mut Out) -> u8;
+        pub fn tm_lookup(tapes: u64, symbols: u64, states: u64, start: u64, table: *const u8, table_len: usize,
+            state: u16, a0: u8, a1: u8, a2: u8, out: *mut Out) -> u8;
+        pub fn tm_packed_new(defined: u8, write: u8, dir: u8, next: u16, stride: u64, out: *mut Out) -> u8;
+        pub fn tm_packed(word: u64, out: *mut Out) -> u8;
+        pub fn tm_packed_action(word: u64, out: *mut Out) -> u8;
+        pub fn tm_packed_entry(word: u64, out: *mut Out) -> u8;
+        pub fn tm_symbol_for(glyphs: *const u32, glyphs_len: usize, glyph: u32, out: *mut Out) -> u8;
+        pub fn tm_is_input(flags: *const u8, flags_len: usize, symbol: u8, out: *mut Out) -> u8;
         pub fn tm_sim_new(tapes: u64, symbols: u64, states: u64, start: u64, table: *const u8, table_len: usize, word: *const u8, word_len: usize,
             c0: *mut u8, c0_len: usize, c1: *mut u8, c1_len: usize, c2: *mut u8, c2_len: usize, state: *mut u16, engine: *mut Engine, out: *mut Out) -> u8;
         pub fn tm_sim_step(tapes: u64, symbols: u64, states: u64, start: u64, table: *const u8, table_len: usize,
@@ -80,11 +96,18 @@ mod sys {
         pub fn tm_chain_window(tapes: u64, symbols: u64, states: u64, start: u64, table: *const u8, table_len: usize,
             ls: *const u8, ls_len: usize, ll: *const u64, ll_len: usize, rs: *const u8, rs_len: usize, rl: *const u64, rl_len: usize,
             state: u16, cur: u8, engine: *const Chain, from: i64, cells: *mut u8, cells_len: usize, out: *mut Out) -> u8;
+        pub fn tm_chain_left(tapes: u64, symbols: u64, states: u64, start: u64, table: *const u8, table_len: usize,
+            ls: *const u8, ls_len: usize, ll: *const u64, ll_len: usize, rs: *const u8, rs_len: usize, rl: *const u64, rl_len: usize,
+            state: u16, cur: u8, engine: *const Chain, runs: *mut super::Run, runs_len: usize, out: *mut Out) -> u8;
+        pub fn tm_chain_right(tapes: u64, symbols: u64, states: u64, start: u64, table: *const u8, table_len: usize,
+            ls: *const u8, ls_len: usize, ll: *const u64, ll_len: usize, rs: *const u8, rs_len: usize, rl: *const u64, rl_len: usize,
+            state: u16, cur: u8, engine: *const Chain, runs: *mut super::Run, runs_len: usize, out: *mut Out) -> u8;
     }
 }
 
-pub use calls::{View, check, encode, new, pack, run, run_packed, step};
+pub use calls::{View, check, encode, lookup, new, pack, run, run_packed, step};
 pub use chain_calls::{ChainView, chain_new, chain_run};
+pub use parts::{is_input, packed, packed_action, packed_entry, packed_new, symbol_for};
 
 // SAFETY of every call below: the port reads and writes inside what is lent, and keeps nothing.
 #[rustfmt::skip]
@@ -103,6 +126,14 @@ mod calls {
                 s.tapes, s.symbols, s.states, s.start, table.as_ptr(), table.len(),
                 words.as_mut_ptr(), words.len(), out,
             )
+        }
+    }
+
+    /// The entry for a state and three symbols: `out[0]` is 0 for none, else 1, then the next state, the writes and the
+    /// moves of tapes 0, 1, 2.
+    pub fn lookup(s: Sizes, table: &[u8], state: u16, [a0, a1, a2]: [u8; 3], out: &mut Out) -> u8 {
+        unsafe {
+            sys::tm_lookup(s.tapes, s.symbols, s.states, s.start, table.as_ptr(), table.len(), state, a0, a1, a2, out)
         }
     }
 
@@ -230,7 +261,7 @@ mod calls {
 // SAFETY of every call below: as above.
 #[rustfmt::skip]
 mod chain_calls {
-    use super::{Chain, Out, Places, PlacesMut, Sizes, Value, sys};
+    use super::{Chain, Out, Places, PlacesMut, Run, Sizes, Value, sys};
 
     /// Makes a fresh run-length engine; the left places are only counted.
     pub fn chain_new(s: Sizes, table: &[u8], word: &[u8], (ls, ll, rs, rl): PlacesMut, v: &mut Value, out: &mut Out) -> u8 {
@@ -303,6 +334,51 @@ mod chain_calls {
         pub fn window(&self, from: i64, cells: &mut [u8], out: &mut Out) -> u8 {
             ask!(self, tm_chain_window, from, cells.as_mut_ptr(), cells.len(), out)
         }
+
+        /// Fills the first places of `runs` with the left side's, the topmost last; `out[0]` is how many.
+        pub fn left(&self, runs: &mut [Run], out: &mut Out) -> u8 {
+            ask!(self, tm_chain_left, runs.as_mut_ptr(), runs.len(), out)
+        }
+
+        /// The same of the right side.
+        pub fn right(&self, runs: &mut [Run], out: &mut Out) -> u8 {
+            ask!(self, tm_chain_right, runs.as_mut_ptr(), runs.len(), out)
+        }
+    }
+}
+
+// SAFETY of every call below: as above.
+mod parts {
+    use super::{Out, sys};
+
+    /// `out[0]` is the word of an entry, of none where `defined` is 0.
+    pub fn packed_new(defined: u8, write: u8, dir: u8, next: u16, stride: u64, out: &mut Out) -> u8 {
+        unsafe { sys::tm_packed_new(defined, write, dir, next, stride, out) }
+    }
+
+    /// A word's parts: whether it is defined, move, write, next state, row.
+    pub fn packed(word: u64, out: &mut Out) -> u8 {
+        unsafe { sys::tm_packed(word, out) }
+    }
+
+    /// A word's action, defined or not: next state, writes, moves.
+    pub fn packed_action(word: u64, out: &mut Out) -> u8 {
+        unsafe { sys::tm_packed_action(word, out) }
+    }
+
+    /// A word's entry, as [`super::lookup`] gives one.
+    pub fn packed_entry(word: u64, out: &mut Out) -> u8 {
+        unsafe { sys::tm_packed_entry(word, out) }
+    }
+
+    /// `out[0]` is 0 for a glyph that is missing, else 1, and `out[1]` its symbol.
+    pub fn symbol_for(glyphs: &[u32], glyph: u32, out: &mut Out) -> u8 {
+        unsafe { sys::tm_symbol_for(glyphs.as_ptr(), glyphs.len(), glyph, out) }
+    }
+
+    /// `out[0]` is 1 for a symbol that is flagged as input, else 0.
+    pub fn is_input(flags: &[u8], symbol: u8, out: &mut Out) -> u8 {
+        unsafe { sys::tm_is_input(flags.as_ptr(), flags.len(), symbol, out) }
     }
 }
 

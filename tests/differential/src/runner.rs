@@ -11,18 +11,23 @@ use crate::tally::Tally;
 use crate::timeline::facts;
 use crate::timeline::kind::{OnCells, OnRuns};
 use crate::timeline::runs as timeline;
-use crate::{damage, encoder, limits, runs, told};
+use crate::{damage, encoder, large, limits, named, packed, runs, told};
 
 /// A kind of run: its name, what it does, and how.
 pub type Kind = (&'static str, &'static str, fn(&mut Runner));
 
 /// All kinds, in the order in which they run.
-pub const KINDS: [Kind; 35] = [
+pub const KINDS: [Kind; 45] = [
     ("cases", "document 01's own cases, with the answers written there", told::cases),
+    ("named", "the smallest input of each named departure, on both sides", named::departures),
+    ("packed", "every part of a packed word, on any word; the word of any action, with any stride", packed::words),
+    ("lookup", "entries for every state and symbols, also ones that the machine lacks", runs::lookups),
     ("damage", "tables with changed bytes, wrong sizes, changed words", damage::damage),
     ("limits", "the sizes, words, buffers, fuels and steps at their limits", limits::limits),
     ("unfit", "engine values set from outside that do not fit", runs::unfit),
     ("outside", "engine values set from outside that fit", runs::outside),
+    ("long", "engine values set from outside with thousands of cells", runs::long),
+    ("wide", "tables of any shape to 2 MB, one to three tapes", runs::wide),
     ("sweeps", "random machines that sweep over blanks, the never test at almost every step", runs::sweeps),
     ("known", "busy beavers and a three-tape machine, in pieces of random fuel", runs::known),
     ("random", "random machines, words, buffers, fuels and stop rules", runs::random),
@@ -34,6 +39,7 @@ pub const KINDS: [Kind; 35] = [
     ("c-unfit", "run-length engine: every clause of what fits broken, alone and at random", chain::unfit),
     ("c-outer", "run-length engine: values set from outside that fit", chain::outside),
     ("c-places", "run-length engine: few run places", chain::places),
+    ("c-wide", "run-length engine: tables of any shape to 2 MB, words of thousands of symbols", chain::wide),
     ("c-known", "run-length engine: busy beavers, in pieces of random fuel", chain::known),
     ("c-random", "run-length engine: random machines; the plain engine beside it", chain::random),
     ("c-small", "run-length engine: all tables of 2 states and 2 symbols; the plain engine beside it", chain::small),
@@ -41,6 +47,8 @@ pub const KINDS: [Kind; 35] = [
     ("t-small", "timeline: all tables of 2 states and 2 symbols, other settings", timeline::small::<OnCells>),
     ("t-random", "timeline: random machines, settings and calls", timeline::random::<OnCells>),
     ("t-rust", "timeline: the Rust's settings, against its Timeline", timeline::rust::<OnCells>),
+    ("t-any", "timeline: every m, first intervals of any size", timeline::any::<OnCells>),
+    ("t-wide", "timeline: tables of any shape to 2 MB", timeline::wide::<OnCells>),
     ("t-long", "timeline: the Rust's settings, lists that thin several times", timeline::long::<OnCells>),
     ("t-far", "timeline: targets to 2^62 and beyond", timeline::far::<OnCells>),
     ("t-refuse", "timeline: damaged values, slots, stores, tables, alone and together", timeline::refuse::<OnCells>),
@@ -49,10 +57,19 @@ pub const KINDS: [Kind; 35] = [
     ("tc-small", "timeline on runs: all tables of 2 states and 2 symbols, other settings", timeline::small::<OnRuns>),
     ("tc-rando", "timeline on runs: random machines, settings and calls", timeline::random::<OnRuns>),
     ("tc-rust", "timeline on runs: the Rust's settings, against its Timeline", timeline::rust::<OnRuns>),
+    ("tc-any", "timeline on runs: every m, first intervals of any size", timeline::any::<OnRuns>),
+    ("tc-wide", "timeline on runs: tables of any shape to 2 MB", timeline::wide::<OnRuns>),
     ("tc-long", "timeline on runs: the Rust's settings, lists that thin several times", timeline::long::<OnRuns>),
     ("tc-far", "timeline on runs: targets to 2^62 and beyond", timeline::far::<OnRuns>),
     ("tc-refus", "timeline on runs: damaged values, slots, stores, tables, together too", timeline::refuse::<OnRuns>),
     ("tc-space", "timeline on runs: few run places", timeline::space::<OnRuns>),
+];
+
+/// Kinds that run by hand only.
+pub const BY_HAND: [Kind; 3] = [
+    ("large", "tapes that double past 2^20 cells", large::cells),
+    ("large-t", "timeline: tapes that double past 2^20 cells", large::timelines),
+    ("tables", "tables to 128 MB, on both engines and both timelines", large::tables),
 ];
 
 /// Cases begun so far, for the watchdog.

@@ -251,3 +251,70 @@ pub fn unfit(r: &mut Runner) {
         r.case(&case_of(&subject, begin, acts, Asking::Some(3), rng.next()));
     }
 }
+
+/// The entries of a table of 2 MB.
+pub const MOST_ENTRIES: u64 = 1 << 18;
+
+/// Tables of any shape, of up to 2 MB.
+pub fn wide(r: &mut Runner) {
+    for _ in 0..300 * r.scale {
+        wide_list(r, MOST_ENTRIES);
+    }
+}
+
+/// A list on a table with at most so many entries.
+pub fn wide_list(r: &mut Runner, most: u64) {
+    let mut rng = r.rng();
+    let tapes = rng.between(1, 3);
+    let sizes = generate::wide_sizes(&mut rng, tapes, most);
+    let subject = Subject::new(sizes, generate::table(&mut rng, &sizes));
+    let begin = match rng.below(4) {
+        0 => generate::fitting(&mut rng, &sizes),
+        1 => generate::long_value(&mut rng, &sizes, 5000),
+        _ => {
+            let word = generate::word(&mut rng, sizes.symbols);
+            let room = generate::room(&mut rng, tapes, word.len());
+            Begin::Fresh { word, room }
+        }
+    };
+    let count = rng.between(3, 7);
+    let mut acts = generate::acts(&mut rng, &sizes, count, 0);
+    acts.extend([0; 3].map(|_| generate::lookup(&mut rng, &sizes)));
+    acts.extend(rng.once_in(4).then_some(Act::Pack { more: 0 }));
+    r.case(&case_of(&subject, begin, acts, Asking::Some(1), rng.next()));
+}
+
+/// Engine values set from outside with thousands of cells.
+pub fn long(r: &mut Runner) {
+    for _ in 0..2500 * r.scale {
+        let mut rng = r.rng();
+        let sizes = generate::sizes(&mut rng, 300);
+        let subject = Subject::new(sizes, generate::table(&mut rng, &sizes));
+        let begin = generate::long_value(&mut rng, &sizes, 20_000);
+        let Begin::Outside { engine, .. } = &begin else { unreachable!("made so") };
+        let count = rng.between(1, 8);
+        let acts = generate::acts(&mut rng, &sizes, count, engine[0]);
+        r.case(&case_of(&subject, begin, acts, Asking::Some(3), rng.next()));
+    }
+}
+
+/// Every entry of tables of few entries, by every state and every symbol near the machine's, and random ones.
+pub fn lookups(r: &mut Runner) {
+    for i in 0..600 * r.scale {
+        let mut rng = r.rng();
+        let sizes = generate::sizes(&mut rng, if i % 20 == 19 { 20_000 } else { 40 });
+        let subject = Subject::new(sizes, generate::table(&mut rng, &sizes));
+        let near = |tape: u64| if tape < sizes.tapes { sizes.symbols.min(4) + 1 } else { 2 };
+        let mut acts = Vec::new();
+        for state in 0..sizes.states.min(12) + 1 {
+            for place in 0..near(0) * near(1) * near(2) {
+                let read = [place % near(0), place / near(0) % near(1), place / near(0) / near(1)].map(|a| a as u8);
+                acts.push(Act::Lookup { state: state as u16, read });
+            }
+        }
+        acts.truncate(400);
+        acts.extend([0; 40].map(|_| generate::lookup(&mut rng, &sizes)));
+        let begin = Begin::Fresh { word: vec![], room: [32; 3] };
+        r.case(&case_of(&subject, begin, acts, Asking::None, rng.next()));
+    }
+}

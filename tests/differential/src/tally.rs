@@ -4,12 +4,21 @@ use crate::law::Refusal;
 use crate::port::Out;
 
 /// The departures that are named in document 01; they are counted, not failed.
-pub const DEPARTURES: [&str; 4] = [
+pub const DEPARTURES: [&str; 6] = [
     "the port is full where the Rust grows (compared up to that step)",
     "a word symbol not below k is refused, the Rust panics (not run there)",
     "find_non_blank finds a cell where the Rust's index sum overflows",
     "steps + fuel, or a target, over 2^62 is refused, the Rust saturates (not run there)",
+    "an action whose row passes 64 bits packs as undefined, the Rust's product overflows (not run there)",
+    "lookup counts the symbol of a tape that the machine lacks, the Rust leaves it out",
 ];
+/// Places in [`DEPARTURES`].
+pub const FULL: usize = 0;
+pub const WORD_SYMBOL: usize = 1;
+pub const FAR_FIND: usize = 2;
+pub const FAR_STEPS: usize = 3;
+pub const FAR_ROW: usize = 4;
+pub const LACKING_SYMBOL: usize = 5;
 
 /// What was counted in one kind of run.
 #[derive(Default, Clone)]
@@ -24,7 +33,7 @@ pub struct Tally {
     pub outcomes: [u64; 5],
     /// Steps made by the port; by its run-length engine, macro steps.
     pub steps: u64,
-    pub departures: [u64; 4],
+    pub departures: [u64; DEPARTURES.len()],
     /// Runs left out because their fuel is endless and they would not end.
     pub skipped: u64,
     /// Accepted calls that wrote into `out` beyond what is documented.
@@ -32,16 +41,17 @@ pub struct Tally {
     /// Configurations of the run-length engine compared with the plain one's.
     pub beside: u64,
     /// What was held against the timeline, by [`TIMELINE`].
-    pub timeline: [u64; 4],
+    pub timeline: [u64; TIMELINE.len()],
 }
 
 /// Names of what is counted in a timeline's runs.
-pub const TIMELINE: [&str; 4] =
-    ["with the Rust's Timeline", "with a run from the start", "slots visited", "times thinned"];
+pub const TIMELINE: [&str; 6] =
+    ["with the Rust's seek", "its forward", "its back", "with a run from the start", "slots visited", "times thinned"];
+/// The first of three: seek, forward, back.
 pub const WITH_RUST: usize = 0;
-pub const ANEW: usize = 1;
-pub const VISITED: usize = 2;
-pub const THINNED: usize = 3;
+pub const ANEW: usize = 3;
+pub const VISITED: usize = 4;
+pub const THINNED: usize = 5;
 
 impl Tally {
     pub fn add(&mut self, other: &Tally) {
@@ -104,8 +114,8 @@ pub fn judge(
     same!(*out, want, "out after refusal {number}");
     tally.refusals[usize::from(number)] += 1;
     match number {
-        10 => tally.departures[1] += 1,
-        13 => tally.departures[3] += 1,
+        10 => tally.departures[WORD_SYMBOL] += 1,
+        13 => tally.departures[FAR_STEPS] += 1,
         _ => {}
     }
     Ok(false)

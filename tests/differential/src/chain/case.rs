@@ -32,8 +32,16 @@ pub enum Question {
 /// One call.
 #[derive(Clone, Copy, Debug)]
 pub enum Act {
-    Run { rule: u64, fuel: u64 },
+    Run {
+        rule: u64,
+        fuel: u64,
+    },
     Ask(Question),
+    /// The runs of a side, into so many records more (or fewer) than it has.
+    Side {
+        right: bool,
+        more: isize,
+    },
 }
 
 /// A run without a stop rule.

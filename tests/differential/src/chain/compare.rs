@@ -7,10 +7,10 @@ use super::law::{self, HEAD, HIGHEST, LEFT, LOWEST, MACROS, RIGHT, STEPS, Side, 
 use super::oracle::{self, End, Sim};
 use crate::case::{Asking, NO_RULE, Subject};
 use crate::generate::Rng;
-use crate::law::{Engine, Refusal, fuel as fuel_refusal, tape_fields};
+use crate::law::{Engine, Refusal, fuel as fuel_refusal, tape_fields, when};
 use crate::lent::{Held, Lent};
-use crate::port::{self, ChainView, Out};
-use crate::tally::{Difference, OUT, Tally, same};
+use crate::port::{self, ChainView, Out, Run};
+use crate::tally::{Difference, FULL, OUT, Tally, same};
 
 /// A list of calls under way.
 struct Pairing<'a> {
@@ -33,6 +33,7 @@ pub fn run(case: &Case, tally: &mut Tally) -> Result<(), Difference> {
         match *act {
             Act::Run { rule, fuel } => pairing.run(rule, fuel, tally),
             Act::Ask(question) => pairing.ask(&question, tally),
+            Act::Side { right, more } => pairing.side(right, more, tally),
         }
         .map_err(|e| format!("call {i}, {act:?}: {e}"))?;
         pairing.ask_around(case.asking, tally).map_err(|e| format!("after call {i}, {act:?}: {e}"))?;
@@ -123,7 +124,7 @@ impl<'a> Pairing<'a> {
         self.compare()?;
         let made = self.held.value.engine[STEPS] - steps;
         tally.outcomes[out[0] as usize] += 1;
-        tally.departures[0] += u64::from(out[0] == 4);
+        tally.departures[FULL] += u64::from(out[0] == 4);
         tally.steps += self.held.value.engine[MACROS] - self.held.before.engine[MACROS];
         tally.beside += u64::from(self.beside(made, &out)?);
         self.look();
@@ -178,7 +179,45 @@ impl<'a> Pairing<'a> {
             Asking::All => (0..3).map(|_| generate::question(&mut self.rng, &self.held.value)).collect(),
             Asking::Some(n) => (0..n).map(|_| generate::question(&mut self.rng, &self.held.value)).collect(),
         };
-        questions.iter().try_for_each(|question| self.ask(question, tally))
+        questions.iter().try_for_each(|question| self.ask(question, tally))?;
+        if asking == Asking::All && !refused {
+            let all = [false, true].into_iter().flat_map(|right| [-1, 0, 3].map(|more| (right, more)));
+            return all.into_iter().try_for_each(|(right, more)| self.side(right, more, tally));
+        }
+        let (right, more) = (self.rng.once_in(2), self.rng.pick(&[-1, 0, 0, 1, 5]));
+        self.side(right, more, tally)
+    }
+
+    /// The runs of a side, into so many records more (or fewer) than it has.
+    fn side(&mut self, right: bool, more: isize, tally: &mut Tally) -> Result<(), Difference> {
+        self.runs(right, more, tally).map_err(|e| format!("{} runs: {e}", if right { "right" } else { "left" }))
+    }
+
+    fn runs(&mut self, right: bool, more: isize, tally: &mut Tally) -> Result<(), Difference> {
+        let Subject { sizes, table, refusal, .. } = self.subject;
+        let (Side(ls, ll), Side(rs, rl)) = (self.held.left.side(), self.held.right.side());
+        let Value { state, cur, engine } = &self.held.value;
+        let count = engine[if right { RIGHT } else { LEFT }];
+        // A value that does not fit may claim any number of runs.
+        let room = count.min(self.held.places()[usize::from(right)]).saturating_add_signed(more as i64) as usize;
+        let expected = refusal.or(self.refusal).or_else(|| when((room as u64) < count, 18));
+        tally.questions += 1;
+        let view = ChainView { sizes: *sizes, table, places: (ls, ll, rs, rl), state: *state, cur: *cur, engine };
+        let dirt = Run { symbol: 0xa5, len: 0xa5a5_a5a5_a5a5_a5a5 };
+        let (mut out, mut runs) = (OUT, Lent::new(dirt, std::iter::repeat_n(dirt, room)));
+        let result = if right { view.right(runs.lend(), &mut out) } else { view.left(runs.lend(), &mut out) };
+        let accepted = self.held.settle((result, &out), expected, 1, tally)?;
+        self.held.unchanged()?;
+        let written = if accepted { count as usize } else { 0 };
+        same!(runs.kept_past(written), true, "records past the {written} runs are as they were");
+        if accepted {
+            let sim = self.sim.as_ref().expect("an accepted engine has its oracle");
+            let want = if right { sim.tape().right() } else { sim.tape().left() };
+            let told: Vec<(u8, u64)> = runs.part()[..written].iter().map(|run| (run.symbol, run.len)).collect();
+            same!(out[0], want.len() as u64, "number of runs");
+            same!(told, oracle::runs(want), "runs, topmost last");
+        }
+        Ok(())
     }
 
     /// One question.

@@ -40,6 +40,17 @@ pub fn fresh(rng: &mut Rng, word: Vec<u8>) -> Begin {
     Begin::Fresh { word, left, right }
 }
 
+/// A fresh engine on a word of up to 3,000 symbols.
+pub fn long(rng: &mut Rng, sizes: &Sizes) -> Begin {
+    let (len, same) = (rng.log(32, 3000), rng.pick(&[0, 8, 15]));
+    let mut word: Vec<u8> = Vec::new();
+    for i in 0..len as usize {
+        let again = i > 0 && rng.below(16) < same;
+        word.push(if again { word[i - 1] } else { rng.below(sizes.symbols) as u8 });
+    }
+    fresh(rng, word)
+}
+
 /// So many random calls. `steps` is about where the engine stands.
 pub fn acts(rng: &mut Rng, sizes: &Sizes, count: u64, steps: u64) -> Vec<Act> {
     (0..count).map(|_| Act::Run { rule: rule(rng, sizes.states), fuel: fuel(rng, steps) }).collect()
@@ -100,7 +111,7 @@ pub fn fitting(rng: &mut Rng, sizes: &Sizes) -> Begin {
     let highest = head + within(rng, ZERO + steps - head);
     let most = steps + SLACK;
     // To the left the furthest cell is at -most or above it, to the right at most or below.
-    let (left, lefts) = stack(rng, sizes.symbols, most.min(head + most - ZERO));
+    let (left, lefts) = stack(rng, sizes.symbols, most.min(head - low + SLACK));
     let (right, rights) = stack(rng, sizes.symbols, most.min(ZERO + most - head));
     let engine = [steps, within(rng, steps), lefts, rights, head, lowest, highest];
     let value = Value { state: rng.below(sizes.states) as u16, cur: rng.below(sizes.symbols) as u8, engine };
@@ -125,7 +136,8 @@ pub fn break_value(rng: &mut Rng, sizes: &Sizes, begin: &mut Begin) {
             4 => value.engine[rng.pick(&[HEAD, LOWEST, HIGHEST])] = odd_position(rng, value.engine[HEAD], steps),
             5 => value.engine[count] = rng.pick(&[live + 1, u64::MAX, live + (1 << 32), live + (1 << 63), 1 << 20]),
             6 if live > 0 => {
-                side.1[at] = rng.pick(&[0, u64::MAX, 1 << 63, steps + SLACK + 1, side.1[at].wrapping_neg()])
+                let beyond = steps.saturating_add(SLACK + 1);
+                side.1[at] = rng.pick(&[0, u64::MAX, 1 << 63, beyond, side.1[at].wrapping_neg()])
             }
             7 if live > 0 => side.0[at] = rng.pick(&[0, sizes.symbols.min(255) as u8, 255]),
             8 if live > 1 => side.0[at] = side.0[(at + 1) % live as usize],

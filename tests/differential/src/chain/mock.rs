@@ -308,6 +308,7 @@ pub mod exports {
 
     use super::*;
     use crate::mock::exports::number;
+    use crate::port::Run;
 
     pub unsafe extern "C" fn tm_chain_new(
         tapes: u64, symbols: u64, states: u64, start: u64, table: *const u8, table_len: usize,
@@ -381,6 +382,50 @@ pub mod exports {
             }
         };
     }
+
+    /// The runs of a side into records.
+    fn side(stack: &Stack, runs: &mut [Run], out: &mut [u64; 8]) -> Answer<()> {
+        let short = if fault(142) { runs.len() <= stack.len() } else { runs.len() < stack.len() };
+        if short && !fault(143) {
+            return refuse(18);
+        }
+        for (i, &(symbol, len)) in stack.iter().enumerate().take(runs.len()) {
+            let at = if fault(144) { stack.len() - 1 - i } else { i };
+            runs[at] = Run { symbol, len };
+        }
+        if fault(145) && runs.len() > stack.len() {
+            runs[stack.len()] = Run { symbol: 0, len: 0 };
+        }
+        out[0] = if fault(146) { runs.len() as u64 } else { stack.len() as u64 };
+        Ok(())
+    }
+
+    /// A side's function.
+    macro_rules! runs {
+        ($name:ident, $stack:ident) => {
+            pub unsafe extern "C" fn $name(
+                tapes: u64, symbols: u64, states: u64, start: u64, table: *const u8, table_len: usize,
+                ls: *const u8, ls_len: usize, ll: *const u64, ll_len: usize,
+                rs: *const u8, rs_len: usize, rl: *const u64, rl_len: usize,
+                state: u16, cur: u8, engine: *const [u64; 7], runs: *mut Run, runs_len: usize, out: *mut [u64; 8],
+            ) -> u8 {
+                let (table, engine, out) = unsafe { (from_raw_parts(table, table_len), &*engine, &mut *out) };
+                let left = unsafe { Places(from_raw_parts(ls, ls_len), from_raw_parts(ll, ll_len)) };
+                let right = unsafe { Places(from_raw_parts(rs, rs_len), from_raw_parts(rl, rl_len)) };
+                let runs = unsafe { from_raw_parts_mut(runs, runs_len) };
+                let made = accept([tapes, symbols, states, start], table)
+                    .and_then(|m| load(&m, state, cur, engine, &left, &right))
+                    .and_then(|chain| {
+                        let stack = if fault(147) { &chain.right } else { &chain.$stack };
+                        side(stack, runs, out)
+                    });
+                number(made, out)
+            }
+        };
+    }
+
+    runs!(tm_chain_left, left);
+    runs!(tm_chain_right, right);
 
     question!(tm_chain_get, (at: i64), |chain, out| out[0] = u64::from(chain.get(at)));
     question!(tm_chain_count, (), |chain, out| out[0] = chain.count());

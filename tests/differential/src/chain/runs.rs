@@ -10,7 +10,7 @@ use crate::generate::{self as plain, Rng, one_tape, standard};
 use crate::law::{MAX_STEPS, MAX_WORD, Sizes};
 use crate::port::{self, Out};
 use crate::runner::Runner;
-use crate::runs::{L, N, R, entries, listing, on_small_tables, walkers};
+use crate::runs::{L, MOST_ENTRIES, N, R, entries, listing, on_small_tables, walkers};
 use crate::tally::OUT;
 
 /// A case of the usual form.
@@ -153,6 +153,41 @@ pub fn random(r: &mut Runner) {
         let begin = generate::fresh(&mut rng, word);
         r.case(&Case { plain: i % 2 == 0, ..case_of(&subject, begin, acts, asking, rng.next()) });
     }
+}
+
+/// Tables of any shape, of up to 2 MB, and words of thousands of symbols.
+pub fn wide(r: &mut Runner) {
+    for _ in 0..300 * r.scale {
+        wide_list(r, MOST_ENTRIES);
+    }
+    for _ in 0..1500 * r.scale {
+        let mut rng = r.rng();
+        let sizes = generate::sizes(&mut rng, 300, 60);
+        let subject = Subject::new(sizes, plain::table(&mut rng, &sizes));
+        let acts = generate::acts(&mut rng, &sizes, 5, 0);
+        let begin = generate::long(&mut rng, &sizes);
+        r.case(&case_of(&subject, begin, acts, Asking::Some(3), rng.next()));
+    }
+}
+
+/// A list on a table with at most so many entries.
+pub fn wide_list(r: &mut Runner, most: u64) {
+    let mut rng = r.rng();
+    let tapes = if rng.once_in(30) { rng.between(2, 3) } else { 1 };
+    let sizes = plain::wide_sizes(&mut rng, tapes, most);
+    let subject = Subject::new(sizes, plain::table(&mut rng, &sizes));
+    let begin = match rng.below(4) {
+        0 => generate::fitting(&mut rng, &sizes),
+        1 => generate::long(&mut rng, &sizes),
+        _ => {
+            let word = plain::word(&mut rng, sizes.symbols);
+            generate::fresh(&mut rng, word)
+        }
+    };
+    let count = rng.between(3, 7);
+    let acts = generate::acts(&mut rng, &sizes, count, 0);
+    let case = case_of(&subject, begin, acts, Asking::Some(1), rng.next());
+    r.case(&Case { plain: rng.once_in(2), ..case });
 }
 
 /// Machines in pieces of random fuel.
@@ -336,6 +371,7 @@ pub fn unfit(r: &mut Runner) {
 fn every_operation(rng: &mut Rng) -> Vec<Act> {
     let asks = [Question::Get { at: 0 }, Question::NonBlank, Question::Count, Question::Window { from: -1, len: 4 }];
     let mut acts: Vec<Act> = asks.map(Act::Ask).to_vec();
+    acts.extend([false, true].map(|right| Act::Side { right, more: rng.pick(&[-1, 0, 2]) }));
     acts.push(run(plain::fuel(rng, 0)));
     acts
 }

@@ -13,7 +13,7 @@ use crate::law::{Refusal, when};
 use crate::lent::{GUARD, Held};
 use crate::oracle;
 use crate::port::Out;
-use crate::tally::{ANEW, Difference, OUT, THINNED, Tally, VISITED, WITH_RUST, same};
+use crate::tally::{ANEW, Difference, FULL, OUT, THINNED, Tally, VISITED, WITH_RUST, same};
 
 /// A list of calls under way.
 struct Pairing<'a, K: Kind> {
@@ -118,7 +118,7 @@ impl<'a, K: Kind> Pairing<'a, K> {
         if act.odds.iter().any(|odd| !matches!(odd, Odd::Short(_))) {
             (self.rust, self.origin) = (None, None); // what was wrong is so from now on
         }
-        self.accepted(target, &out, tally)?;
+        self.accepted(act.call, target, &out, tally)?;
         self.visit(tally)?;
         Ok(true)
     }
@@ -210,7 +210,7 @@ impl<'a, K: Kind> Pairing<'a, K> {
     }
 
     /// An accepted call: the answer, the engine and the timeline's value are as they must be.
-    fn accepted(&mut self, target: u64, out: &Out, tally: &mut Tally) -> Result<(), Difference> {
+    fn accepted(&mut self, call: Call, target: u64, out: &Out, tally: &mut Tally) -> Result<(), Difference> {
         let room = K::room(&self.port.held);
         let model = self.model.as_mut().expect("an engine that fits has its model");
         let (from, interval) = (K::work(&model.here), model.times[EVERY]);
@@ -222,17 +222,22 @@ impl<'a, K: Kind> Pairing<'a, K> {
         let (end, full) = (model.here.steps(), told[0] == Some(4));
         tally.timeline[THINNED] += u64::from(model.times[EVERY].ilog2() - interval.ilog2());
         tally.outcomes[out[0] as usize] += 1;
-        tally.departures[0] += u64::from(full);
+        tally.departures[FULL] += u64::from(full);
         tally.steps += K::work(&model.here).saturating_sub(from);
         if full {
             self.rust = None;
         }
         if let Some(rust) = &mut self.rust {
-            same_answer(out, oracle::answer(rust.seek(target)), "the Rust's")?;
+            let answer = match call {
+                Call::Seek(n) => rust.seek(n),
+                Call::Forward(n) => rust.forward(n),
+                Call::Back(n) => rust.back(n),
+            };
+            same_answer(out, oracle::answer(answer), "the Rust's")?;
             K::compare(&self.port.held, rust.current(), true).map_err(|e| format!("the Rust's timeline: {e}"))?;
             let (count, every) = (rust.checkpoints.len() as u64, rust.interval);
             same!(self.port.times[COUNT..=EVERY], [count, every], "count and interval (the Rust's)");
-            tally.timeline[WITH_RUST] += 1;
+            tally.timeline[WITH_RUST + usize::from(call.numbers().0.min(2))] += 1;
         }
         if let (true, Some(origin)) = (self.case.anew, &self.origin) {
             let (mut fresh, start) = (origin.clone(), origin.steps());

@@ -16,6 +16,10 @@ use crate::law::{MAX_STEPS, Sizes};
 pub trait Source: Kind {
     /// Sizes of a machine with at most so many entries; seldom one that this kind does not take.
     fn sizes(rng: &mut Rng, most: u64) -> Sizes;
+    /// Sizes of a machine of any number of symbols and states with at most so many entries.
+    fn wide(rng: &mut Rng, most: u64) -> Sizes;
+    /// An engine with thousands of cells or with many runs.
+    fn long(rng: &mut Rng, sizes: &Sizes) -> Self::Begin;
     /// A value set from outside that fits.
     fn fitting(rng: &mut Rng, sizes: &Sizes) -> Self::Begin;
     /// A fresh engine with any room.
@@ -29,6 +33,15 @@ pub trait Source: Kind {
 impl Source for OnCells {
     fn sizes(rng: &mut Rng, most: u64) -> Sizes {
         generate::sizes(rng, most)
+    }
+
+    fn wide(rng: &mut Rng, most: u64) -> Sizes {
+        let tapes = rng.between(1, 3);
+        generate::wide_sizes(rng, tapes, most)
+    }
+
+    fn long(rng: &mut Rng, sizes: &Sizes) -> case::Begin {
+        generate::long_value(rng, sizes, 4000)
     }
 
     fn fitting(rng: &mut Rng, sizes: &Sizes) -> case::Begin {
@@ -67,6 +80,15 @@ impl Source for OnRuns {
         chain::generate::sizes(rng, most, 60)
     }
 
+    fn wide(rng: &mut Rng, most: u64) -> Sizes {
+        let tapes = if rng.once_in(30) { rng.between(2, 3) } else { 1 };
+        generate::wide_sizes(rng, tapes, most)
+    }
+
+    fn long(rng: &mut Rng, sizes: &Sizes) -> chain::case::Begin {
+        chain::generate::long(rng, sizes)
+    }
+
     fn fitting(rng: &mut Rng, sizes: &Sizes) -> chain::case::Begin {
         chain::generate::fitting(rng, sizes)
     }
@@ -102,6 +124,11 @@ pub fn settings(rng: &mut Rng) -> (u64, u64) {
         3 => (rng.between(1, 4), rng.between(1, 4)),
         _ => (rng.between(1, 16), rng.between(1, 64)),
     }
+}
+
+/// Settings with any m and any first interval, its number of bits as often any as another.
+pub fn any_settings(rng: &mut Rng) -> (u64, u64) {
+    (rng.between(1, 512), rng.log(1, 1 << 32))
 }
 
 /// So many calls about steps up to `reach`, often at the boundaries of `every`.

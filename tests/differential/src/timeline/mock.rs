@@ -31,7 +31,8 @@ fn due(times: &[u64; 4]) -> u128 {
     if fault(101) {
         return u128::from(first.wrapping_add(count.wrapping_mul(every)));
     }
-    u128::from(first) + u128::from(count) * u128::from(every)
+    let late = fault(150) && every > 65_536 && !every.is_power_of_two();
+    u128::from(first) + u128::from(count) * u128::from(every) + u128::from(late)
 }
 
 /// Records, and thins where there are more than m.
@@ -42,7 +43,8 @@ fn record(d: &impl Drive, store: &mut [u8], size: usize, times: &mut [u64; 4]) {
     }
     d.save(&mut store[count * size..(count + 1) * size]);
     times[2] += 1;
-    if times[2] > times[0] {
+    let early = fault(149) && (257..=510).contains(&times[0]);
+    if times[2] > times[0] - u64::from(early) {
         let kept = if fault(107) { count.div_ceil(2) } else { count / 2 + 1 };
         for i in 1..kept {
             let from = (2 * i + usize::from(fault(85))).min(count);

@@ -82,6 +82,7 @@ impl Drive for OnCells<'_> {
         let blank: [Vec<u8>; 3] = parts.clone().map(|p| vec![0; p.len()]);
         let cells = [0, 1, 2].map(|i| if fault(98) { &blank[i][..] } else { &slot[parts[i].clone()] });
         let state = number(slot, 0);
+        let state = if fault(148) { state % 256 } else { state };
         let Ok(engine) = Engine::load(self.m, state as u16, &value, cells) else {
             return false;
         };
@@ -135,6 +136,7 @@ impl Drive for OnRuns<'_> {
     fn restore(&mut self, slot: &[u8], step: u64) -> bool {
         let value: [u64; 7] = std::array::from_fn(|i| number(slot, 8 * i));
         let (state, cur) = (number(slot, 56) % 65_536, number(slot, 56) / 65_536);
+        let state = if fault(148) { state % 256 } else { state };
         let side = |at: usize, places: usize| {
             let lengths: Vec<u64> = (0..places).map(|i| number(slot, at + places + 8 * i)).collect();
             (&slot[at..at + places], lengths)

@@ -78,10 +78,11 @@ impl<K: Kind> Model<K> {
         }
     }
 
-    /// The steps of the recorded slots.
+    /// The steps of the recorded slots, as far as those are numbers of 64 bits: a value set from outside may have later
+    /// ones.
     pub fn recorded(&self) -> impl Iterator<Item = u64> + use<K> {
         let [_, first, count, every] = self.times;
-        (0..count).map(move |i| first + i * every)
+        (0..count).map_while(move |i| i.checked_mul(every)?.checked_add(first))
     }
 
     /// The starting step.

@@ -3,13 +3,13 @@
 use std::rc::Rc;
 
 use super::case::{Act, Case};
-use super::generate::{Source, calls, odd_act, settings};
+use super::generate::{Source, any_settings, calls, odd_act, settings};
 use super::law::{Call, RUST};
 use crate::case::Subject;
 use crate::generate::{self, Rng, one_tape, standard, three_tapes};
 use crate::law::{MAX_STEPS, Sizes};
 use crate::runner::Runner;
-use crate::runs::{L, N, R, SMALL_TABLES, alternating, listing, small_table};
+use crate::runs::{L, MOST_ENTRIES, N, R, SMALL_TABLES, alternating, listing, small_table};
 
 /// A machine and a word.
 pub type Ground = (Rc<Subject>, Vec<u8>);
@@ -206,6 +206,74 @@ fn spoilt(rng: &mut Rng, subject: &Rc<Subject>) -> Rc<Subject> {
         _ => table[0] = 2,
     }
     Subject::new(sizes, table)
+}
+
+/// Machines with loops that a run-length engine covers at once, or that end at once for lack of cells.
+fn loops() -> Vec<Rc<Subject>> {
+    let back = one_tape(3, 2, &[(0, 1, 2, L, 0), (0, 0, 1, R, 1), (1, 2, 1, R, 1), (1, 0, 1, L, 0)]);
+    let left = one_tape(2, 2, &[(0, 0, 1, R, 1), (1, 0, 0, L, 1), (1, 1, 0, L, 1)]);
+    let stay = one_tape(2, 2, &[(0, 0, 1, R, 1), (1, 0, 0, N, 1)]);
+    vec![one_tape(2, 1, &[(0, 0, 1, R, 0)]), left, stay, back, alternating(R)]
+}
+
+/// Every m from 1 to 512 in turn, first intervals of any size; every second list long enough to fill the slots.
+pub fn any<K: Source>(r: &mut Runner) {
+    let loops = loops();
+    for i in 0..2048 * r.scale {
+        let mut rng = r.rng();
+        let looping = rng.once_in(3);
+        let (subject, word) = match looping {
+            true => (Rc::clone(&loops[rng.below(loops.len() as u64) as usize]), vec![]),
+            false => ground::<K>(&mut rng, 300),
+        };
+        let most = 1 + i % 512;
+        let every = if rng.once_in(2) { rng.log(1, 16) } else { any_settings(&mut rng).1 };
+        let begin = match rng.below(8) {
+            0 => K::fitting(&mut rng, &subject.sizes),
+            1 | 2 => K::long(&mut rng, &subject.sizes),
+            3 => K::any(&mut rng, &subject.sizes, word),
+            _ => K::fresh(&word, K::SOME),
+        };
+        let filled = 3 * most * every;
+        let reach = match rng.below(4) {
+            0 | 1 => filled.min(20_000),
+            2 if looping => filled.max(1 << rng.below(62)).min(MAX_STEPS),
+            2 => filled.min(100_000),
+            _ => rng.log(16, 4000),
+        };
+        let count = rng.between(3, 10);
+        let list = calls(&mut rng, count, reach, every);
+        let probe = most <= 16 && i % 4 == 0;
+        r.case(&Case { probe, dirt: rng.next(), ..Case::<K>::new(&subject, begin, (most, every), &list) });
+    }
+}
+
+/// Tables of any shape, of up to 2 MB.
+pub fn wide<K: Source>(r: &mut Runner) {
+    for _ in 0..300 * r.scale {
+        wide_list::<K>(r, MOST_ENTRIES);
+    }
+}
+
+/// A list on a table with at most so many entries.
+pub fn wide_list<K: Source>(r: &mut Runner, most: u64) {
+    let mut rng = r.rng();
+    let sizes = K::wide(&mut rng, most);
+    let word = generate::word(&mut rng, sizes.symbols);
+    let subject = Subject::new(sizes, generate::table(&mut rng, &sizes));
+    let begin = match rng.below(4) {
+        0 => K::fitting(&mut rng, &sizes),
+        1 => K::any(&mut rng, &sizes, word),
+        _ => K::fresh(&word, K::SOME),
+    };
+    let set = match rng.below(3) {
+        0 => RUST,
+        1 => any_settings(&mut rng),
+        _ => (rng.between(1, 512), rng.between(1, 20)),
+    };
+    let (count, reach) = (rng.between(3, 8), if set == RUST { 9000 } else { 1000 });
+    let list = calls(&mut rng, count, reach, set.1);
+    r.case(&Case { dirt: rng.next(), ..Case::<K>::new(&subject, begin, set, &list) });
 }
 
 /// Few cells, few run places.

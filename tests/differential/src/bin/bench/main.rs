@@ -188,6 +188,10 @@ fn chain(reps: usize, only: Option<&str>, marks: Vec<u8>) {
 }
 
 fn main() {
+    if cfg!(debug_assertions) {
+        eprintln!("the Rust is built with overflow checks: use --profile timed");
+        std::process::exit(2);
+    }
     let (mut reps, mut only) = (9_usize, None);
     let mut arguments = std::env::args().skip(1);
     while let Some(argument) = arguments.next() {
