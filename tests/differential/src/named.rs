@@ -54,13 +54,14 @@ fn fresh_chain(s: &Subject, word: &[u8], left: usize, right: usize) -> u8 {
 
 pub fn departures(r: &mut Runner) {
     engines(r);
+    several_tapes(r);
     questions(r);
     words(r);
     timelines(r);
     far(r);
 }
 
-/// Refusals 9, 10, 11 and 7: what the Rust makes or runs.
+/// Refusals 9, 10 and 11, and a side without places: what the Rust makes or runs.
 fn engines(r: &mut Runner) {
     let least = least();
     let long = vec![0; law::MAX_WORD + 1];
@@ -84,6 +85,10 @@ fn engines(r: &mut Runner) {
     r.fact(result == 0 && out[..2] == [4, 0], "no left place: full before a step that leaves a symbol on the left");
     let rust = rle::fresh(machine(&leaves), &[]).expect("one tape").run(1);
     r.fact(rust.steps() == 1, "the Rust makes the step");
+}
+
+/// Refusal 7: the Rust has no packed words of several tapes, and runs without.
+fn several_tapes(r: &mut Runner) {
     let several = walkers(&[R, R], 1);
     let (mut out, mut words) = (OUT, [0; 8]);
     r.fact(port::pack(several.sizes, &several.table, &mut words, &mut out) == 7, "7: packing two tapes");
