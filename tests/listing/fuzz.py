@@ -22,7 +22,7 @@ SECONDS = 20
 
 def corpus():
     """The inputs of the cases."""
-    data = [path.read_bytes() for path in sorted((expected.TOP / "crates" / "cases" / "data").glob("*.in"))]
+    data = [path.read_bytes() for path in sorted((expected.TOP / "crates" / "listing_cases" / "data").glob("*.in"))]
     return [listing for listing in data if len(listing) < 10_000]
 
 

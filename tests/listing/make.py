@@ -1,5 +1,5 @@
 #!/usr/bin/env python3
-"""Makes the pairs crates/cases/data/NNN.in and NNN.out, and crates/cases/README.md, which lists them.
+"""Makes the pairs crates/listing_cases/data/NNN.in and NNN.out, and crates/listing_cases/README.md, which lists them.
 
 Each input is described here. What must be printed is never taken from the port: the line of a refusal is
 given here by hand, and reader.py must name the same; rows are the Rust's engine's (expected.py).
@@ -13,7 +13,7 @@ import sys
 import expected
 import reader
 
-CRATE = expected.TOP / "crates" / "cases"
+CRATE = expected.TOP / "crates" / "listing_cases"
 DATA = CRATE / "data"
 
 CASES = []  # (what it shows, input, line that is refused or None)

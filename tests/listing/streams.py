@@ -1,10 +1,10 @@
 #!/usr/bin/env python3
-"""Runs `seekrun` and `cases` on standard streams and files that fail, and compares what they write.
+"""Runs `seekrun` and `listing_cases` on standard streams and files that fail, and compares what they write.
 
     python3 streams.py
 
-Needs target/bin/seekrun and target/bin/cases (`rt check seekrun cases`), and neither cargo nor the Rust's files. Status 1
-on a difference. A program of Rattle has no exit status, so that each must end with 0.
+Needs target/bin/seekrun and target/bin/listing_cases (`rt check seekrun listing_cases`), and neither cargo nor the
+Rust's files. Status 1 on a difference. A program of Rattle has no exit status, so each must end with 0.
 """
 import os
 import pathlib
@@ -16,7 +16,7 @@ import time
 
 TOP = pathlib.Path(__file__).resolve().parents[2]
 SEEKRUN = TOP / "target" / "bin" / "seekrun"
-CASES = TOP / "target" / "bin" / "cases"
+CASES = TOP / "target" / "bin" / "listing_cases"
 LISTING = (TOP / "crates" / "seekrun" / "stdin").read_bytes()
 ROWS = (TOP / "crates" / "seekrun" / "stdout").read_bytes()
 NO_INPUT = b"seekrun: standard input cannot be read\n"
@@ -133,7 +133,7 @@ def waiting_out():
 
 def cases_full():
     with open("/dev/full", "wb") as full:
-        return ran(CASES, subprocess.DEVNULL, stdout=full, cwd=TOP / "crates" / "cases" / "data")
+        return ran(CASES, subprocess.DEVNULL, stdout=full, cwd=TOP / "crates" / "listing_cases" / "data")
 
 
 def cases_unread(name):
@@ -162,9 +162,9 @@ TESTS = [
     ("output: closed", closed_out, (b"", NO_OUTPUT, 0)),
     ("output: open for reading only", read_only_out, (b"", NO_OUTPUT, 0)),
     ("output: a full pipe that does not wait", waiting_out, (b"", NO_OUTPUT, 0)),
-    ("cases: a full device", cases_full, (b"", b"cases: standard output cannot be written\n", 0)),
-    ("cases: an input that cannot be read", lambda: cases_unread("000.in"), (b"0 differs\n1 cases, 1 differ\n", b"", 0)),
-    ("cases: an output that cannot be read", lambda: cases_unread("000.out"), (b"0 differs\n1 cases, 1 differ\n", b"", 0)),
+    ("listing_cases: a full device", cases_full, (b"", b"listing_cases: standard output cannot be written\n", 0)),
+    ("listing_cases: an input that cannot be read", lambda: cases_unread("000.in"), (b"0 differs\n1 cases, 1 differ\n", b"", 0)),
+    ("listing_cases: an output that cannot be read", lambda: cases_unread("000.out"), (b"0 differs\n1 cases, 1 differ\n", b"", 0)),
 ]
 
 

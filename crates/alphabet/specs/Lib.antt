@@ -1,6 +1,3 @@
-pub mod Encode
-pub mod EncodeCases
+pub mod Model
 pub mod Glyphs
-pub mod EncodeFacts
-pub mod GlyphFacts
-pub mod Examples
+pub mod Facts

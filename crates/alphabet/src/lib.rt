@@ -5,8 +5,8 @@ use symbol::Symbol;
 ghost use mathlib.Core.Path.{_≡_};
 ghost use Prim.Native.Nat.{_≤_, min};
 ghost use lib.ListN.{length};
-ghost use Rattle.laws.specs.Fill.{fillFrom};
-ghost use Rattle.alphabet.specs.Encode.{symbolFor, isInput, allowedOn, byteOn, byteAt, glyphsCheck, encodeCheck, encodeInto};
+ghost use Rattle.notation.specs.Fill.{fillFrom};
+ghost use Rattle.alphabet.specs.Model.{symbolFor, isInput, allowedOn, byteOn, byteAt, glyphsCheck, encodeCheck, encodeInto};
 
 // The symbol that a glyph stands for.
 pub enum Named {

@@ -1,13 +1,13 @@
 // The run-length engine: fresh, and a run.
-use numbers::answers;
-use numbers::engines;
+use capi_numbers::answers;
+use capi_numbers::engines;
 use rle::ChainSim;
 use rle::Fresh;
 ghost use mathlib.Core.Path.{_≡_};
-ghost use Rattle.rle.specs.Engine.{conf};
-ghost use Rattle.rle.specs.Operations.{newAnswer, runAnswer};
-ghost use Rattle.numbers.specs.Engines.{machineOf, ruleOf, chainOf};
-ghost use Rattle.capi.specs.Chains.{chainCall, chainNewCall, chainRanCall};
+ghost use Rattle.rle.specs.Model.Engine.{conf};
+ghost use Rattle.rle.specs.Model.Operations.{newAnswer, runAnswer};
+ghost use Rattle.capi_numbers.specs.Model.Engines.{machineOf, ruleOf, chainOf};
+ghost use Rattle.capi.specs.Model.Chains.{chainCall, chainNewCall, chainRanCall};
 
 #[no_mangle]
 pub extern "C" fn tm_chain_new(
@@ -72,5 +72,5 @@ pub extern "C" fn tm_chain_run(
     *state = after.state.0;
     *cur = after.tape.cur;
     engines::put_chain(engine, after);
-    answers::tell_answer(out, answer)
+    answers::put_answer(out, answer)
 }

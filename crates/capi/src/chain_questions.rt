@@ -1,12 +1,12 @@
 // Questions on the run-length engine's tape; answers as those on the plain engine's.
-use numbers::answers;
-use numbers::engines;
+use capi_numbers::answers;
+use capi_numbers::engines;
 ghost use mathlib.Core.Path.{_≡_};
-ghost use Rattle.rle.specs.Engine.{conf};
+ghost use Rattle.rle.specs.Model.Engine.{conf};
 ghost use Rattle.rle.specs.Fits.{engineCheck};
-ghost use Rattle.rle.specs.Questions.{getAnswer, extentAnswer, countAnswer, windowInto};
-ghost use Rattle.numbers.specs.Engines.{machineOf, chainOf};
-ghost use Rattle.numbers.specs.Answers.{checkedCode, checkedOut, gotCode, gotOut, countedCode, countedOut, extentCode, extentOut};
+ghost use Rattle.rle.specs.Model.Questions.{getAnswer, extentAnswer, countAnswer, windowInto};
+ghost use Rattle.capi_numbers.specs.Model.Engines.{machineOf, chainOf};
+ghost use Rattle.capi_numbers.specs.Model.Answers.{checkedCode, checkedOut, gotCode, gotOut, countedCode, countedOut, extentCode, extentOut};
 
 // The symbol at a position, in out[0].
 #[no_mangle]
@@ -31,7 +31,7 @@ pub extern "C" fn tm_chain_get<'a>(
     let m = engines::machine_of(tapes, symbols, states, start);
     let sim = engines::chain_of(state, cur, engine);
     let answer = sim.get(m, table, ls, ll, rs, rl, at);
-    answers::tell_got(out, answer)
+    answers::put_got(out, answer)
 }
 
 // Whether a cell is not blank, in out[0]; the lowest and the highest such position, raised by 2^63, in out[1] and out[2].
@@ -56,7 +56,7 @@ pub extern "C" fn tm_chain_non_blank<'a>(
     let m = engines::machine_of(tapes, symbols, states, start);
     let sim = engines::chain_of(state, cur, engine);
     let answer = sim.non_blank(m, table, ls, ll, rs, rl);
-    answers::tell_extent(out, answer)
+    answers::put_extent(out, answer)
 }
 
 // The number of cells that are not blank, in out[0].
@@ -81,7 +81,7 @@ pub extern "C" fn tm_chain_count<'a>(
     let m = engines::machine_of(tapes, symbols, states, start);
     let sim = engines::chain_of(state, cur, engine);
     let answer = sim.count_non_blank(m, table, ls, ll, rs, rl);
-    answers::tell_counted(out, answer)
+    answers::put_counted(out, answer)
 }
 
 // The symbols from a position on, into the whole of `cells`.
@@ -108,5 +108,5 @@ pub extern "C" fn tm_chain_window<'a>(
     let m = engines::machine_of(tapes, symbols, states, start);
     let sim = engines::chain_of(state, cur, engine);
     let answer = sim.window(m, table, ls, ll, rs, rl, from, cells);
-    answers::tell_checked(out, answer)
+    answers::put_checked(out, answer)
 }

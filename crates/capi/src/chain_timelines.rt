@@ -1,17 +1,17 @@
 // A timeline over the run-length engine: a new one, and its calls. Its store of slots is lent as the runs are.
-use numbers::answers;
-use numbers::engines;
+use capi_numbers::answers;
+use capi_numbers::engines;
 use rle_timeline::Begun;
 use rle_timeline::Timeline;
 ghost use mathlib.Core.Path.{_≡_};
-ghost use Rattle.rle.specs.Engine.{conf};
-ghost use Rattle.times.specs.Kind.{callOn, newWith};
-ghost use Rattle.rle_engine.specs.Kind.{chainKind};
-ghost use Rattle.rle_timeline.specs.Worlds.{W, tl};
-ghost use Rattle.numbers.specs.Engines.{machineOf, chainOf, timesFrom};
-ghost use Rattle.times.specs.Timeline.{callFor};
-ghost use Rattle.capi.specs.Timelines.{timelineNew, timelineNewCall};
-ghost use Rattle.capi.specs.ChainTimelines.{chainTimelineCall, chainMovedCall};
+ghost use Rattle.rle.specs.Model.Engine.{conf};
+ghost use Rattle.timeline_rule.specs.Model.Kind.{callOn, newWith};
+ghost use Rattle.rle_slots.specs.Model.Kind.{chainKind};
+ghost use Rattle.rle_timeline.specs.Model.{withLent, tl};
+ghost use Rattle.capi_numbers.specs.Model.Engines.{machineOf, chainOf, timesFrom};
+ghost use Rattle.timeline_rule.specs.Model.Timeline.{callFor};
+ghost use Rattle.capi.specs.Model.Timelines.{timelineNew, timelineNewCall};
+ghost use Rattle.capi.specs.Model.ChainTimelines.{chainTimelineCall, chainMovedCall};
 
 #[no_mangle]
 pub extern "C" fn tm_chain_timeline_new(
@@ -69,7 +69,7 @@ pub extern "C" fn tm_chain_timeline_call(
     number: u64,
     out: &mut [u64; 8],
 ) -> u8
-    ensures { λ r. ⌜ chainTimelineCall r (now (state .exit)) (now (cur .exit)) (now (engine .exit)) (now (times .exit)) (now (out .exit)) (now (ls .exit)) (now (ll .exit)) (now (rs .exit)) (now (rl .exit)) (now (store .exit)) ≡ chainMovedCall (callOn chainKind (machineOf tapes symbols states start) (now (table .entry)) (W (tl (chainOf (now (state .entry)) (now (cur .entry)) (now (engine .entry))) (timesFrom (now (times .entry)))) (now (ls .entry)) (now (ll .entry)) (now (rs .entry)) (now (rl .entry)) (now (store .entry))) (callFor which number)) (now (engine .entry)) (now (times .entry)) (now (out .entry)) ⌝ }
+    ensures { λ r. ⌜ chainTimelineCall r (now (state .exit)) (now (cur .exit)) (now (engine .exit)) (now (times .exit)) (now (out .exit)) (now (ls .exit)) (now (ll .exit)) (now (rs .exit)) (now (rl .exit)) (now (store .exit)) ≡ chainMovedCall (callOn chainKind (machineOf tapes symbols states start) (now (table .entry)) (withLent (tl (chainOf (now (state .entry)) (now (cur .entry)) (now (engine .entry))) (timesFrom (now (times .entry)))) (now (ls .entry)) (now (ll .entry)) (now (rs .entry)) (now (rl .entry)) (now (store .entry))) (callFor which number)) (now (engine .entry)) (now (times .entry)) (now (out .entry)) ⌝ }
 {
     let m = engines::machine_of(tapes, symbols, states, start);
     let timeline = Timeline {
@@ -84,5 +84,5 @@ pub extern "C" fn tm_chain_timeline_call(
     *cur = sim.tape.cur;
     engines::put_chain(engine, sim);
     engines::put_times(times, after.times);
-    answers::tell_answer(out, answer)
+    answers::put_answer(out, answer)
 }

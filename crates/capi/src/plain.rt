@@ -1,13 +1,13 @@
 // The plain engine: fresh, one step, a run over the table or over its packed words.
-use numbers::answers;
-use numbers::engines;
+use capi_numbers::answers;
+use capi_numbers::engines;
 use sim::Fresh;
 use sim::Simulator;
 ghost use mathlib.Core.Path.{_≡_};
-ghost use Rattle.sim.specs.Engine.{conf};
-ghost use Rattle.sim.specs.Operations.{newAnswer, stepAnswer, runAnswer, fastAnswer};
-ghost use Rattle.numbers.specs.Engines.{machineOf, engineOf, ruleOf};
-ghost use Rattle.capi.specs.Calls.{call, newCall, stepCall, ranCall};
+ghost use Rattle.sim.specs.Model.Engine.{conf};
+ghost use Rattle.sim.specs.Model.Operations.{newAnswer, stepAnswer, runAnswer, fastAnswer};
+ghost use Rattle.capi_numbers.specs.Model.Engines.{machineOf, engineOf, ruleOf};
+ghost use Rattle.capi.specs.Model.Calls.{call, newCall, stepCall, ranCall};
 
 #[no_mangle]
 pub extern "C" fn tm_sim_new(
@@ -63,7 +63,7 @@ pub extern "C" fn tm_sim_step(
     let answer = stepped.answer;
     *state = after.state.0;
     engines::put_engine(engine, after);
-    answers::tell_step(out, answer)
+    answers::put_step(out, answer)
 }
 
 #[no_mangle]
@@ -92,7 +92,7 @@ pub extern "C" fn tm_sim_run(
     let answer = ran.answer;
     *state = after.state.0;
     engines::put_engine(engine, after);
-    answers::tell_answer(out, answer)
+    answers::put_answer(out, answer)
 }
 
 #[no_mangle]
@@ -122,5 +122,5 @@ pub extern "C" fn tm_sim_run_packed(
     let answer = ran.answer;
     *state = after.state.0;
     engines::put_engine(engine, after);
-    answers::tell_answer(out, answer)
+    answers::put_answer(out, answer)
 }

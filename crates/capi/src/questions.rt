@@ -1,12 +1,12 @@
 // Questions on one tape of the plain engine.
-use numbers::answers;
-use numbers::engines;
+use capi_numbers::answers;
+use capi_numbers::engines;
 ghost use mathlib.Core.Path.{_≡_};
 ghost use Rattle.machine.specs.Layout.{dirOf};
-ghost use Rattle.sim.specs.Engine.{conf};
-ghost use Rattle.sim.specs.Questions.{questionCheck, getAnswer, extentAnswer, countAnswer, windowInto, findAnswer};
-ghost use Rattle.numbers.specs.Engines.{machineOf, engineOf};
-ghost use Rattle.numbers.specs.Answers.{checkedCode, checkedOut, gotCode, gotOut, countedCode, countedOut, extentCode, extentOut, locatedCode, locatedOut};
+ghost use Rattle.sim.specs.Model.Engine.{conf};
+ghost use Rattle.sim.specs.Model.Questions.{questionCheck, getAnswer, extentAnswer, countAnswer, windowInto, findAnswer};
+ghost use Rattle.capi_numbers.specs.Model.Engines.{machineOf, engineOf};
+ghost use Rattle.capi_numbers.specs.Model.Answers.{checkedCode, checkedOut, gotCode, gotOut, countedCode, countedOut, extentCode, extentOut, locatedCode, locatedOut};
 
 // The symbol at a position, in out[0].
 #[no_mangle]
@@ -30,7 +30,7 @@ pub extern "C" fn tm_sim_get<'a>(
     let m = engines::machine_of(tapes, symbols, states, start);
     let sim = engines::engine_of(state, engine);
     let answer = sim.get(m, table, c0, c1, c2, tape, at);
-    answers::tell_got(out, answer)
+    answers::put_got(out, answer)
 }
 
 // Whether a cell is not blank, in out[0]; the lowest and the highest such position, raised by 2^63, in out[1] and out[2].
@@ -54,7 +54,7 @@ pub extern "C" fn tm_sim_non_blank<'a>(
     let m = engines::machine_of(tapes, symbols, states, start);
     let sim = engines::engine_of(state, engine);
     let answer = sim.non_blank(m, table, c0, c1, c2, tape);
-    answers::tell_extent(out, answer)
+    answers::put_extent(out, answer)
 }
 
 // The number of cells that are not blank, in out[0].
@@ -78,7 +78,7 @@ pub extern "C" fn tm_sim_count<'a>(
     let m = engines::machine_of(tapes, symbols, states, start);
     let sim = engines::engine_of(state, engine);
     let answer = sim.count_non_blank(m, table, c0, c1, c2, tape);
-    answers::tell_counted(out, answer)
+    answers::put_counted(out, answer)
 }
 
 // The symbols from a position on, into the whole of `cells`.
@@ -104,7 +104,7 @@ pub extern "C" fn tm_sim_window<'a>(
     let m = engines::machine_of(tapes, symbols, states, start);
     let sim = engines::engine_of(state, engine);
     let answer = sim.window(m, table, c0, c1, c2, tape, from, cells);
-    answers::tell_checked(out, answer)
+    answers::put_checked(out, answer)
 }
 
 // Whether there is a cell that is not blank from a position on that way (0 L, 1 R, else the position alone), in
@@ -140,5 +140,5 @@ pub extern "C" fn tm_sim_find<'a>(
         from,
         machine::inner::dir_of(dir),
     );
-    answers::tell_located(out, answer)
+    answers::put_located(out, answer)
 }

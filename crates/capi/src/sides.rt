@@ -1,14 +1,14 @@
 // The runs of a side of the run-length engine's tape, as records. These two hold the slice of records, and are proved by
 // hand; they decide nothing.
-use numbers::engines;
-use numbers::parts;
-use records::Run;
+use capi_numbers::engines;
+use capi_numbers::parts;
+use rle_records::Run;
 ghost use mathlib.Core.Path.{_≡_};
 ghost use lib.ListN.{length};
-ghost use Rattle.rle.specs.Engine.{conf};
-ghost use Rattle.rle.specs.Records.{leftAnswer, leftInto, rightAnswer, rightInto};
-ghost use Rattle.numbers.specs.Engines.{machineOf, chainOf};
-ghost use Rattle.numbers.specs.Parts.{listedCode, listedOut};
+ghost use Rattle.rle.specs.Model.Engine.{conf};
+ghost use Rattle.rle.specs.Model.Records.{leftAnswer, leftInto, rightAnswer, rightInto};
+ghost use Rattle.capi_numbers.specs.Model.Engines.{machineOf, chainOf};
+ghost use Rattle.capi_numbers.specs.Model.Parts.{listedCode, listedOut};
 
 // The runs of the left side, the topmost last, into the first places of `runs`; how many they are, in out[0].
 #[no_mangle]
@@ -33,7 +33,7 @@ pub extern "C" fn tm_chain_left<'a, 'b, 'c>(
     let m = engines::machine_of(tapes, symbols, states, start);
     let sim = engines::chain_of(state, cur, engine);
     let listed = sim.left(m, table, ls, ll, rs, rl, runs);
-    parts::tell_listed(out, listed)
+    parts::put_listed(out, listed)
 }
 
 // The same of the right side.
@@ -59,5 +59,5 @@ pub extern "C" fn tm_chain_right<'a, 'b, 'c>(
     let m = engines::machine_of(tapes, symbols, states, start);
     let sim = engines::chain_of(state, cur, engine);
     let listed = sim.right(m, table, ls, ll, rs, rl, runs);
-    parts::tell_listed(out, listed)
+    parts::put_listed(out, listed)
 }

@@ -1,17 +1,17 @@
 // The table check, the lookup of an entry, and packing.
-use numbers::answers;
-use numbers::engines;
-use numbers::parts;
+use capi_numbers::answers;
+use capi_numbers::engines;
+use capi_numbers::parts;
 use symbol::State;
 use symbol::Symbol;
 ghost use mathlib.Core.Path.{_≡_};
 ghost use lib.ListN.{length};
 ghost use Rattle.symbol.specs.Kinds.{symbolOf, stateOf};
-ghost use Rattle.machine.specs.Check.{tableCheck, lookupOf};
-ghost use Rattle.machine.specs.Packing.{packCheck, packInto};
-ghost use Rattle.numbers.specs.Engines.{machineOf};
-ghost use Rattle.numbers.specs.Answers.{checkedCode, checkedOut};
-ghost use Rattle.numbers.specs.Parts.{lookedCode, lookedOut};
+ghost use Rattle.machine.specs.Model.Check.{tableCheck, lookupOf};
+ghost use Rattle.machine.specs.Model.Packing.{packCheck, packInto};
+ghost use Rattle.capi_numbers.specs.Model.Engines.{machineOf};
+ghost use Rattle.capi_numbers.specs.Model.Answers.{checkedCode, checkedOut};
+ghost use Rattle.capi_numbers.specs.Model.Parts.{lookedCode, lookedOut};
 
 #[no_mangle]
 pub extern "C" fn tm_check(
@@ -26,7 +26,7 @@ pub extern "C" fn tm_check(
 {
     let m = engines::machine_of(tapes, symbols, states, start);
     let checked = m.check(table);
-    answers::tell_checked(out, checked)
+    answers::put_checked(out, checked)
 }
 
 #[no_mangle]
@@ -43,7 +43,7 @@ pub extern "C" fn tm_pack(
 {
     let m = engines::machine_of(tapes, symbols, states, start);
     let checked = m.pack(table, words);
-    answers::tell_checked(out, checked)
+    answers::put_checked(out, checked)
 }
 
 // The entry for a state and the symbols read: 0 in out[0] where it is undefined, else 1, and then the next state, the
@@ -65,5 +65,5 @@ pub extern "C" fn tm_lookup(
 {
     let m = engines::machine_of(tapes, symbols, states, start);
     let looked = m.lookup(table, State(state), Symbol(a0), Symbol(a1), Symbol(a2));
-    parts::tell_looked(out, looked)
+    parts::put_looked(out, looked)
 }

@@ -1,16 +1,16 @@
 // A timeline over the plain engine: a new one, and its calls. Its store of slots is lent as the cells are.
-use numbers::answers;
-use numbers::engines;
+use capi_numbers::answers;
+use capi_numbers::engines;
 use sim_timeline::Begun;
 use sim_timeline::Timeline;
 ghost use mathlib.Core.Path.{_≡_};
-ghost use Rattle.sim.specs.Engine.{conf};
-ghost use Rattle.times.specs.Kind.{callOn, newWith};
-ghost use Rattle.sim_engine.specs.Kind.{plainKind};
-ghost use Rattle.sim_timeline.specs.Worlds.{W, tl};
-ghost use Rattle.numbers.specs.Engines.{machineOf, engineOf, timesFrom};
-ghost use Rattle.times.specs.Timeline.{callFor};
-ghost use Rattle.capi.specs.Timelines.{timelineNew, timelineNewCall, timelineCall, movedCall};
+ghost use Rattle.sim.specs.Model.Engine.{conf};
+ghost use Rattle.timeline_rule.specs.Model.Kind.{callOn, newWith};
+ghost use Rattle.sim_slots.specs.Model.Kind.{plainKind};
+ghost use Rattle.sim_timeline.specs.Model.{withLent, tl};
+ghost use Rattle.capi_numbers.specs.Model.Engines.{machineOf, engineOf, timesFrom};
+ghost use Rattle.timeline_rule.specs.Model.Timeline.{callFor};
+ghost use Rattle.capi.specs.Model.Timelines.{timelineNew, timelineNewCall, timelineCall, movedCall};
 
 #[no_mangle]
 pub extern "C" fn tm_sim_timeline_new(
@@ -64,7 +64,7 @@ pub extern "C" fn tm_sim_timeline_call(
     number: u64,
     out: &mut [u64; 8],
 ) -> u8
-    ensures { λ r. ⌜ timelineCall r (now (state .exit)) (now (engine .exit)) (now (times .exit)) (now (out .exit)) (now (c0 .exit)) (now (c1 .exit)) (now (c2 .exit)) (now (store .exit)) ≡ movedCall (callOn plainKind (machineOf tapes symbols states start) (now (table .entry)) (W (tl (engineOf (now (state .entry)) (now (engine .entry))) (timesFrom (now (times .entry)))) (now (c0 .entry)) (now (c1 .entry)) (now (c2 .entry)) (now (store .entry))) (callFor which number)) (now (engine .entry)) (now (times .entry)) (now (out .entry)) ⌝ }
+    ensures { λ r. ⌜ timelineCall r (now (state .exit)) (now (engine .exit)) (now (times .exit)) (now (out .exit)) (now (c0 .exit)) (now (c1 .exit)) (now (c2 .exit)) (now (store .exit)) ≡ movedCall (callOn plainKind (machineOf tapes symbols states start) (now (table .entry)) (withLent (tl (engineOf (now (state .entry)) (now (engine .entry))) (timesFrom (now (times .entry)))) (now (c0 .entry)) (now (c1 .entry)) (now (c2 .entry)) (now (store .entry))) (callFor which number)) (now (engine .entry)) (now (times .entry)) (now (out .entry)) ⌝ }
 {
     let m = engines::machine_of(tapes, symbols, states, start);
     let timeline = Timeline {
@@ -78,5 +78,5 @@ pub extern "C" fn tm_sim_timeline_call(
     *state = sim.state.0;
     engines::put_engine(engine, sim);
     engines::put_times(times, after.times);
-    answers::tell_answer(out, answer)
+    answers::put_answer(out, answer)
 }

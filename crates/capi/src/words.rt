@@ -1,10 +1,10 @@
 // Packed words: the word of an entry, and every part of any word. No call refuses.
+use capi_numbers::parts;
 use machine::packed::Packed;
-use numbers::parts;
 ghost use mathlib.Core.Path.{_≡_};
 ghost use lib.ListN.{set};
-ghost use Rattle.machine.specs.Packing.{packWord, wordAction, wordEntry};
-ghost use Rattle.numbers.specs.Parts.{actionFrom, entryOut, entryOf, partsOut};
+ghost use Rattle.machine.specs.Model.Packing.{packWord, wordAction, wordEntry};
+ghost use Rattle.capi_numbers.specs.Model.Parts.{actionFrom, entryOut, entryOf, partsOut};
 
 // The word of an entry, undefined for 0 and else of this write, move and next state, in out[0].
 #[no_mangle]
@@ -20,7 +20,7 @@ pub extern "C" fn tm_packed_new(
 {
     let entry = parts::entry_of(defined, write, dir, next);
     let word = Packed::new(entry, stride);
-    parts::tell_word(out, word)
+    parts::put_word(out, word)
 }
 
 // Whether a word is defined, its move, its write, its next state and its row, in out[0] to out[4].
@@ -28,7 +28,7 @@ pub extern "C" fn tm_packed_new(
 pub extern "C" fn tm_packed(word: u64, out: &mut [u64; 8]) -> u8
     ensures { λ r. ⌜ (r ≡ 0) × (now (out .exit) ≡ partsOut word (now (out .entry))) ⌝ }
 {
-    parts::tell_parts(out, Packed(word))
+    parts::put_parts(out, Packed(word))
 }
 
 // The step of a word, defined or not: its next state, writes and moves, in out[0] to out[6].
@@ -38,7 +38,7 @@ pub extern "C" fn tm_packed_action(word: u64, out: &mut [u64; 8]) -> u8
 {
     let packed = Packed(word);
     let action = packed.action();
-    parts::tell_action(out, action)
+    parts::put_action(out, action)
 }
 
 // The entry of a word, as the lookup's.
@@ -48,5 +48,5 @@ pub extern "C" fn tm_packed_entry(word: u64, out: &mut [u64; 8]) -> u8
 {
     let packed = Packed(word);
     let entry = packed.entry();
-    parts::tell_entry(out, entry)
+    parts::put_entry(out, entry)
 }

@@ -1,15 +1,15 @@
 -- A refused call of an exported function leaves everything lent or passed as it was: the first demand's operations, across the C boundary. Assumes nothing.
-use Rattle.machine.specs.Check.{tableCheck, lookupOf}
-use Rattle.sim.specs.Questions as PlainAsks
-use Rattle.rle.specs.Questions as ChainAsks
-use Rattle.rle.specs.Records.{leftAnswer, rightAnswer}
-use Rattle.rle.specs.Engine.{leftOf, rightOf}
+use Rattle.machine.specs.Model.Check.{tableCheck, lookupOf}
+use Rattle.sim.specs.Model.Questions as PlainAsks
+use Rattle.rle.specs.Model.Questions as ChainAsks
+use Rattle.rle.specs.Model.Records.{leftAnswer, rightAnswer}
+use Rattle.rle.specs.Model.Engine.{leftOf, rightOf}
 use lib.ListN.{length}
-use Rattle.sim_engine.specs.Kind.{plainKind}
-use Rattle.rle_engine.specs.Kind.{chainKind}
+use Rattle.sim_slots.specs.Model.Kind.{plainKind}
+use Rattle.rle_slots.specs.Model.Kind.{chainKind}
 use Rattle.demands.specs.First.{first-demand}
 use Rattle.capi_laws.specs.Refusals.{ExportsRefuse}
-use Rattle.capi_laws.specs.RefusalFacts.{checked, filled, looked, got, extent, counted, located, listed, made-kept, stepped, ran, chain-made, chain-ran, begun, moved, chain-moved}
+use Rattle.capi_laws.specs.Facts.Refusals.{checked, filled, looked, got, extent, counted, located, listed, made-kept, stepped, ran, chain-made, chain-ran, begun, moved, chain-moved}
 
 pub exports-refuse : ExportsRefuse
 exports-refuse = record {

@@ -1,4 +1,3 @@
-pub mod RoundTrips
 pub mod Refusals
-pub mod RefusalFacts
 pub mod Exports
+pub mod Facts

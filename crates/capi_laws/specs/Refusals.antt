@@ -16,39 +16,39 @@ use Rattle.machine.specs.declared.Machine.{Machine}
 use Rattle.machine.specs.declared.Checked.{Checked}
 use Rattle.machine.specs.declared.Checked.the-variants.{Accepted, Refused}
 use Rattle.machine.specs.declared.Looked.{Looked}
-use Rattle.machine.specs.Check.{tableCheck, lookupOf}
-use Rattle.machine.specs.Packing.{packCheck, packInto}
-use Rattle.alphabet.specs.Encode.{encodeCheck, encodeInto}
-use Rattle.course.specs.declared.StopRule.{StopRule}
-use Rattle.course.specs.declared.questions.Got.{Got}
-use Rattle.course.specs.declared.questions.Extent.{Extent}
-use Rattle.course.specs.declared.questions.Counted.{Counted}
-use Rattle.course.specs.declared.questions.Located.{Located}
-use Rattle.sim.specs.Engine as Plain
-use Rattle.sim.specs.Operations as Plains
-use Rattle.sim.specs.Questions as PlainAsks
-use Rattle.records.specs.declared.Run.{Run}
-use Rattle.records.specs.declared.Listed.{Listed}
-use Rattle.rle.specs.Engine as Chain
-use Rattle.rle.specs.Records.{leftAnswer, leftInto, rightAnswer, rightInto}
+use Rattle.machine.specs.Model.Check.{tableCheck, lookupOf}
+use Rattle.machine.specs.Model.Packing.{packCheck, packInto}
+use Rattle.alphabet.specs.Model.{encodeCheck, encodeInto}
+use Rattle.run_rules.specs.declared.StopRule.{StopRule}
+use Rattle.run_rules.specs.declared.questions.Got.{Got}
+use Rattle.run_rules.specs.declared.questions.Extent.{Extent}
+use Rattle.run_rules.specs.declared.questions.Counted.{Counted}
+use Rattle.run_rules.specs.declared.questions.Located.{Located}
+use Rattle.sim.specs.Model.Engine as Plain
+use Rattle.sim.specs.Model.Operations as Plains
+use Rattle.sim.specs.Model.Questions as PlainAsks
+use Rattle.rle_records.specs.declared.Run.{Run}
+use Rattle.rle_records.specs.declared.Listed.{Listed}
+use Rattle.rle.specs.Model.Engine as Chain
+use Rattle.rle.specs.Model.Records.{leftAnswer, leftInto, rightAnswer, rightInto}
 use Rattle.rle.specs.Fits.{engineCheck}
-use Rattle.rle.specs.Operations as Chains
-use Rattle.rle.specs.Questions as ChainAsks
-use Rattle.times.specs.Timeline as Times
-use Rattle.times.specs.Kind.{Kind, WorldOf, callOn, newWith}
-use Rattle.sim_engine.specs.Kind.{plainKind}
-use Rattle.rle_engine.specs.Kind.{chainKind}
-use Rattle.sim_timeline.specs.Worlds as PlainTimes
-use Rattle.rle_timeline.specs.Worlds as ChainTimes
-use Rattle.numbers.specs.Engines.{engineOf, chainOf, timesFrom}
-use Rattle.numbers.specs.Answers.{checkedCode, checkedOut, gotCode, gotOut, countedCode, countedOut, extentCode, extentOut, locatedCode, locatedOut}
-use Rattle.numbers.specs.Parts.{lookedCode, lookedOut, listedCode, listedOut}
+use Rattle.rle.specs.Model.Operations as Chains
+use Rattle.rle.specs.Model.Questions as ChainAsks
+use Rattle.timeline_rule.specs.Model.Timeline as Times
+use Rattle.timeline_rule.specs.Model.Kind.{Kind, TimelineOf, callOn, newWith}
+use Rattle.sim_slots.specs.Model.Kind.{plainKind}
+use Rattle.rle_slots.specs.Model.Kind.{chainKind}
+use Rattle.sim_timeline.specs.Model as PlainTimes
+use Rattle.rle_timeline.specs.Model as ChainTimes
+use Rattle.capi_numbers.specs.Model.Engines.{engineOf, chainOf, timesFrom}
+use Rattle.capi_numbers.specs.Model.Answers.{checkedCode, checkedOut, gotCode, gotOut, countedCode, countedOut, extentCode, extentOut, locatedCode, locatedOut}
+use Rattle.capi_numbers.specs.Model.Parts.{lookedCode, lookedOut, listedCode, listedOut}
 use Rattle.demands.specs.FirstClaims.{ofFresh, ofAnswer, ofStep, ofGot, ofExtent, ofCounted, ofLocated, ofLooked, ofChain, ofListed}
 use Rattle.demands.specs.FirstTimeline.{ofReply}
-use Rattle.capi.specs.Calls.{Call, call, newCall, stepCall, ranCall}
-use Rattle.capi.specs.Chains.{ChainCall, chainCall, chainNewCall, chainRanCall}
-use Rattle.capi.specs.Timelines.{TimelineNew, timelineNew, timelineNewCall, TimelineCall, timelineCall, movedCall}
-use Rattle.capi.specs.ChainTimelines.{ChainTimelineCall, chainTimelineCall, chainMovedCall}
+use Rattle.capi.specs.Model.Calls.{Call, call, newCall, stepCall, ranCall}
+use Rattle.capi.specs.Model.Chains.{ChainCall, chainCall, chainNewCall, chainRanCall}
+use Rattle.capi.specs.Model.Timelines.{TimelineNew, timelineNew, timelineNewCall, TimelineCall, timelineCall, movedCall}
+use Rattle.capi.specs.Model.ChainTimelines.{ChainTimelineCall, chainTimelineCall, chainMovedCall}
 
 -- ---- a refused call
 
@@ -61,7 +61,7 @@ pub record OutKept (why : Refusal) (before after : List ℕ) : Type 0 where
 -- `left` is all that a call leaves; `asItWas o` is that refusal, with o in `out` and everything else as it was lent
 pub record Unchanged {X : Type 0} (why : Refusal) (out : List ℕ) (asItWas : List ℕ → X) (left : X) : Type 0 where
   pub after : List ℕ
-  pub told : OutKept why out after
+  pub out-kept : OutKept why out after
   pub kept : left ≡ asItWas after
 
 -- `refusal` is that of the operation called, by the definition that its contract cites. The result is 0 exactly where the operation accepts, and else the number
@@ -125,15 +125,15 @@ module _ (state cur : ℕ) (engine out ls ll rs rl : List ℕ) where
   ChainRuns g = Places (ofAnswer (g .answer)) (chainRanCall g engine out)
 
 -- a timeline's numbers and store, and the engine with them
-abbrev pub Begins : (X : Kind) (times out store : List ℕ) → Times.Reply (WorldOf X) × List ℕ → Type 0
+abbrev pub Begins : (X : Kind) (times out store : List ℕ) → Times.Reply (TimelineOf X) × List ℕ → Type 0
 Begins X times out store r =
     Refuses (ofReply (r .0)) (λ (x : TimelineNew). x .code) out (λ n o. timelineNew n times o store) (timelineNewCall X r times out)
 
-abbrev pub Moves : (state : ℕ) (engine times out c0 c1 c2 store : List ℕ) → Times.Reply Outcome × WorldOf plainKind → Type 0
+abbrev pub Moves : (state : ℕ) (engine times out c0 c1 c2 store : List ℕ) → Times.Reply Outcome × TimelineOf plainKind → Type 0
 Moves state engine times out c0 c1 c2 store r =
     Refuses (ofReply (r .0)) (λ (x : TimelineCall). x .code) out (λ n o. timelineCall n state engine times o c0 c1 c2 store) (movedCall r engine times out)
 
-abbrev pub ChainMoves : (state cur : ℕ) (engine times out ls ll rs rl store : List ℕ) → Times.Reply Outcome × WorldOf chainKind → Type 0
+abbrev pub ChainMoves : (state cur : ℕ) (engine times out ls ll rs rl store : List ℕ) → Times.Reply Outcome × TimelineOf chainKind → Type 0
 ChainMoves state cur engine times out ls ll rs rl store r =
     Refuses (ofReply (r .0)) (λ (x : ChainTimelineCall). x .code) out (λ n o. chainTimelineCall n state cur engine times o ls ll rs rl store)
     (chainMovedCall r engine times out)
@@ -177,9 +177,9 @@ pub record ExportsRefuse : Type 0 where
       → Begins plainKind times out store (newWith plainKind m s most every σ store)
   pub sim-timeline-call : (m : Machine) (s : List ℕ) (state : ℕ) (engine times out c0 c1 c2 store : List ℕ) (c : Times.Call)
       → Moves state engine times out c0 c1 c2 store
-      (callOn plainKind m s (PlainTimes.W (PlainTimes.tl (engineOf state engine) (timesFrom times)) c0 c1 c2 store) c)
+      (callOn plainKind m s (PlainTimes.withLent (PlainTimes.tl (engineOf state engine) (timesFrom times)) c0 c1 c2 store) c)
   pub chain-timeline-new : (m : Machine) (s : List ℕ) (most every : ℕ) (σ : Chain.Conf) (times out store : List ℕ)
       → Begins chainKind times out store (newWith chainKind m s most every σ store)
   pub chain-timeline-call : (m : Machine) (s : List ℕ) (state cur : ℕ) (engine times out ls ll rs rl store : List ℕ) (c : Times.Call)
       → ChainMoves state cur engine times out ls ll rs rl store
-      (callOn chainKind m s (ChainTimes.W (ChainTimes.tl (chainOf state cur engine) (timesFrom times)) ls ll rs rl store) c)
+      (callOn chainKind m s (ChainTimes.withLent (ChainTimes.tl (chainOf state cur engine) (timesFrom times)) ls ll rs rl store) c)

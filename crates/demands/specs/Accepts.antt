@@ -5,14 +5,14 @@ use Prim.Native.Nat.{ℕ, _+_, _*_, _≤_, _<_, _^_}
 use lib.ListN.{length, getD}
 use Rattle.machine.specs.declared.Machine.{Machine}
 use Rattle.machine.specs.declared.Checked.the-variants.{Accepted}
-use Rattle.machine.specs.Packing.{packWord, packCheck, packInto}
-use Rattle.tables.specs.WellFormed.{LaidOut, WellFormed}
-use Rattle.turing.specs.TableMachine.{startTape}
-use Rattle.sim.specs.Engine as Plain
-use Rattle.sim.specs.Operations.{bareOf}
+use Rattle.machine.specs.Model.Packing.{packWord, packCheck, packInto}
+use Rattle.table_laws.specs.WellFormed.{LaidOut, WellFormed}
+use Rattle.table_machine.specs.TableMachine.{startTape}
+use Rattle.sim.specs.Model.Engine as Plain
+use Rattle.sim.specs.Model.Operations.{bareOf}
 use Rattle.sim_refines.specs.Meaning.{EngineFits}
-use Rattle.stacks.specs.Sides.{placesOf}
-use Rattle.rle.specs.Engine as Chain
+use Rattle.rle_stack.specs.Model.{placesOf}
+use Rattle.rle.specs.Model.Engine as Chain
 use Rattle.rle_refines.specs.Meaning.{Stack, empty, ChainFits}
 use Rattle.rle_refines.specs.Full.{height, Stacked}
 

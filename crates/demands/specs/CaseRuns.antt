@@ -6,18 +6,18 @@ use Rattle.outcome.specs.declared.Outcome.{Outcome}
 use Rattle.outcome.specs.declared.Refusal.{Refusal}
 use Rattle.outcome.specs.Numbers.{refusalNumber}
 use Rattle.machine.specs.declared.Machine.{Machine}
-use Rattle.course.specs.declared.StopRule.the-variants.{Never}
-use Rattle.course.specs.declared.Answer.{Answer}
-use Rattle.course.specs.declared.Answer.the-variants as Ans
+use Rattle.run_rules.specs.declared.StopRule.the-variants.{Never}
+use Rattle.run_rules.specs.declared.Answer.{Answer}
+use Rattle.run_rules.specs.declared.Answer.the-variants as Ans
 use Rattle.sim.specs.declared.Fresh.{Fresh}
 use Rattle.sim.specs.declared.Fresh.the-variants as New
-use Rattle.sim.specs.Engine.{conf}
-use Rattle.sim.specs.Operations.{runAnswer, Made, newAnswer}
+use Rattle.sim.specs.Model.Engine.{conf}
+use Rattle.sim.specs.Model.Operations.{runAnswer, Made, newAnswer}
 use Rattle.rle.specs.declared.ChainSim.{ChainSim}
 use Rattle.rle.specs.declared.Fresh.{Fresh as ChainFresh}
 use Rattle.rle.specs.declared.Fresh.the-variants as NewChain
-use Rattle.rle.specs.Engine as Chain
-use Rattle.rle.specs.Operations as Chains
+use Rattle.rle.specs.Model.Engine as Chain
+use Rattle.rle.specs.Model.Operations as Chains
 use Rattle.rle_refines.specs.Meaning.{Stack, stackOf}
 
 -- ---- an answer as document 01 gives it: how the run ended, or the number of its refusal

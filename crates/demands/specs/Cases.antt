@@ -2,9 +2,9 @@
 use mathlib.Core.Path.{_≡_, refl}
 use mathlib.Core.List.{List, [], _∷_}
 use Prim.Native.Nat.{ℕ, _+_, _^_}
-use Rattle.laws.specs.Choice.{pick, both}
-use Rattle.laws.specs.Scan.{allIn, firstFail}
-use Rattle.laws.specs.Fill.{fillFrom}
+use Rattle.notation.specs.Choice.{pick, both}
+use Rattle.notation.specs.Scan.{allIn, firstFail}
+use Rattle.notation.specs.Fill.{fillFrom}
 use Rattle.symbol.specs.Kinds.{symbolOf, stateOf}
 use Rattle.symbol.specs.declared.Dir.the-variants.{R}
 use Rattle.outcome.specs.declared.NonHaltProof.the-variants.{StayLoop, ChainToInfinity}
@@ -12,19 +12,19 @@ use Rattle.outcome.specs.declared.Outcome.the-variants.{Halted, OutOfFuel, Neve
 use Rattle.machine.specs.declared.Machine.{Machine}
 use Rattle.machine.specs.declared.Entry.the-variants.{Defined}
 use Rattle.machine.specs.Layout.{actionAt, entryAt, singleOf}
-use Rattle.machine.specs.Check.{entryOk, entriesCheck, sizeCheck, tableCheck}
-use Rattle.machine.specs.Packing.{actionWord, packWord}
-use Rattle.machine.specs.Word.{symbolsCheck, wordCheck}
+use Rattle.machine.specs.Model.Check.{entryOk, entriesCheck, sizeCheck, tableCheck}
+use Rattle.machine.specs.Model.Packing.{actionWord, packWord}
+use Rattle.machine.specs.Model.Word.{symbolsCheck, wordCheck}
 use Rattle.tape.specs.Growth.{extra}
-use Rattle.tape.specs.Moves.{blanked, laid, movedUp, freshOf, readOf, leaves, roomFor, grownBy, shiftOf, moveOf, actOf}
+use Rattle.tape.specs.Model.Moves.{blanked, laid, movedUp, freshOf, readOf, leaves, roomFor, grownBy, shiftOf, moveOf, actOf}
 use Rattle.tape.specs.Fits.{tapeFits}
-use Rattle.tape.specs.Questions.{blankBeyond}
-use Rattle.sim.specs.Engine.{stays, staysAll, loopOf, judgeOf, lookOn, entryOf, lookWith, roomsOf, stepOf, matches, runWith, runOf}
-use Rattle.sim.specs.Operations.{bareSim, handBack, sizesFit, simFits, valueCheck, fuelFits, fuelCheck, runCheck, runAnswer, freshSizes, freshCheck, newAnswer}
-use Rattle.stacks.specs.Sides.{symbolUnder, aheadOf, grownOf, pushOf, lacks, takeOf, runFits, runsFit, sumOf}
-use Rattle.rle.specs.Engine as Chain
+use Rattle.tape.specs.Model.Questions.{blankBeyond}
+use Rattle.sim.specs.Model.Engine.{stays, staysAll, loopOf, judgeOf, lookOn, entryOf, lookWith, roomsOf, stepOf, matches, runWith, runOf}
+use Rattle.sim.specs.Model.Operations.{bareSim, handBack, sizesFit, simFits, valueCheck, fuelFits, fuelCheck, runCheck, runAnswer, freshSizes, freshCheck, newAnswer}
+use Rattle.rle_stack.specs.Model.{symbolUnder, aheadOf, grownOf, pushOf, lacks, takeOf, runFits, runsFit, sumOf}
+use Rattle.rle.specs.Model.Engine as Chain
 use Rattle.rle.specs.Fits as Fits
-use Rattle.rle.specs.Operations as Chains
+use Rattle.rle.specs.Model.Operations as Chains
 use Rattle.rle_refines.specs.Meaning.{empty, over}
 use Rattle.demands.specs.CaseTables.{machine, listing, walker, stayer, writer, pair, keeper}
 use Rattle.demands.specs.CaseRuns.{ended, refused, plain, chain, chainWith, stacks, stacksOf}
@@ -83,7 +83,7 @@ pub data AllRight : List Case → Type 1 where
   _also_ : {A : Type 0} {a b : A} {rest : List Case} → a ≡ b → AllRight rest → AllRight (case a b ∷ rest)
 
 pub starred-cases : AllRight starred
-unfolding runAnswer runCheck fuelCheck valueCheck tableCheck sizeCheck entriesCheck entryOk allIn firstFail pick both sizesFit simFits tapeFits fuelFits newAnswer freshCheck freshSizes wordCheck symbolsCheck freshOf blanked laid fillFrom bareSim handBack runOf runWith lookWith lookOn entryOf entryAt actionAt judgeOf loopOf staysAll stays blankBeyond readOf roomsOf roomFor leaves extra stepOf actOf moveOf grownBy movedUp shiftOf matches Chains.runAnswer Chains.newAnswer Chains.freshCheck Chains.freshSizes Chains.runsOf Chains.laidOf Fits.runCheck Fits.engineCheck Fits.valueCheck Fits.placesFit Fits.chainFits Fits.countsFit Fits.headFits Fits.reachFits Fits.sideFits Chain.runOf Chain.runWithin Chain.planOf Chain.turnOf Chain.turnOn Chain.provedOf Chain.fueledOf Chain.loopsFor Chain.proofOf Chain.fullFor Chain.chainFor Chain.leapTo Chain.carryOf actionWord symbolUnder aheadOf grownOf pushOf lacks takeOf runFits runsFit sumOf
+unfolding runAnswer runCheck fuelCheck valueCheck tableCheck sizeCheck entriesCheck entryOk allIn firstFail pick both sizesFit simFits tapeFits fuelFits newAnswer freshCheck freshSizes wordCheck symbolsCheck freshOf blanked laid fillFrom bareSim handBack runOf runWith lookWith lookOn entryOf entryAt actionAt judgeOf loopOf staysAll stays blankBeyond readOf roomsOf roomFor leaves extra stepOf actOf moveOf grownBy movedUp shiftOf matches Chains.runAnswer Chains.newAnswer Chains.freshCheck Chains.freshSizes Chains.runsOf Chains.laidOf Fits.runCheck Fits.engineCheck Fits.valueCheck Fits.placesFit Fits.chainFits Fits.countsFit Fits.headFits Fits.reachFits Fits.sideFits Chain.runOf Chain.runWithin Chain.planOf Chain.turnOf Chain.turnOn Chain.provedOf Chain.fueledOf Chain.loopsFor Chain.proofOf Chain.fullFor Chain.chainFor Chain.macroTo Chain.carryOf actionWord symbolUnder aheadOf grownOf pushOf lacks takeOf runFits runsFit sumOf
 starred-cases =
     refl also refl also refl also refl also refl also refl also refl also refl also refl also refl also refl also
     refl also refl also refl also refl also refl also refl also refl also refl also refl also refl also refl also refl also done

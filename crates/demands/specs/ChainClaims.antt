@@ -4,7 +4,7 @@ use mathlib.Core.List.{List, [], _∷_, _++_}
 use Prim.Native.Nat.{ℕ, suc, _+_, _-_, _≤_, _<_, min}
 use lib.Dec.{eqb}
 use lib.ListN.{drop}
-use Rattle.laws.specs.Choice.{pick}
+use Rattle.notation.specs.Choice.{pick}
 use Rattle.symbol.specs.Kinds.{symbolOf}
 use Rattle.symbol.specs.declared.Dir.{Dir}
 use Rattle.symbol.specs.declared.Dir.the-variants.{L, R, N}
@@ -13,10 +13,10 @@ use Rattle.outcome.specs.declared.Outcome.the-variants.{NeverHalts}
 use Rattle.machine.specs.declared.Machine.{Machine}
 use Rattle.machine.specs.declared.Action.{Action}
 use Rattle.machine.specs.declared.Entry.the-variants.{Defined}
-use Rattle.turing.specs.TableMachine.{Table, Config, readT, entry, run, Sideways, Verdict}
-use Rattle.sim.specs.Engine.{Task}
-use Rattle.records.specs.declared.Run.{Run}
-use Rattle.rle.specs.Engine.{Conf, leftOf, rightOf, leapOf, runOf, Leap}
+use Rattle.table_machine.specs.TableMachine.{Table, Config, readT, entry, run, Sideways, Verdict}
+use Rattle.sim.specs.Model.Engine.{Task}
+use Rattle.rle_records.specs.declared.Run.{Run}
+use Rattle.rle.specs.Model.Engine.{Conf, leftOf, rightOf, macroOf, runOf, Macro}
 use Rattle.rle_refines.specs.Meaning.{Stack, empty, over, stackOf, configOf}
 use Rattle.rle_refines.specs.Full.{height, Stacked}
 use Rattle.rle_refines.specs.Statement.{tableIn, Went}
@@ -46,18 +46,18 @@ pub data Lasts (m : Machine) (d : Table) (fuel : ℕ) (c : Config) (a : Action) 
   loop : (p : NonHaltProof) → Verdict (m .tapes) d c (NeverHalts (c .steps) p) → Lasts m d fuel c a left right fuel
 
 -- the macro step j from σ, with so much fuel
-pub record MacroStep (k : Task) (fuel : ℕ) (σ : Conf) (j : Leap) : Type 0 where
+pub record MacroStep (k : Task) (fuel : ℕ) (σ : Conf) (j : Macro) : Type 0 where
   -- of n repeats it is n steps of the table machine: state, steps, every cell, head, lowest and highest agree; none of them is halted, a proved loop where that
   -- is tested, the stop rule's, or full
-  pub went : Went k (j .repeats) σ (leapOf j σ)
+  pub went : Went k (j .repeats) σ (macroOf j σ)
   pub some : 1 ≤ j .repeats
   pub within : j .repeats ≤ fuel
   pub lasts : (a : Action) → entry (tableIn k) (configOf σ) ≡ Defined a
       → Lasts (k .machine) (tableIn k) fuel (configOf σ) a (stackOf (leftOf σ)) (stackOf (rightOf σ)) (j .repeats)
   -- "`macro_steps` adds one a macro step"
-  pub counted : leapOf j σ .sim .macros ≡ σ .sim .macros + 1
+  pub counted : macroOf j σ .sim .macros ≡ σ .sim .macros + 1
   -- the run is this macro step, and the run from there
-  pub runs-on : runOf k fuel σ ≡ runOf k (fuel - j .repeats) (leapOf j σ)
+  pub runs-on : runOf k fuel σ ≡ runOf k (fuel - j .repeats) (macroOf j σ)
 
 -- ---- the macro steps of a run
 

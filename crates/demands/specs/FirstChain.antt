@@ -10,33 +10,33 @@ use Rattle.outcome.specs.declared.Outcome.the-variants.{OutOfFuel, Full}
 use Rattle.machine.specs.declared.Machine.{Machine}
 use Rattle.machine.specs.declared.Checked.{Checked}
 use Rattle.machine.specs.declared.Checked.the-variants.{Accepted, Refused}
-use Rattle.tables.specs.WellFormed.{Bytes}
-use Rattle.turing.specs.TableMachine.{start}
-use Rattle.turing.specs.Tables.{tableOf}
-use Rattle.course.specs.declared.StopRule.{StopRule}
-use Rattle.course.specs.declared.Answer.the-variants as Ans
-use Rattle.course.specs.declared.questions.Got.the-variants as Got
-use Rattle.course.specs.declared.questions.Extent.the-variants as Extent
-use Rattle.course.specs.declared.questions.Counted.the-variants as Counted
-use Rattle.sim.specs.Engine.{matches}
-use Rattle.records.specs.declared.Run.{Run}
-use Rattle.records.specs.declared.Listed.{Listed}
-use Rattle.records.specs.declared.Listed.the-variants as Listed
+use Rattle.table_laws.specs.WellFormed.{Bytes}
+use Rattle.table_machine.specs.TableMachine.{start}
+use Rattle.table_machine.specs.Tables.{tableOf}
+use Rattle.run_rules.specs.declared.StopRule.{StopRule}
+use Rattle.run_rules.specs.declared.Answer.the-variants as Ans
+use Rattle.run_rules.specs.declared.questions.Got.the-variants as Got
+use Rattle.run_rules.specs.declared.questions.Extent.the-variants as Extent
+use Rattle.run_rules.specs.declared.questions.Counted.the-variants as Counted
+use Rattle.sim.specs.Model.Engine.{matches}
+use Rattle.rle_records.specs.declared.Run.{Run}
+use Rattle.rle_records.specs.declared.Listed.{Listed}
+use Rattle.rle_records.specs.declared.Listed.the-variants as Listed
 use Rattle.rle.specs.declared.Fresh.the-variants as New
-use Rattle.rle.specs.Engine.{Conf}
+use Rattle.rle.specs.Model.Engine.{Conf}
 use Rattle.rle.specs.Fits.{chainFits, engineCheck, runCheck}
-use Rattle.rle.specs.Operations.{freshSizes, Given, given, runAnswer, Made, made, newAnswer}
-use Rattle.rle.specs.Questions.{getAnswer, extentAnswer, countAnswer, windowInto}
-use Rattle.rle.specs.Records.{leftAnswer, leftInto, rightAnswer, rightInto}
+use Rattle.rle.specs.Model.Operations.{freshSizes, Given, given, runAnswer, Made, made, newAnswer}
+use Rattle.rle.specs.Model.Questions.{getAnswer, extentAnswer, countAnswer, windowInto}
+use Rattle.rle.specs.Model.Records.{leftAnswer, leftInto, rightAnswer, rightInto}
 use Rattle.rle_refines.specs.Meaning.{Stack, empty, configOf, ChainFits, leftEnd, rightEnd, Near, Alike}
 use Rattle.rle_refines.specs.Full.{height, Stacked}
-use Rattle.rle_refines.specs.FitFacts.{fits-holds, holds-fits, ends-near}
-use Rattle.demands.specs.ChainFacts.{full-stands, full-there}
+use Rattle.rle_refines.specs.Facts.Fits.{fits-holds, holds-fits, ends-near}
+use Rattle.demands.specs.Facts.ChainRun.{full-stands, full-there}
 use Rattle.demands.specs.FirstClaims.{TurnsAway, ofChain, ofAnswer, ofGot, ofExtent, ofCounted, ofListed}
 use Rattle.demands.specs.FirstTests.{chainNewTests, chainRunTests, chainAskTests, chainListTests}
 use Rattle.demands.specs.FirstSpace.{GoesOn, EndsFull, ChainFull}
-use Rattle.demands.specs.FirstFactsChain.{chain-new-turns, chain-engine-turns, chain-run-turns, chain-get-turns, chain-extent-turns, chain-count-turns, chain-window-turns, chain-left-turns, chain-right-turns, chain-new-stack, chain-new-sizes}
-use Rattle.demands.specs.FirstFactsChainSpace.{chain-full, chain-onward}
+use Rattle.demands.specs.Facts.FirstChain.{chain-new-turns, chain-engine-turns, chain-run-turns, chain-get-turns, chain-extent-turns, chain-count-turns, chain-window-turns, chain-left-turns, chain-right-turns, chain-new-stack, chain-new-sizes}
+use Rattle.demands.specs.Facts.FirstChainSpace.{chain-full, chain-onward}
 
 pub record ChainOperations : Type 0 where
   -- ---- "A refusal carries its number from document 01 and changes no state, tape, run stack or store."

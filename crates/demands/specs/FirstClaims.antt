@@ -5,8 +5,8 @@ use mathlib.Core.Bool.{Bool}
 use mathlib.Core.Option.{Option, none, some}
 use mathlib.Core.List.{List, [], _∷_}
 use Prim.Native.Nat.{ℕ}
-use Rattle.laws.specs.Choice.{pick}
-use Rattle.laws.specs.Scan.{firstFail}
+use Rattle.notation.specs.Choice.{pick}
+use Rattle.notation.specs.Scan.{firstFail}
 use Rattle.outcome.specs.declared.Refusal.{Refusal}
 use Rattle.outcome.specs.Numbers.{refusalNumber}
 use Rattle.machine.specs.declared.Checked.{Checked}
@@ -15,22 +15,22 @@ use Rattle.machine.specs.declared.Looked.{Looked}
 use Rattle.machine.specs.declared.Looked.the-variants as Looked
 use Rattle.sim.specs.declared.Fresh.{Fresh}
 use Rattle.sim.specs.declared.Fresh.the-variants as New
-use Rattle.course.specs.declared.Answer.{Answer}
-use Rattle.course.specs.declared.Answer.the-variants as Ans
+use Rattle.run_rules.specs.declared.Answer.{Answer}
+use Rattle.run_rules.specs.declared.Answer.the-variants as Ans
 use Rattle.sim.specs.declared.StepAnswer.{StepAnswer}
 use Rattle.sim.specs.declared.StepAnswer.the-variants as StepAns
-use Rattle.course.specs.declared.questions.Got.{Got}
-use Rattle.course.specs.declared.questions.Got.the-variants as Got
-use Rattle.course.specs.declared.questions.Extent.{Extent}
-use Rattle.course.specs.declared.questions.Extent.the-variants as Extent
-use Rattle.course.specs.declared.questions.Counted.{Counted}
-use Rattle.course.specs.declared.questions.Counted.the-variants as Counted
-use Rattle.course.specs.declared.questions.Located.{Located}
-use Rattle.course.specs.declared.questions.Located.the-variants as Located
+use Rattle.run_rules.specs.declared.questions.Got.{Got}
+use Rattle.run_rules.specs.declared.questions.Got.the-variants as Got
+use Rattle.run_rules.specs.declared.questions.Extent.{Extent}
+use Rattle.run_rules.specs.declared.questions.Extent.the-variants as Extent
+use Rattle.run_rules.specs.declared.questions.Counted.{Counted}
+use Rattle.run_rules.specs.declared.questions.Counted.the-variants as Counted
+use Rattle.run_rules.specs.declared.questions.Located.{Located}
+use Rattle.run_rules.specs.declared.questions.Located.the-variants as Located
 use Rattle.rle.specs.declared.Fresh as Chain
 use Rattle.rle.specs.declared.Fresh.the-variants as ChainNew
-use Rattle.records.specs.declared.Listed.{Listed}
-use Rattle.records.specs.declared.Listed.the-variants as Listed
+use Rattle.rle_records.specs.declared.Listed.{Listed}
+use Rattle.rle_records.specs.declared.Listed.the-variants as Listed
 use Rattle.listing.specs.declared.Listed as Printed
 use Rattle.listing.specs.declared.Listed.the-variants as Did
 

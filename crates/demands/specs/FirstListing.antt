@@ -11,7 +11,7 @@ use Rattle.listing.specs.declared.Listed.the-variants as Did
 use Rattle.listing.specs.Output.{answerTo, listOf}
 use Rattle.demands.specs.FirstClaims.{TurnsAway, ofPrinted}
 use Rattle.demands.specs.FirstTests.{listTests}
-use Rattle.demands.specs.FirstFactsListing.{is-long, is-short, short-only, list-turns}
+use Rattle.demands.specs.Facts.FirstListing.{is-long, is-short, short-only, list-turns}
 
 pub record ListingOperation : Type 0 where
   -- ---- "A refusal carries its number from document 01 and changes no state, tape, run stack or store."

@@ -11,28 +11,28 @@ use Rattle.outcome.specs.declared.Status.the-variants as Step
 use Rattle.machine.specs.declared.Machine.{Machine}
 use Rattle.machine.specs.declared.Checked.{Checked}
 use Rattle.machine.specs.declared.Checked.the-variants.{Accepted, Refused}
-use Rattle.tables.specs.WellFormed.{Bytes}
-use Rattle.turing.specs.Tables.{tableOf}
-use Rattle.course.specs.declared.StopRule.{StopRule}
-use Rattle.course.specs.declared.Answer.the-variants as Ans
+use Rattle.table_laws.specs.WellFormed.{Bytes}
+use Rattle.table_machine.specs.Tables.{tableOf}
+use Rattle.run_rules.specs.declared.StopRule.{StopRule}
+use Rattle.run_rules.specs.declared.Answer.the-variants as Ans
 use Rattle.sim.specs.declared.StepAnswer.the-variants as StepAns
 use Rattle.sim.specs.declared.Fresh.the-variants as New
-use Rattle.course.specs.declared.questions.Got.the-variants as Got
-use Rattle.course.specs.declared.questions.Extent.the-variants as Extent
-use Rattle.course.specs.declared.questions.Counted.the-variants as Counted
-use Rattle.course.specs.declared.questions.Located.the-variants as Located
-use Rattle.sim.specs.Engine.{Conf}
-use Rattle.sim.specs.Operations.{bareOf, simFits, engineCheck, runCheck, Given, given, runAnswer, fastAnswer, StepGiven, stepGiven, stepAnswer, Made, made, newAnswer}
-use Rattle.sim.specs.Questions.{questionCheck, getAnswer, extentAnswer, countAnswer, windowInto, findAnswer}
+use Rattle.run_rules.specs.declared.questions.Got.the-variants as Got
+use Rattle.run_rules.specs.declared.questions.Extent.the-variants as Extent
+use Rattle.run_rules.specs.declared.questions.Counted.the-variants as Counted
+use Rattle.run_rules.specs.declared.questions.Located.the-variants as Located
+use Rattle.sim.specs.Model.Engine.{Conf}
+use Rattle.sim.specs.Model.Operations.{bareOf, simFits, engineCheck, runCheck, Given, given, runAnswer, fastAnswer, StepGiven, stepGiven, stepAnswer, Made, made, newAnswer}
+use Rattle.sim.specs.Model.Questions.{questionCheck, getAnswer, extentAnswer, countAnswer, windowInto, findAnswer}
 use Rattle.sim_refines.specs.Meaning.{configOf, EngineFits}
-use Rattle.sim_refines.specs.BareFacts.{bare-fits, fits-bare}
-use Rattle.sim_refines.specs.OperationFacts.{fast-done}
+use Rattle.sim_refines.specs.Facts.MissingTapes.{bare-fits, fits-bare}
+use Rattle.sim_refines.specs.Facts.Operations.{fast-done}
 use Rattle.demands.specs.FirstClaims.{TurnsAway, ofFresh, ofAnswer, ofStep, ofGot, ofExtent, ofCounted, ofLocated}
 use Rattle.demands.specs.FirstTests.{plainNewTests, plainRunTests, plainFastTests, plainAskTests}
 use Rattle.demands.specs.FirstTimeline.{plainEngineTests}
 use Rattle.demands.specs.FirstSpace.{GoesOn, EndsFull, PlainFull}
-use Rattle.demands.specs.FirstFactsPlain.{plain-new-turns, plain-engine-turns, plain-step-turns, plain-run-turns, plain-fast-turns, plain-get-turns, plain-extent-turns, plain-count-turns, plain-window-turns, plain-find-turns}
-use Rattle.demands.specs.FirstFactsPlainSpace.{plain-full, plain-stands, plain-onward, plain-step-full, plain-step-stands}
+use Rattle.demands.specs.Facts.FirstPlain.{plain-new-turns, plain-engine-turns, plain-step-turns, plain-run-turns, plain-fast-turns, plain-get-turns, plain-extent-turns, plain-count-turns, plain-window-turns, plain-find-turns}
+use Rattle.demands.specs.Facts.FirstPlainSpace.{plain-full, plain-stands, plain-onward, plain-step-full, plain-step-stands}
 
 pub record PlainOperations : Type 0 where
   -- ---- "A refusal carries its number from document 01 and changes no state, tape, run stack or store."

@@ -2,22 +2,22 @@
 use mathlib.Core.List.{List}
 use Prim.Native.Nat.{ℕ, _+_, _*_}
 use lib.ListN.{length, take, drop, getD}
-use Rattle.laws.specs.Choice.{pick}
+use Rattle.notation.specs.Choice.{pick}
 use Rattle.symbol.specs.Kinds.{stateOf}
 use Rattle.machine.specs.declared.Machine.{Machine}
-use Rattle.turing.specs.TableMachine.{Config}
+use Rattle.table_machine.specs.TableMachine.{Config}
 use Rattle.tape.specs.declared.Tape.{Tape}
-use Rattle.tape.specs.Moves.{noTape}
-use Rattle.slots.specs.Bytes.{get16, get32, get64}
-use Rattle.times.specs.Kind.{Kind}
-use Rattle.sim.specs.Engine.{Conf, conf}
+use Rattle.tape.specs.Model.Moves.{noTape}
+use Rattle.store_bytes.specs.Bytes.{get16, get32, get64}
+use Rattle.timeline_rule.specs.Model.Kind.{Kind}
+use Rattle.sim.specs.Model.Engine.{Conf, conf}
 use Rattle.sim_refines.specs.Meaning.{has, configOf, EngineFits}
-use Rattle.sim_engine.specs.Kind.{plainKind}
-use Rattle.stacks.specs.Sides.{placesOf}
-use Rattle.rle.specs.Engine as Chain
+use Rattle.sim_slots.specs.Model.Kind.{plainKind}
+use Rattle.rle_stack.specs.Model.{placesOf}
+use Rattle.rle.specs.Model.Engine as Chain
 use Rattle.rle_refines.specs.Meaning.{configOf as chainConfig, ChainFits}
-use Rattle.rle_engine.specs.Slots.{numbersIn}
-use Rattle.rle_engine.specs.Kind.{chainKind}
+use Rattle.rle_slots.specs.Model.Slots.{numbersIn}
+use Rattle.rle_slots.specs.Model.Kind.{chainKind}
 use Rattle.demands.specs.FirstSpace.{PlainFull, ChainFull}
 
 -- The configuration that a value holds, when it fits, and when its next step is full; how many bytes a slot has, and the engine that they show, with as many

@@ -8,14 +8,14 @@ use Rattle.symbol.specs.declared.Dir.the-variants.{L, R, N}
 use Rattle.machine.specs.declared.Machine.{Machine}
 use Rattle.machine.specs.declared.Action.{Action}
 use Rattle.machine.specs.declared.Entry.the-variants.{Defined}
-use Rattle.turing.specs.TableMachine.{Table, Config, entry, run, outOfFuelAt, Verdict}
-use Rattle.turing.specs.Tables.{tableOf}
+use Rattle.table_machine.specs.TableMachine.{Table, Config, entry, run, outOfFuelAt, Verdict}
+use Rattle.table_machine.specs.Tables.{tableOf}
 use Rattle.tape.specs.declared.Tape.{Tape}
-use Rattle.tape.specs.Moves.{Held}
-use Rattle.sim.specs.Engine.{Conf, tape0, tape1, tape2}
+use Rattle.tape.specs.Model.Moves.{Held}
+use Rattle.sim.specs.Model.Engine.{Conf, tape0, tape1, tape2}
 use Rattle.sim_refines.specs.Meaning.{configOf}
-use Rattle.stacks.specs.Sides.{placesOf}
-use Rattle.rle.specs.Engine as Chain
+use Rattle.rle_stack.specs.Model.{placesOf}
+use Rattle.rle.specs.Model.Engine as Chain
 use Rattle.rle_refines.specs.Meaning.{configOf as chainConfig}
 use Rattle.rle_refines.specs.Full.{FullAt}
 

@@ -13,17 +13,17 @@ use Rattle.machine.specs.declared.Machine.{Machine}
 use Rattle.machine.specs.declared.Checked.{Checked}
 use Rattle.machine.specs.declared.Checked.the-variants.{Accepted, Refused}
 use Rattle.machine.specs.declared.Looked.the-variants as Looked
-use Rattle.machine.specs.Check.{tableCheck, lookupOf}
-use Rattle.machine.specs.Packing.{packCheck, packInto}
-use Rattle.machine.specs.Word.{wordCheck}
-use Rattle.alphabet.specs.Encode.{symbolFor, allowedAt, encodeCheck, encodeInto}
+use Rattle.machine.specs.Model.Check.{tableCheck, lookupOf}
+use Rattle.machine.specs.Model.Packing.{packCheck, packInto}
+use Rattle.machine.specs.Model.Word.{wordCheck}
+use Rattle.alphabet.specs.Model.{symbolFor, allowedAt, encodeCheck, encodeInto}
 use Rattle.alphabet.specs.Glyphs.{First, Absent, namedNumbers, Allowed, FirstNotAllowed}
-use Rattle.alphabet.specs.GlyphFacts.{symbol-place, symbol-none, allowed-exact, refused-exact}
-use Rattle.tables.specs.WellFormed.{Bytes, WellFormed, FirstRefusal}
-use Rattle.tables.specs.CheckExact.{table-check-refuses-first, table-check-accepted, table-check-accepts}
+use Rattle.alphabet.specs.Facts.Glyphs.{symbol-place, symbol-none, allowed-exact, refused-exact}
+use Rattle.table_laws.specs.WellFormed.{Bytes, WellFormed, FirstRefusal}
+use Rattle.table_laws.specs.Facts.CheckExact.{table-check-refuses-first, table-check-accepted, table-check-accepts}
 use Rattle.demands.specs.FirstClaims.{TurnsAway, ofLooked}
 use Rattle.demands.specs.FirstTests.{tableTests, packTests, wordTests, encodeTests}
-use Rattle.demands.specs.FirstFactsPlain.{table-turns, lookup-turns, pack-turns, word-turns, word-place, encode-turns}
+use Rattle.demands.specs.Facts.FirstPlain.{table-turns, lookup-turns, pack-turns, word-turns, word-place, encode-turns}
 
 pub record TableOperations : Type 0 where
   -- ---- "A refusal carries its number from document 01 and changes no state, tape, run stack or store."

@@ -3,21 +3,21 @@ use mathlib.Core.List.{List, [], _∷_, _++_}
 use Prim.Native.Nat.{ℕ, _*_}
 use lib.Dec.{eqb, ltb, leb}
 use lib.ListN.{length}
-use Rattle.laws.specs.Choice.{both}
-use Rattle.laws.specs.Scan.{allIn}
+use Rattle.notation.specs.Choice.{both}
+use Rattle.notation.specs.Scan.{allIn}
 use Rattle.outcome.specs.declared.Refusal.the-variants as Why
 use Rattle.machine.specs.declared.Machine.{Machine}
 use Rattle.machine.specs.Layout.{entryCount}
-use Rattle.machine.specs.Check.{within, entryOk}
-use Rattle.machine.specs.Word.{symbolIn}
-use Rattle.alphabet.specs.Encode.{allowedAt}
-use Rattle.before.specs.Sizes.{sizesFit, fuelFits, wordsRight, freshSizes}
-use Rattle.sim.specs.Engine as Plain
-use Rattle.sim.specs.Operations.{simFits}
-use Rattle.stacks.specs.Sides.{placesOf}
-use Rattle.rle.specs.Engine as Chain
+use Rattle.machine.specs.Model.Check.{within, entryOk}
+use Rattle.machine.specs.Model.Word.{symbolIn}
+use Rattle.alphabet.specs.Model.{allowedAt}
+use Rattle.run_checks.specs.Model.Sizes.{sizesFit, fuelFits, wordsRight, freshSizes}
+use Rattle.sim.specs.Model.Engine as Plain
+use Rattle.sim.specs.Model.Operations.{simFits}
+use Rattle.rle_stack.specs.Model.{placesOf}
+use Rattle.rle.specs.Model.Engine as Chain
 use Rattle.rle.specs.Fits.{placesFit, chainFits}
-use Rattle.rle.specs.Operations as Chains
+use Rattle.rle.specs.Model.Operations as Chains
 use Rattle.demands.specs.FirstClaims.{Test, or, lowest}
 
 -- "Table check, first in every operation that takes one: 1 tapes not 1 to 3; 2 symbols not 1 to 256; 3 states not 1 to 65,536; 4 start not below states; 5 table

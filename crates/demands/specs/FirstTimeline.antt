@@ -6,21 +6,21 @@ use mathlib.Core.Option.{Option, none, some}
 use mathlib.Core.List.{List, [], _∷_, _++_}
 use Prim.Native.Nat.{ℕ, _+_, _-_, _*_, _/_, _<_, min, max}
 use lib.Dec.{ltb, leb}
-use Rattle.laws.specs.Choice.{pick}
+use Rattle.notation.specs.Choice.{pick}
 use Rattle.outcome.specs.declared.Outcome.{Outcome}
 use Rattle.outcome.specs.declared.Outcome.the-variants.{Full}
 use Rattle.outcome.specs.declared.Refusal.the-variants as Why
 use Rattle.machine.specs.declared.Machine.{Machine}
 use Rattle.machine.specs.declared.Checked.{Checked}
 use Rattle.machine.specs.declared.Checked.the-variants.{Accepted, Refused}
-use Rattle.tables.specs.WellFormed.{Bytes}
-use Rattle.turing.specs.Tables.{tableOf}
-use Rattle.slots.specs.Slots.{slotCount, slotOf}
-use Rattle.times.specs.declared.Times.{Times}
-use Rattle.times.specs.Ops.{limit}
-use Rattle.times.specs.Timeline.{Call, Reply, refused, answered, target, newOk, timesOk, slotFor, slotStep}
-use Rattle.times.specs.Kind.{Kind, WorldOf, callOn, newWith}
-use Rattle.sim.specs.Engine.{Conf}
+use Rattle.table_laws.specs.WellFormed.{Bytes}
+use Rattle.table_machine.specs.Tables.{tableOf}
+use Rattle.store_bytes.specs.Model.{slotCount, slotOf}
+use Rattle.timeline_rule.specs.declared.Times.{Times}
+use Rattle.timeline_rule.specs.Model.Engine.{limit}
+use Rattle.timeline_rule.specs.Model.Timeline.{Call, Reply, refused, answered, target, newOk, timesOk, slotFor, slotStep}
+use Rattle.timeline_rule.specs.Model.Kind.{Kind, TimelineOf, callOn, newWith}
+use Rattle.sim.specs.Model.Engine.{Conf}
 use Rattle.demands.specs.FirstClaims.{Test, or, TurnsAway}
 use Rattle.demands.specs.FirstTests.{tableTests, plainSizes, plainFits}
 use Rattle.demands.specs.FirstSpace.{StopsFull}
@@ -38,7 +38,7 @@ isThere none = false
 isThere (some a) = true
 
 -- "16 the slot to restore holds no fitting engine of its step": asked where the call goes back. What the test says of the slot's bytes is the part `slot-fits` below.
-abbrev pub slotHolds : (X : Kind) → Machine → WorldOf X → (target : ℕ) → Bool
+abbrev pub slotHolds : (X : Kind) → Machine → TimelineOf X → (target : ℕ) → Bool
 slotHolds X m w t =
     pick (ltb t (X .now (w .engine)))
     (isThere (X .unpack m (slotOf (X .slotSize m (w .engine)) (slotFor t (w .times)) (w .store)) (slotStep t (w .times)) (w .engine)))
@@ -62,7 +62,7 @@ module _ (X : Kind) (engineTests : Machine → (table : List ℕ) → X .State �
 
   -- "14 .. a later value with interval not 1 to 2^63, count not 1 to m, or steps outside start to start + count × interval; 15 a store under m + 1 slots;
   -- 13 target over 2^62; 16 .." "A target below the start counts as the start."
-  abbrev pub timelineCallTests : WorldOf X → Call → List Test
+  abbrev pub timelineCallTests : TimelineOf X → Call → List Test
   timelineCallTests w c =
       engineTests m s (w .engine)
       ++ or (timesOk (w .times) (X .now (w .engine))) Why.Settings
@@ -74,14 +74,14 @@ module _ (X : Kind) (engineTests : Machine → (table : List ℕ) → X .State �
 -- ---- where a call goes, and the slot that it goes back to
 
 -- "A target below the start counts as the start."
-abbrev pub aimOf : (X : Kind) → WorldOf X → Call → ℕ
+abbrev pub aimOf : (X : Kind) → TimelineOf X → Call → ℕ
 aimOf X w c = max (target (X .now (w .engine)) c) (w .times .first)
 
 -- "Going back restores slot (target - start) / interval, the last at most."
 abbrev pub slotNumber : (target : ℕ) → Times → ℕ
 slotNumber t v = min ((t - v .first) / v .every) (v .count - 1)
 
-module _ (X : Kind) (M : Meaning X) (m : Machine) (w : WorldOf X) (t : ℕ) where
+module _ (X : Kind) (M : Meaning X) (m : Machine) (w : TimelineOf X) (t : ℕ) where
   -- slot i is the i-th part of the store, from 0 on
   abbrev pub slotBytes : List ℕ
   slotBytes = bytesAt (slotNumber t (w .times) * M .slotSize m (w .engine)) (M .slotSize m (w .engine)) (w .store)
@@ -103,15 +103,15 @@ module _ (X : Kind) (M : Meaning X) (m : Machine) (w : WorldOf X) (t : ℕ) wher
 pub record TimelineOperations (X : Kind) (M : Meaning X) (numbers : List ℕ) (engineTests : Machine → (table : List ℕ) → X .State → List Test) : Type 0 where
   -- "A refusal carries its number from document 01 and changes no state, tape, run stack or store.": a new timeline: the answer, with the store
   pub new : (m : Machine) (s : List ℕ) (most every : ℕ) (e : X .State) (store : List ℕ)
-      → TurnsAway (numbers ++ 14 ∷ 15 ∷ []) (timelineNewTests X engineTests m s most every e store) (λ (x : Reply (WorldOf X) × List ℕ). ofReply (x .0)) (λ why. (refused why, store))
+      → TurnsAway (numbers ++ 14 ∷ 15 ∷ []) (timelineNewTests X engineTests m s most every e store) (λ (x : Reply (TimelineOf X) × List ℕ). ofReply (x .0)) (λ why. (refused why, store))
       (newWith X m s most every e store)
   -- seek, forward and back: the answer, with the engine and its buffers, the store, and the timeline's value
-  pub call : (m : Machine) (s : List ℕ) (w : WorldOf X) (c : Call)
-      → TurnsAway (numbers ++ 14 ∷ 15 ∷ 13 ∷ 16 ∷ []) (timelineCallTests X engineTests m s w c) (λ (x : Reply Outcome × WorldOf X). ofReply (x .0)) (λ why. (refused why, w))
+  pub call : (m : Machine) (s : List ℕ) (w : TimelineOf X) (c : Call)
+      → TurnsAway (numbers ++ 14 ∷ 15 ∷ 13 ∷ 16 ∷ []) (timelineCallTests X engineTests m s w c) (λ (x : Reply Outcome × TimelineOf X). ofReply (x .0)) (λ why. (refused why, w))
       (callOn X m s w c)
   -- "16 the slot to restore holds no fitting engine of its step": what slotHolds of the tests asks, of a call to t; one that does not go back asks nothing
-  pub slot-fits : (m : Machine) (w : WorldOf X) (t : ℕ) → (slotHolds X m w t ≡ true) ↔ (t < X .now (w .engine) → SlotFits X M m w t)
+  pub slot-fits : (m : Machine) (w : TimelineOf X) (t : ℕ) → (slotHolds X m w t ≡ true) ↔ (t < X .now (w .engine) → SlotFits X M m w t)
   -- "Lack of space stops a run before the step that needs it, earlier steps kept.": from the engine that the call went on from, every step before was made, and the
   -- next is full. "Each advance runs without the never test", so that the full step may be one of a proved loop.
-  pub full : (m : Machine) (s : List ℕ) → Bytes s → (w w′ : WorldOf X) (c : Call) (n : ℕ) → callOn X m s w c ≡ (answered (Full n), w′)
+  pub full : (m : Machine) (s : List ℕ) → Bytes s → (w w′ : TimelineOf X) (c : Call) (n : ℕ) → callOn X m s w c ≡ (answered (Full n), w′)
       → StopsFull (tableOf m s) (M .config m (wentFrom X M m w (aimOf X w c))) (M .config m (w′ .engine)) (aimOf X w c) n (M .NextFull m s (w′ .engine))

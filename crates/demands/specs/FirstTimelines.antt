@@ -1,16 +1,16 @@
 -- THE FIRST DEMAND of the timelines over the plain engine and over the run-length engine.
 use mathlib.Core.Path.{refl}
 use mathlib.Core.List.{[], _∷_}
-use Rattle.sim_engine.specs.Kind.{plainKind}
-use Rattle.rle_engine.specs.Kind.{chainKind}
+use Rattle.sim_slots.specs.Model.Kind.{plainKind}
+use Rattle.rle_slots.specs.Model.Kind.{chainKind}
 use Rattle.demands.specs.FirstClaims.{numbersOf}
 use Rattle.demands.specs.FirstTests.{chainAskTests}
-use Rattle.demands.specs.FirstFacts.{chain-ask-first}
+use Rattle.demands.specs.Facts.First.{chain-ask-first}
 use Rattle.demands.specs.FirstSlots.{plainMeaning, chainMeaning}
 use Rattle.demands.specs.FirstTimeline.{plainEngineTests, TimelineOperations}
-use Rattle.demands.specs.FirstFactsTimeline.{timeline-operations, plain-engine-first}
-use Rattle.demands.specs.FirstFactsPlainTimeline.{plain-slots, plain-under}
-use Rattle.demands.specs.FirstFactsChainTimeline.{chain-slots, chain-under}
+use Rattle.demands.specs.Facts.FirstTimeline.{timeline-operations, plain-engine-first}
+use Rattle.demands.specs.Facts.FirstPlainTimeline.{plain-slots, plain-under}
+use Rattle.demands.specs.Facts.FirstChainTimeline.{chain-slots, chain-under}
 
 pub record BothTimelines : Type 0 where
   pub plain : TimelineOperations plainKind plainMeaning (1 ∷ 2 ∷ 3 ∷ 4 ∷ 5 ∷ 6 ∷ 11 ∷ 12 ∷ []) plainEngineTests

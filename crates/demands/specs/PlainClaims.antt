@@ -1,8 +1,8 @@
 -- What SecondPlain says of the tape questions: the tape of a number. Definitions only.
 use Prim.Native.Nat.{ℕ}
 use lib.Dec.{eqb}
-use Rattle.laws.specs.Choice.{pick}
-use Rattle.turing.specs.TableMachine.{Tape, Config}
+use Rattle.notation.specs.Choice.{pick}
+use Rattle.table_machine.specs.TableMachine.{Tape, Config}
 
 -- tape 0, 1 or 2 of a configuration
 abbrev pub tapeOn : ℕ → Config → Tape

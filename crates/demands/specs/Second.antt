@@ -7,11 +7,11 @@ use Prim.Native.Nat.{ℕ, _*_, _≤_}
 use lib.ListN.{length}
 use Rattle.machine.specs.declared.Machine.{Machine}
 use Rattle.machine.specs.declared.Entry.{Entry}
-use Rattle.machine.specs.Packing.{packWord, wordEntry}
-use Rattle.tables.specs.WellFormed.{EntryOf, WellFormed}
-use Rattle.tables.specs.RoundTrip.{packed-entry-unpacks}
+use Rattle.machine.specs.Model.Packing.{packWord, wordEntry}
+use Rattle.table_laws.specs.WellFormed.{EntryOf, WellFormed}
+use Rattle.table_laws.specs.Facts.RoundTrip.{packed-entry-unpacks}
 use Rattle.demands.specs.Accepts.{Packs}
-use Rattle.demands.specs.PlainAccepts.{packs}
+use Rattle.demands.specs.Facts.PlainAccepts.{packs}
 use Rattle.demands.specs.SecondPlain.{PlainEngine, plain-engine}
 use Rattle.demands.specs.SecondChain.{ChainEngine, chain-engine}
 

@@ -7,7 +7,7 @@ use Prim.Native.Nat.{ℕ, _+_, _≤_, _<_, _^_}
 use lib.IntN.{ℤ, pos, _+ℤ_}
 use lib.ListN.{length, getD}
 use lib.Signed.{_≤ℤ_, _<ℤ_}
-use Rattle.laws.specs.Position.{dn}
+use Rattle.notation.specs.Position.{dn}
 use Rattle.symbol.specs.declared.State.{State}
 use Rattle.symbol.specs.declared.Symbol.{Symbol}
 use Rattle.symbol.specs.declared.Dir.the-variants.{L, R}
@@ -16,44 +16,44 @@ use Rattle.outcome.specs.declared.Outcome.{Outcome}
 use Rattle.outcome.specs.declared.Outcome.the-variants.{NeverHalts, OutOfFuel, Full}
 use Rattle.machine.specs.declared.Machine.{Machine}
 use Rattle.machine.specs.declared.Checked.the-variants.{Accepted}
-use Rattle.tables.specs.WellFormed.{Bytes, WellFormed}
-use Rattle.turing.specs.TableMachine.{Table, Config, run, startTape, start, Halted}
-use Rattle.turing.specs.Tables.{tableOf}
+use Rattle.table_laws.specs.WellFormed.{Bytes, WellFormed}
+use Rattle.table_machine.specs.TableMachine.{Table, Config, run, startTape, start, Halted}
+use Rattle.table_machine.specs.Tables.{tableOf}
 use Rattle.tape.specs.declared.Span.{Span}
 use Rattle.tape.specs.Answers.{Spans}
-use Rattle.course.specs.declared.StopRule.{StopRule}
-use Rattle.course.specs.declared.StopRule.the-variants as Rule
-use Rattle.course.specs.declared.Answer.the-variants as Ans
-use Rattle.course.specs.declared.questions.Got.the-variants as Got
-use Rattle.course.specs.declared.questions.Extent.the-variants as Extent
-use Rattle.course.specs.declared.questions.Counted.the-variants as Counted
-use Rattle.sim.specs.Engine.{task}
+use Rattle.run_rules.specs.declared.StopRule.{StopRule}
+use Rattle.run_rules.specs.declared.StopRule.the-variants as Rule
+use Rattle.run_rules.specs.declared.Answer.the-variants as Ans
+use Rattle.run_rules.specs.declared.questions.Got.the-variants as Got
+use Rattle.run_rules.specs.declared.questions.Extent.the-variants as Extent
+use Rattle.run_rules.specs.declared.questions.Counted.the-variants as Counted
+use Rattle.sim.specs.Model.Engine.{task}
 use Rattle.rle.specs.declared.ChainSim.{ChainSim}
 use Rattle.rle.specs.declared.Fresh.the-variants as New
-use Rattle.records.specs.declared.Run.{Run}
-use Rattle.records.specs.declared.Listed.the-variants.{Filled}
-use Rattle.rle.specs.Engine.{Conf, conf, leftOf, rightOf, planOf, runOf, Leap, Go}
+use Rattle.rle_records.specs.declared.Run.{Run}
+use Rattle.rle_records.specs.declared.Listed.the-variants.{Filled}
+use Rattle.rle.specs.Model.Engine.{Conf, conf, leftOf, rightOf, planOf, runOf, Macro, Go}
 use Rattle.rle.specs.Fits.{engineCheck, runCheck}
-use Rattle.rle.specs.Operations.{given, runAnswer, made, newAnswer}
-use Rattle.rle.specs.Questions.{getAnswer, extentAnswer, countAnswer, windowInto}
-use Rattle.rle.specs.Records.{leftAnswer, leftInto, rightAnswer, rightInto}
+use Rattle.rle.specs.Model.Operations.{given, runAnswer, made, newAnswer}
+use Rattle.rle.specs.Model.Questions.{getAnswer, extentAnswer, countAnswer, windowInto}
+use Rattle.rle.specs.Model.Records.{leftAnswer, leftInto, rightAnswer, rightInto}
 use Rattle.sim_refines.specs.Counts.{Counts}
 use Rattle.rle_refines.specs.Meaning.{Stack, empty, stackOf, tapeOf, configOf, Alike}
 use Rattle.rle_refines.specs.Full.{height, Stacked}
 use Rattle.rle_refines.specs.Statement.{FullWithin}
 use Rattle.rle_refines.specs.Operations.{RunHolds}
-use Rattle.rle_refines.specs.PatternFacts.{empty-exact}
-use Rattle.rle_refines.specs.OperationFacts.{engine-says, run-holds, run-never-halts, new-holds}
-use Rattle.rle_refines.specs.RuleFacts.{run-off}
-use Rattle.rle_refines.specs.QuestionFacts.{get-is, extent-is, window-into}
+use Rattle.rle_refines.specs.Facts.Patterns.{empty-exact}
+use Rattle.rle_refines.specs.Facts.Operations.{engine-says, run-holds, run-never-halts, new-holds}
+use Rattle.rle_refines.specs.Facts.Rule.{run-off}
+use Rattle.rle_refines.specs.Facts.Questions.{get-is, extent-is, window-into}
 use Rattle.demands.specs.Accepts.{WordOf, FreshPlaces, ChainTaken}
 use Rattle.demands.specs.ChainClaims.{MacroStep, Macros, Lists}
-use Rattle.demands.specs.ChainQuestions.{chain-counts}
-use Rattle.demands.specs.ChainFacts.{macro-step, space-exact, cut-same}
-use Rattle.demands.specs.ChainAccepts.{right-stack, chain-new-answers, chain-run-answers, chain-get-answers, chain-span-answers, chain-count-answers, chain-asked}
-use Rattle.demands.specs.ChainMacros.{own-stacks, run-macros, macros-one}
-use Rattle.demands.specs.ChainRecords.{left-lists, right-lists, left-answers, right-answers}
-use Rattle.demands.specs.WindowFacts.{chain-window-past}
+use Rattle.demands.specs.Facts.ChainCount.{chain-counts}
+use Rattle.demands.specs.Facts.ChainRun.{macro-step, space-exact, cut-same}
+use Rattle.demands.specs.Facts.ChainAccepts.{right-stack, chain-new-answers, chain-run-answers, chain-get-answers, chain-span-answers, chain-count-answers, chain-asked}
+use Rattle.demands.specs.Facts.ChainMacros.{own-stacks, run-macros, macros-one}
+use Rattle.demands.specs.Facts.ChainRecords.{left-lists, right-lists, left-answers, right-answers}
+use Rattle.demands.specs.Facts.Windows.{chain-window-past}
 
 pub record ChainEngine : Type 0 where
   -- ---- "For every table, word and engine value that document 01 accepts, with step totals up to 2^62 and while space lasts, answers and tapes equal the Rust's in
@@ -92,7 +92,7 @@ pub record ChainEngine : Type 0 where
   pub never : (m : Machine) (s : List ℕ) → Bytes s → (rule : StopRule) (fuel : ℕ) (σ τ : Conf) (n : ℕ) (p : NonHaltProof)
       → runAnswer m s rule fuel σ ≡ given τ (Ans.Done (NeverHalts n p)) → (j : ℕ) → ¬ (Halted (tableOf m s) (run (tableOf m s) j (configOf σ)))
   -- a macro step of n repeats is n steps of the table machine, head, lowest and highest included; n as document 01 says; one more macro step (MacroStep)
-  pub macro-steps : (m : Machine) (s : List ℕ) → Bytes s → (fuel : ℕ) (σ : Conf) → runCheck m s fuel σ ≡ Accepted → (proves : Bool) (rule : StopRule) (j : Leap)
+  pub macro-steps : (m : Machine) (s : List ℕ) → Bytes s → (fuel : ℕ) (σ : Conf) → runCheck m s fuel σ ≡ Accepted → (proves : Bool) (rule : StopRule) (j : Macro)
       → planOf (task m s proves rule) fuel σ ≡ Go j → MacroStep (task m s proves rule) fuel σ j
   -- "`macro_steps` adds one a macro step": a run adds the number of macro steps that it is made of (Macros). There is one such number between two configurations
   pub macros : (m : Machine) (s : List ℕ) → Bytes s → (rule : StopRule) (fuel : ℕ) (σ τ : Conf) (o : Outcome) → runAnswer m s rule fuel σ ≡ given τ (Ans.Done o)

@@ -6,7 +6,7 @@ use Prim.Native.Nat.{ℕ, _+_, _≤_, _<_, _^_}
 use lib.IntN.{ℤ, pos, _+ℤ_}
 use lib.ListN.{length, getD}
 use lib.Signed.{_≤ℤ_}
-use Rattle.laws.specs.Position.{dn}
+use Rattle.notation.specs.Position.{dn}
 use Rattle.symbol.specs.declared.State.{State}
 use Rattle.symbol.specs.declared.Symbol.{Symbol}
 use Rattle.symbol.specs.declared.Dir.{Dir}
@@ -16,44 +16,44 @@ use Rattle.outcome.specs.declared.Outcome.the-variants.{NeverHalts}
 use Rattle.outcome.specs.declared.Status.{Status}
 use Rattle.machine.specs.declared.Machine.{Machine}
 use Rattle.machine.specs.declared.Checked.the-variants.{Accepted}
-use Rattle.tables.specs.WellFormed.{Bytes, WellFormed}
-use Rattle.turing.specs.TableMachine.{run, start, Halted}
-use Rattle.turing.specs.Tables.{tableOf}
+use Rattle.table_laws.specs.WellFormed.{Bytes, WellFormed}
+use Rattle.table_machine.specs.TableMachine.{run, start, Halted}
+use Rattle.table_machine.specs.Tables.{tableOf}
 use Rattle.tape.specs.declared.Span.{Span}
 use Rattle.tape.specs.declared.Spot.{Spot}
 use Rattle.tape.specs.Answers.{Finds, Spans}
 use Rattle.sim.specs.declared.Simulator.{Simulator}
-use Rattle.course.specs.declared.StopRule.{StopRule}
-use Rattle.course.specs.declared.StopRule.the-variants as Rule
-use Rattle.course.specs.declared.Answer.the-variants as Ans
+use Rattle.run_rules.specs.declared.StopRule.{StopRule}
+use Rattle.run_rules.specs.declared.StopRule.the-variants as Rule
+use Rattle.run_rules.specs.declared.Answer.the-variants as Ans
 use Rattle.sim.specs.declared.StepAnswer.the-variants as StepAns
 use Rattle.sim.specs.declared.Fresh.the-variants as New
-use Rattle.course.specs.declared.questions.Got.the-variants as Got
-use Rattle.course.specs.declared.questions.Extent.the-variants as Extent
-use Rattle.course.specs.declared.questions.Counted.the-variants as Counted
-use Rattle.course.specs.declared.questions.Located.the-variants as Located
-use Rattle.sim.specs.Engine.{Conf, conf}
-use Rattle.sim.specs.Operations.{simFits, wordsRight, given, runAnswer, fastAnswer, stepGiven, stepAnswer, made, newAnswer}
-use Rattle.sim.specs.Questions.{questionCheck, getAnswer, extentAnswer, countAnswer, windowInto, findAnswer}
+use Rattle.run_rules.specs.declared.questions.Got.the-variants as Got
+use Rattle.run_rules.specs.declared.questions.Extent.the-variants as Extent
+use Rattle.run_rules.specs.declared.questions.Counted.the-variants as Counted
+use Rattle.run_rules.specs.declared.questions.Located.the-variants as Located
+use Rattle.sim.specs.Model.Engine.{Conf, conf}
+use Rattle.sim.specs.Model.Operations.{simFits, wordsRight, given, runAnswer, fastAnswer, stepGiven, stepAnswer, made, newAnswer}
+use Rattle.sim.specs.Model.Questions.{questionCheck, getAnswer, extentAnswer, countAnswer, windowInto, findAnswer}
 use Rattle.sim_refines.specs.Meaning.{configOf}
 use Rattle.sim_refines.specs.Counts.{Counts}
 use Rattle.sim_refines.specs.Operations.{HandedBack, RunHolds, StepHolds}
 use Rattle.sim_refines.specs.Lent.{PastKept, SameLive, SameGiven, SameStepGiven}
-use Rattle.sim_refines.specs.FreshFacts.{new-holds, new-fits, new-past}
-use Rattle.sim_refines.specs.PastFacts.{run-kept, fast-kept, step-kept}
-use Rattle.sim_refines.specs.SameFacts.{run-same, fast-same, step-same}
-use Rattle.sim_refines.specs.OperationFacts.{run-holds, run-never-halts, fast-agrees, fast-done, step-holds, step-handed-back}
-use Rattle.sim_refines.specs.RuleFacts.{run-off, fast-off}
-use Rattle.times.specs.Timeline.{Call}
-use Rattle.times.specs.Kind.{WorldOf, callOn}
-use Rattle.sim_engine.specs.Kind.{plainKind}
-use Rattle.sim_laws.specs.PastFacts.{call-past}
+use Rattle.sim_refines.specs.Facts.Fresh.{new-holds, new-fits, new-past}
+use Rattle.sim_refines.specs.Facts.PastLength.{run-kept, fast-kept, step-kept}
+use Rattle.sim_refines.specs.Facts.NeverRead.{run-same, fast-same, step-same}
+use Rattle.sim_refines.specs.Facts.Operations.{run-holds, run-never-halts, fast-agrees, fast-done, step-holds, step-handed-back}
+use Rattle.sim_refines.specs.Facts.Rule.{run-off, fast-off}
+use Rattle.timeline_rule.specs.Model.Timeline.{Call}
+use Rattle.timeline_rule.specs.Model.Kind.{TimelineOf, callOn}
+use Rattle.sim_slots.specs.Model.Kind.{plainKind}
+use Rattle.sim_timeline_laws.specs.Facts.PastLength.{call-past}
 use Rattle.demands.specs.Accepts.{WordOf, FreshCells, PlainTaken, PackedOf}
-use Rattle.demands.specs.PlainAccepts.{plain-new-answers, plain-run-answers, plain-fast-answers, plain-step-answers, plain-get-answers, plain-span-answers, plain-count-answers, plain-asked, plain-find-answers}
+use Rattle.demands.specs.Facts.PlainAccepts.{plain-new-answers, plain-run-answers, plain-fast-answers, plain-step-answers, plain-get-answers, plain-span-answers, plain-count-answers, plain-asked, plain-find-answers}
 use Rattle.demands.specs.PlainClaims.{tapeOn}
-use Rattle.demands.specs.PlainLive.{get-live, span-live, count-live, window-live, find-live}
-use Rattle.demands.specs.PlainQuestions.{plain-gets, plain-spans, plain-counts, plain-windows, plain-finds}
-use Rattle.demands.specs.WindowFacts.{plain-window-past}
+use Rattle.demands.specs.Facts.PlainLive.{get-live, span-live, count-live, window-live, find-live}
+use Rattle.demands.specs.Facts.PlainQuestions.{plain-gets, plain-spans, plain-counts, plain-windows, plain-finds}
+use Rattle.demands.specs.Facts.Windows.{plain-window-past}
 
 pub record PlainEngine : Type 0 where
   -- ---- "For every table, word and engine value that document 01 accepts, with step totals up to 2^62 and while space lasts, answers and tapes equal the Rust's in
@@ -121,7 +121,7 @@ pub record PlainEngine : Type 0 where
   pub run-past : (m : Machine) (s : List ℕ) (rule : StopRule) (fuel : ℕ) (σ : Conf) → PastKept (σ .c0) (σ .c1) (σ .c2) (runAnswer m s rule fuel σ .at)
   pub fast-past : (m : Machine) (s words : List ℕ) (rule : StopRule) (fuel : ℕ) (σ : Conf) → PastKept (σ .c0) (σ .c1) (σ .c2) (fastAnswer m s words rule fuel σ .at)
   pub step-past : (m : Machine) (s : List ℕ) (σ : Conf) → PastKept (σ .c0) (σ .c1) (σ .c2) (stepAnswer m s σ .at)
-  pub call-past : (m : Machine) (s : List ℕ) (w : WorldOf plainKind) (c : Call) → PastKept (w .engine .c0) (w .engine .c1) (w .engine .c2) (callOn plainKind m s w c .1 .engine)
+  pub call-past : (m : Machine) (s : List ℕ) (w : TimelineOf plainKind) (c : Call) → PastKept (w .engine .c0) (w .engine .c1) (w .engine .c2) (callOn plainKind m s w c .1 .engine)
   -- "`get`, `non_blank`, `count_non_blank`, `window` and `find_non_blank` answer over all of i64; a cell outside is blank": the questions answer what tape i of
   -- the configuration held has. At a position the cell; of the non-blank cells the smallest range (Spans) and the number (Counts)
   pub gets : (m : Machine) (s : List ℕ) (i : ℕ) (σ : Conf) (z : ℤ) (x : Symbol) → getAnswer m s i z σ ≡ Got.Found x → x .0 ≡ tapeOn i (configOf m σ) .cell z

@@ -7,29 +7,29 @@
 -- `Demand` (timeline/Statement) is the claim, and `WholeList` there says what is claimed of a list, of lists with calls that end for lack of space too.
 -- The calls and the new timeline are `callOn` and `newOn` (times/Kind), which the contracts of `new`, `seek`, `forward` and `back` cite for `plainKind` and
 -- `chainKind`.
-use Rattle.timeline.specs.Family.{Family}
-use Rattle.timeline.specs.Statement.{Demand, DemandFrom}
-use Rattle.timeline.specs.Third.{demand, demand-from}
-use Rattle.sim_laws.specs.Family.{plainFamily}
-use Rattle.sim_laws.specs.Instance.{plain-instances, plain-begins}
-use Rattle.rle_laws.specs.Family.{chainFamily}
-use Rattle.rle_laws.specs.Instance.{chain-instances, chain-begins}
+use Rattle.timeline_laws.specs.Meaning.{EngineMeaning}
+use Rattle.timeline_laws.specs.Statement.{Demand, DemandFrom}
+use Rattle.timeline_laws.specs.Facts.Third.{demand, demand-from}
+use Rattle.sim_timeline_laws.specs.Meaning.{plainEngine}
+use Rattle.sim_timeline_laws.specs.Facts.Instance.{plain-instances, plain-begins}
+use Rattle.rle_timeline_laws.specs.Meaning.{chainEngine}
+use Rattle.rle_timeline_laws.specs.Facts.Instance.{chain-instances, chain-begins}
 
 -- the kind of engine
 pub data Kinds : Type 0 where
   plain chain : Kinds
 
-abbrev pub familyOf : Kinds → Family
-familyOf plain = plainFamily
-familyOf chain = chainFamily
+abbrev pub engineOf : Kinds → EngineMeaning
+engineOf plain = plainEngine
+engineOf chain = chainEngine
 
-pub third-demand : (k : Kinds) → Demand (familyOf k)
-third-demand plain = demand plainFamily plain-instances plain-begins
-third-demand chain = demand chainFamily chain-instances chain-begins
+pub third-demand : (k : Kinds) → Demand (engineOf k)
+third-demand plain = demand plainEngine plain-instances plain-begins
+third-demand chain = demand chainEngine chain-instances chain-begins
 
 -- The same claim of a new timeline over any engine value that it accepts. The configuration that the value holds is in the place of the start, and its step
 -- count in the place of 0: "A new timeline saves slot 0 at its starting step." "A target below the start counts as the start." Of both, `slots`: "reading a
 -- recorded slot must give the engine saved."
-pub third-demand-from : (k : Kinds) → DemandFrom (familyOf k)
-third-demand-from plain = demand-from plainFamily plain-instances
-third-demand-from chain = demand-from chainFamily chain-instances
+pub third-demand-from : (k : Kinds) → DemandFrom (engineOf k)
+third-demand-from plain = demand-from plainEngine plain-instances
+third-demand-from chain = demand-from chainEngine chain-instances

@@ -1,3 +1,2 @@
 pub mod Output
-pub mod OutputCases
-pub mod FirstBytes
+pub mod Facts

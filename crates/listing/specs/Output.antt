@@ -3,18 +3,18 @@ use Prim.Native.Nat.{ℕ, _≤_}
 use mathlib.Core.List.{List, [], _++_}
 use lib.Dec.{ltb}
 use lib.ListN.{length, drop, replicate}
-use Rattle.laws.specs.Choice.{pick}
+use Rattle.notation.specs.Choice.{pick}
 use Rattle.outcome.specs.declared.Refusal.{Refusal}
 use Rattle.outcome.specs.declared.Refusal.the-variants as Why
 use Rattle.outcome.specs.Numbers.{refusalNumber}
 use Rattle.machine.specs.declared.Machine.{Machine}
-use Rattle.sim.specs.Engine.{Conf}
-use Rattle.times.specs.Timeline.{Reply, refused, answered, Call}
-use Rattle.times.specs.Kind.{newOn}
-use Rattle.sim_engine.specs.Kind.{Lent, createOf, plainKind}
-use Rattle.reader.specs.Listing.{Sofar, tableIn, Listing, listing}
-use Rattle.reader.specs.Listing as Read
-use Rattle.rows.specs.Rows.{rowsOf, refusedLine, output}
+use Rattle.sim.specs.Model.Engine.{Conf}
+use Rattle.timeline_rule.specs.Model.Timeline.{Reply, refused, answered, Call}
+use Rattle.timeline_rule.specs.Model.Kind.{newOn}
+use Rattle.sim_slots.specs.Model.Kind.{Lent, createOf, plainKind}
+use Rattle.listing_reader.specs.Listing.{Sofar, tableIn, Listing, listing}
+use Rattle.listing_reader.specs.Listing as Read
+use Rattle.listing_rows.specs.Rows.{rowsOf, refusedLine, output}
 use Rattle.listing.specs.declared.Listed.{Listed}
 use Rattle.listing.specs.declared.Listed.the-variants as Did
 

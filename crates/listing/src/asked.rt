@@ -6,9 +6,9 @@ use sim_timeline::Begun;
 use sim_timeline::Timeline;
 ghost use Prim.Native.Nat.{_≤_};
 ghost use lib.ListN.{length};
-ghost use Rattle.sim.specs.Engine.{conf};
-ghost use Rattle.forms.specs.Answers.{callsOf};
-ghost use Rattle.text.specs.Steps.{Wrote};
+ghost use Rattle.sim.specs.Model.Engine.{conf};
+ghost use Rattle.listing_lines.specs.Model.{callsOf};
+ghost use Rattle.listing_text.specs.Model.{Wrote};
 ghost use Rattle.listing.specs.Output.{lentOf, answerOn, answerWith, blankCells, blankStore};
 
 // A new timeline, and the names line and the rows.
@@ -30,11 +30,23 @@ fn on_timeline(
     let begun = Timeline::new(sim, m, table, c0, c1, c2, store, 8, 16);
     match begun {
         Begun::Refused(why) => {
-            return rows::inner::refused(out, 0, why.number() as u64);
+            return listing_rows::inner::refused(out, 0, why.number() as u64);
         }
         Begun::Made(timeline) => {
-            let at = text::inner::put(out, 0, b"answer steps state head low high score\n");
-            return rows::inner::rows(out, at, timeline, m, table, c0, c1, c2, store, calls, n);
+            let at = listing_text::inner::put(out, 0, b"answer steps state head low high score\n");
+            return listing_rows::inner::rows(
+                out,
+                at,
+                timeline,
+                m,
+                table,
+                c0,
+                c1,
+                c2,
+                store,
+                calls,
+                n,
+            );
         }
     }
 }
@@ -58,7 +70,7 @@ fn on_engine(
     let fresh = Simulator::new(m, table, word, c0, c1, c2);
     match fresh {
         Fresh::Refused(why) => {
-            return rows::inner::refused(out, 0, why.number() as u64);
+            return listing_rows::inner::refused(out, 0, why.number() as u64);
         }
         Fresh::Made(sim) => {
             return on_timeline(out, sim, m, table, c0, c1, c2, store, calls, n);

@@ -1,12 +1,12 @@
 // The input read, and what it asks answered.
 use super::asked;
-use reader::Parsed;
-use reader::Reader;
+use listing_reader::Parsed;
+use listing_reader::Reader;
 ghost use mathlib.Core.Path.{_≡_};
 ghost use Prim.Native.Nat.{_≤_};
 ghost use lib.ListN.{length};
-ghost use Rattle.text.specs.Steps.{Wrote};
-ghost use Rattle.reader.specs.Reading.{sofar, ReaderOk};
+ghost use Rattle.listing_text.specs.Model.{Wrote};
+ghost use Rattle.listing_reader.specs.Invariants.{sofar, ReaderOk};
 ghost use Rattle.listing.specs.Output.{answerOf, answerTo};
 
 // What is asked, on the part of the table that the machine has.
@@ -25,11 +25,11 @@ pub(crate) fn print(input: &[u8], out: &mut [u8]) -> usize
     requires { ⌜ 8743 ≤ length (now out) ⌝ }
     ensures { λ r. ⌜ Wrote (now (out .entry)) 0 (answerTo (now (input .entry))) (now (out .exit)) r ⌝ }
 {
-    let got = reader::read(input);
+    let got = listing_reader::read(input);
     let parsed = got.parsed;
     match parsed {
         Parsed::Refused(n) => {
-            return rows::inner::refused(out, 0, n);
+            return listing_rows::inner::refused(out, 0, n);
         }
         Parsed::Asked(x) => {
             let table = got.table;

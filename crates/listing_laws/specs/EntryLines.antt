@@ -9,10 +9,10 @@ use Rattle.symbol.specs.Kinds.{symbolOf, stateOf}
 use Rattle.machine.specs.declared.Machine.{Machine}
 use Rattle.machine.specs.declared.Entry.the-variants.{Undefined, Defined}
 use Rattle.machine.specs.Layout.{singleOf}
-use Rattle.turing.specs.Tables.{tableOf}
-use Rattle.text.specs.Text.{bytes}
-use Rattle.text.specs.Pieces.{lines}
-use Rattle.text.specs.Show.{show}
+use Rattle.table_machine.specs.Tables.{tableOf}
+use Rattle.listing_text.specs.Text.{bytes}
+use Rattle.listing_text.specs.Pieces.{lines}
+use Rattle.listing_text.specs.Show.{show}
 
 -- "Single spaces part fields"
 unfoldable pub joined : List (List ℕ) → List ℕ

@@ -3,7 +3,7 @@ use mathlib.Core.List.{List}
 use Prim.Native.Nat.{ℕ, _+_, _*_, _/_, _%_, _^_}
 use lib.Dec.{eqb, ltb}
 use lib.ListN.{length}
-use Rattle.laws.specs.Choice.{pick, both}
+use Rattle.notation.specs.Choice.{pick, both}
 use Rattle.symbol.specs.Kinds.{symbolOf, stateOf}
 use Rattle.symbol.specs.declared.Symbol.{Symbol}
 use Rattle.symbol.specs.declared.State.{State}
@@ -13,7 +13,7 @@ use Rattle.machine.specs.declared.Machine.{Machine}
 use Rattle.machine.specs.declared.Action.{Action}
 use Rattle.machine.specs.declared.Entry.{Entry}
 use Rattle.machine.specs.declared.Entry.the-variants.{Undefined, Defined}
-pub use Rattle.entries.specs.Entries.{entryNumber, flagAt, byteAt}
+pub use Rattle.table_bytes.specs.Model.Entries.{entryNumber, flagAt, byteAt}
 
 -- "With n states, k symbols and t tapes the stride is k^t."
 abbrev pub strideOf : Machine → ℕ

@@ -1,9 +1,3 @@
 pub mod Layout
-pub mod Check
-pub mod Packing
-pub mod Word
-pub mod CheckFacts
-pub mod CheckCases
-pub mod PackingCases
-pub mod WordFacts
-pub mod PackedFacts
+pub mod Model
+pub mod Facts

@@ -1,13 +1,13 @@
 // The check of the table's size and of its entries.
 use super::Checked;
 use super::Machine;
-use entries::inner as bytes;
 use outcome::Refusal;
 use symbol::position::Found;
+use table_bytes::inner as bytes;
 ghost use mathlib.Core.Path.{_≡_};
 ghost use Prim.Native.Nat.{_*_, _≤_};
 ghost use lib.ListN.{length};
-ghost use Rattle.machine.specs.Check.{sizeCheck, entriesCheck};
+ghost use Rattle.machine.specs.Model.Check.{sizeCheck, entriesCheck};
 
 pub(crate) fn check_size(m: Machine, table: &[u8], count: u64) -> Checked
     requires { ⌜ count ≤ 1099511627776 ⌝ }

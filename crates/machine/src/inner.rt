@@ -2,18 +2,18 @@
 use super::Action;
 use super::Entry;
 use super::packed::Packed;
-pub use entries::inner::entry_number;
-pub use entries::inner::stride;
 use symbol::Dir;
 use symbol::State;
 use symbol::Symbol;
+pub use table_bytes::inner::entry_number;
+pub use table_bytes::inner::stride;
 ghost use mathlib.Core.Path.{_≡_};
 ghost use Prim.Native.Nat.{_+_, _*_, _≤_};
 ghost use lib.ListN.{length};
-ghost use Rattle.laws.specs.Fill.{fillFrom};
+ghost use Rattle.notation.specs.Fill.{fillFrom};
 ghost use Rattle.symbol.specs.Kinds.{stateOf};
 ghost use Rattle.machine.specs.Layout.{dirOf, actionAt, entryAt};
-ghost use Rattle.machine.specs.Packing.{wordAt};
+ghost use Rattle.machine.specs.Model.Packing.{wordAt};
 
 // The entry of a number; past the table's end there is none.
 pub fn entry_at(table: &[u8], i: usize) -> Entry

@@ -1,14 +1,14 @@
 // The machine's numbers, its table of eight-byte entries, the table check, and packed words.
-use entries::inner as bytes;
 use outcome::Refusal;
 use symbol::Dir;
 use symbol::State;
 use symbol::Symbol;
+use table_bytes::inner as bytes;
 ghost use mathlib.Core.Path.{_≡_};
 ghost use lib.ListN.{length};
 ghost use Rattle.machine.specs.Layout.{singleOf};
-ghost use Rattle.machine.specs.Check.{tableCheck, lookupOf};
-ghost use Rattle.machine.specs.Packing.{packCheck, packInto};
+ghost use Rattle.machine.specs.Model.Check.{tableCheck, lookupOf};
+ghost use Rattle.machine.specs.Model.Packing.{packCheck, packInto};
 
 mod checks;
 pub mod inner;

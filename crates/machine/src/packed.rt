@@ -2,14 +2,14 @@
 use super::Action;
 use super::Entry;
 use super::inner;
-use entries::inner as bytes;
 use symbol::Dir;
 use symbol::State;
 use symbol::Symbol;
+use table_bytes::inner as bytes;
 ghost use mathlib.Core.Path.{_≡_};
 ghost use mathlib.Core.Bool.{not};
 ghost use lib.Dec.{eqb};
-ghost use Rattle.machine.specs.Packing.{undefinedWord, packWord, actionWord, wordDir, wordWrite, wordNext, wordRow, wordAction, wordEntry};
+ghost use Rattle.machine.specs.Model.Packing.{undefinedWord, packWord, actionWord, wordDir, wordWrite, wordNext, wordRow, wordAction, wordEntry};
 
 // Byte 0 is the move, byte 1 the symbol written, bytes 2 and 3 the next state and bytes 4 to 7 the number
 // of that state's first entry, its row.

@@ -1,10 +1,10 @@
 // The check of an input word, wherever one is taken.
 use super::Checked;
-use entries::inner as bytes;
 use outcome::Refusal;
 use symbol::position::Found;
+use table_bytes::inner as bytes;
 ghost use mathlib.Core.Path.{_≡_};
-ghost use Rattle.machine.specs.Word.{wordCheck, symbolsCheck};
+ghost use Rattle.machine.specs.Model.Word.{wordCheck, symbolsCheck};
 
 // 9 for a word over 1,048,576; 10 for a symbol not below `symbols`, with the first place.
 pub fn check_word(symbols: u64, word: &[u8]) -> Checked

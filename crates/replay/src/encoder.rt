@@ -2,8 +2,8 @@
 use super::ground;
 use super::lists;
 use super::telling;
+use capi_numbers::answers;
 use machine::Checked;
-use numbers::answers;
 
 fn glyph_of(x: u64) -> u32 {
     (x % 4294967296) as u32
@@ -59,7 +59,7 @@ fn encode(row: &[u64], at: usize, glyphs: &[u32], flags: &[u8], word: &[u32]) ->
 
 fn expect_encoded(row: &[u64], at: usize, checked: Checked, encoded: &[u8]) -> usize {
     let mut out: [u64; 8] = [0; 8];
-    let result = answers::tell_checked(&mut out, checked);
+    let result = answers::put_checked(&mut out, checked);
     let at = lists::expect(row, at, result as u64);
     if result != 0 {
         return lists::expect(row, at, out[0]);

@@ -1,7 +1,7 @@
 // What most rows begin with: a machine with its table, and a word.
 use super::lists;
+use capi_numbers::engines;
 use machine::Machine;
-use numbers::engines;
 ghost use Prim.Native.Nat.{_≤_};
 
 // A machine, how many bytes its table has, and where the row goes on.

@@ -1,6 +1,6 @@
 // What a run is told: its stop rule and its fuel.
 use super::lists;
-use numbers::engines;
+use capi_numbers::engines;
 use sim::StopRule;
 
 pub(crate) struct Order {

@@ -49,7 +49,7 @@ pub(crate) fn expect_times(
     row: &[u64],
     at: usize,
     settings: Settings,
-    times: times::Times,
+    times: timeline_rule::Times,
     steps: u64,
 ) -> usize {
     if !as_rust(settings) {

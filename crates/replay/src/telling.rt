@@ -1,7 +1,7 @@
 // What the port answers, held to a row in the order in which the data has it. A refusal is never what the row says.
 use super::lists;
+use capi_numbers::answers;
 use machine::Checked;
-use numbers::answers;
 use sim::Answer;
 use sim::StepAnswer;
 use sim::questions::Counted;
@@ -34,7 +34,7 @@ pub(crate) fn expect_numbers(row: &[u64], from: usize, numbers: &[u64]) -> usize
 // A run's answer: the outcome's number and its values, 0 for one that it lacks.
 pub(crate) fn expect_answer(row: &[u64], at: usize, answer: Answer) -> usize {
     let mut out: [u64; 8] = [0; 8];
-    if answers::tell_answer(&mut out, answer) != 0 {
+    if answers::put_answer(&mut out, answer) != 0 {
         return lists::OFF;
     }
     expect_numbers(row, at, lists::first_values(&out, 5))
@@ -43,7 +43,7 @@ pub(crate) fn expect_answer(row: &[u64], at: usize, answer: Answer) -> usize {
 // A step's answer: 0 running, 1 halted, 2 full.
 pub(crate) fn expect_step(row: &[u64], at: usize, answer: StepAnswer) -> usize {
     let mut out: [u64; 8] = [0; 8];
-    if answers::tell_step(&mut out, answer) != 0 {
+    if answers::put_step(&mut out, answer) != 0 {
         return lists::OFF;
     }
     lists::expect(row, at, out[0])
@@ -52,7 +52,7 @@ pub(crate) fn expect_step(row: &[u64], at: usize, answer: StepAnswer) -> usize {
 // A symbol.
 pub(crate) fn expect_got(row: &[u64], at: usize, answer: Got) -> usize {
     let mut out: [u64; 8] = [0; 8];
-    if answers::tell_got(&mut out, answer) != 0 {
+    if answers::put_got(&mut out, answer) != 0 {
         return lists::OFF;
     }
     lists::expect(row, at, out[0])
@@ -61,7 +61,7 @@ pub(crate) fn expect_got(row: &[u64], at: usize, answer: Got) -> usize {
 // A number of cells.
 pub(crate) fn expect_counted(row: &[u64], at: usize, answer: Counted) -> usize {
     let mut out: [u64; 8] = [0; 8];
-    if answers::tell_counted(&mut out, answer) != 0 {
+    if answers::put_counted(&mut out, answer) != 0 {
         return lists::OFF;
     }
     lists::expect(row, at, out[0])
@@ -70,7 +70,7 @@ pub(crate) fn expect_counted(row: &[u64], at: usize, answer: Counted) -> usize {
 // 0, or 1 and the lowest and the highest position.
 pub(crate) fn expect_extent(row: &[u64], at: usize, answer: Extent) -> usize {
     let mut out: [u64; 8] = [0; 8];
-    if answers::tell_extent(&mut out, answer) != 0 {
+    if answers::put_extent(&mut out, answer) != 0 {
         return lists::OFF;
     }
     let at = lists::expect(row, at, out[0]);
@@ -84,7 +84,7 @@ pub(crate) fn expect_extent(row: &[u64], at: usize, answer: Extent) -> usize {
 // 0, or 1 and a position.
 pub(crate) fn expect_located(row: &[u64], at: usize, answer: Located) -> usize {
     let mut out: [u64; 8] = [0; 8];
-    if answers::tell_located(&mut out, answer) != 0 {
+    if answers::put_located(&mut out, answer) != 0 {
         return lists::OFF;
     }
     let at = lists::expect(row, at, out[0]);

@@ -3,18 +3,18 @@ use mathlib.Core.Bool.{Bool}
 use mathlib.Core.List.{List}
 use Prim.Native.Nat.{ℕ, _+_, _-_}
 use lib.Dec.{eqb, ltb, leb}
-use Rattle.laws.specs.Choice.{both}
+use Rattle.notation.specs.Choice.{both}
 use Rattle.outcome.specs.declared.Refusal.the-variants as Why
 use Rattle.machine.specs.declared.Machine.{Machine}
 use Rattle.machine.specs.declared.Checked.{Checked}
 use Rattle.machine.specs.declared.Checked.the-variants.{Accepted}
-use Rattle.machine.specs.Check.{demand, checkedOn, tableCheck}
-use Rattle.before.specs.Sizes.{stepsMost, fuelFits}
-use Rattle.stacks.specs.Sides.{placesOf, cellsOf}
-pub use Rattle.tally.specs.Sums.{slack, sidesFit}
-unfoldable pub use Rattle.tally.specs.Sums.{sideFits}
+use Rattle.machine.specs.Model.Check.{demand, checkedOn, tableCheck}
+use Rattle.run_checks.specs.Model.Sizes.{stepsMost, fuelFits}
+use Rattle.rle_stack.specs.Model.{placesOf, cellsOf}
+pub use Rattle.rle_counts.specs.Model.Sums.{slack, sidesFit}
+unfoldable pub use Rattle.rle_counts.specs.Model.Sums.{sideFits}
 use Rattle.rle.specs.declared.ChainSim.{ChainSim}
-use Rattle.rle.specs.Engine.{Conf, leftOf, rightOf}
+use Rattle.rle.specs.Model.Engine.{Conf, leftOf, rightOf}
 
 -- position 0, raised
 abbrev pub zeroAt : ℕ

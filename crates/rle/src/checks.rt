@@ -1,17 +1,17 @@
 // What every operation on an engine tests before it begins: refusals 8, 11, 12 and 13 after the table check.
 use super::ChainSim;
 use super::inner::fits;
-use before::inner::sizes;
 use machine::Checked;
 use machine::Machine;
 use outcome::Refusal;
-use stacks::inner as stack;
+use rle_stack::inner as stack;
+use run_checks::inner::sizes;
 ghost use mathlib.Core.Path.{_≡_};
 ghost use Prim.Native.Nat.{_+_, _≤_, _<_};
 ghost use lib.ListN.{length};
-ghost use Rattle.laws.specs.Choice.{pick};
-ghost use Rattle.stacks.specs.Sides.{side, cellsOf};
-ghost use Rattle.rle.specs.Engine.{conf};
+ghost use Rattle.notation.specs.Choice.{pick};
+ghost use Rattle.rle_stack.specs.Model.{side, cellsOf};
+ghost use Rattle.rle.specs.Model.Engine.{conf};
 ghost use Rattle.rle.specs.Fits.{sideFits, chainFits, valueCheck, engineCheck, runCheck};
 
 // How many cells a side has, at most `most`; `most + 1` where it does not fit.

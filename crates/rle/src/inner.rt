@@ -3,22 +3,22 @@ pub mod fits;
 
 use super::ChainSim;
 use super::RunTape;
-use course::StopRule;
 use machine::Action;
 use machine::Entry;
 use machine::Machine;
 use outcome::Outcome;
-use spans::inner::leaps;
-use spans::inner::leaps::Moved;
-use spans::inner::leaps::Step;
-use stacks::inner as stack;
+use rle_macro::inner::macro_step;
+use rle_macro::inner::macro_step::Moved;
+use rle_macro::inner::macro_step::Step;
+use rle_stack::inner as stack;
+use run_rules::StopRule;
 use symbol::State;
 ghost use mathlib.Core.Path.{_≡_};
-ghost use Rattle.laws.specs.Choice.{both};
-ghost use Rattle.before.specs.Look.{entryOf};
-ghost use Rattle.course.specs.Task.{task};
-ghost use Rattle.rle.specs.Engine.{conf, loopsOf, fueledOf, turnOf, end, runOf};
-ghost use Rattle.rle.specs.Turns.{TableOk, CountsOk, RunOk, Judged, landedBy};
+ghost use Rattle.notation.specs.Choice.{both};
+ghost use Rattle.run_checks.specs.Model.Look.{entryOf};
+ghost use Rattle.run_rules.specs.Model.Task.{task};
+ghost use Rattle.rle.specs.Model.Engine.{conf, loopsOf, fueledOf, turnOf, end, runOf};
+ghost use Rattle.rle.specs.Invariants.{TableOk, CountsOk, RunOk, Judged, landedBy};
 
 // What comes next in a run, before it is asked whether there is space: its end, or an entry to make.
 pub enum Turn {
@@ -49,7 +49,7 @@ fn loops_on(q: State, a: Action, cur: u8, left: usize, right: usize) -> bool
         return false;
     }
     let dir = a.dir0;
-    leaps::loops(dir, a.write0.0, cur, left, right)
+    macro_step::loops(dir, a.write0.0, cur, left, right)
 }
 
 // Whether a proved loop is to be told.
@@ -72,7 +72,7 @@ impl ChainSim {
         if fuel == 0 {
             return Turn::Ends(Outcome::OutOfFuel { steps });
         }
-        if course::inner::matches(rule, state) {
+        if run_rules::inner::matches(rule, state) {
             return Turn::Ends(Outcome::Stopped { steps });
         }
         let dir = a.dir0;
@@ -112,7 +112,7 @@ impl ChainSim {
                 let loops = loops_on(state, a, tape.cur, tape.left, tape.right);
                 if asked(loops, proves) {
                     let dir = a.dir0;
-                    let proof = leaps::proof_of(state, dir);
+                    let proof = macro_step::proof_of(state, dir);
                     return Turn::Ends(Outcome::NeverHalts { steps, proof });
                 }
                 return self.fueled(loops, rule, a, fuel);
@@ -128,9 +128,9 @@ impl ChainSim {
         let tape = self.tape;
         let dir = s.dir;
         let next = s.next;
-        let head = leaps::head_for(dir, tape.head, w.repeats);
-        let lowest = leaps::lower(self.lowest, head);
-        let highest = leaps::upper(self.highest, head);
+        let head = macro_step::head_for(dir, tape.head, w.repeats);
+        let lowest = macro_step::lower(self.lowest, head);
+        let highest = macro_step::upper(self.highest, head);
         ChainSim {
             state: next,
             steps: self.steps + w.repeats,
@@ -147,7 +147,7 @@ impl ChainSim {
     }
 
     // The run by macro steps. One of no steps is one that had no place.
-    pub(crate) fn run_leaps(
+    pub(crate) fn run_macro_steps(
         mut self,
         m: Machine,
         stride: u64,
@@ -174,7 +174,7 @@ impl ChainSim {
                 }
                 Turn::Takes(s) => {
                     let tape = self.tape;
-                    let w = leaps::make(
+                    let w = macro_step::make(
                         s,
                         tape.left,
                         tape.cur,
@@ -220,7 +220,7 @@ pub fn run_all(
     requires { ⌜ RunOk m stride (conf sim (now ls) (now ll) (now rs) (now rl)) fuel ⌝ }
     ensures { λ r. ⌜ end (conf (r .sim) (now (ls .exit)) (now (ll .exit)) (now (rs .exit)) (now (rl .exit))) (r .outcome) ≡ runOf (task m (now (table .entry)) proves rule) fuel (conf sim (now (ls .entry)) (now (ll .entry)) (now (rs .entry)) (now (rl .entry))) ⌝ }
 {
-    sim.run_leaps(m, stride, proves, rule, table, ls, ll, rs, rl, fuel)
+    sim.run_macro_steps(m, stride, proves, rule, table, ls, ll, rs, rl, fuel)
 }
 
 // How a run without fuel ends here: the verdict.
@@ -239,7 +239,7 @@ pub fn verdict(sim: ChainSim, m: Machine, stride: u64, table: &[u8]) -> Outcome
         Entry::Defined(a) => {
             if loops_on(state, a, tape.cur, tape.left, tape.right) {
                 let dir = a.dir0;
-                let proof = leaps::proof_of(state, dir);
+                let proof = macro_step::proof_of(state, dir);
                 return Outcome::NeverHalts { steps, proof };
             }
             return Outcome::OutOfFuel { steps };

@@ -1,15 +1,15 @@
 // The run-length engine: a machine of one tape, whose tape is two stacks of runs around the cell under the head.
-use course::Answer;
-use course::StopRule;
 use machine::Checked;
 use machine::Machine;
 use outcome::Refusal;
-use spans::inner::word;
-use stacks::inner as stack;
+use rle_macro::inner::word;
+use rle_stack::inner as stack;
+use run_rules::Answer;
+use run_rules::StopRule;
 use symbol::State;
 ghost use mathlib.Core.Path.{_≡_};
-ghost use Rattle.rle.specs.Engine.{conf};
-ghost use Rattle.rle.specs.Operations.{given, runAnswer, made, newAnswer};
+ghost use Rattle.rle.specs.Model.Engine.{conf};
+ghost use Rattle.rle.specs.Model.Operations.{given, runAnswer, made, newAnswer};
 
 mod checks;
 pub mod inner;

@@ -1,12 +1,12 @@
 // Questions on an engine's tape. Each tests the table and the value first: the table check, 8, 11, 12.
 use super::ChainSim;
-use course::questions::Counted;
-use course::questions::Extent;
-use course::questions::Got;
 use machine::Checked;
 use machine::Machine;
-use spans::inner::asks;
-use stacks::inner as stack;
+use rle_macro::inner::questions;
+use rle_stack::inner as stack;
+use run_rules::questions::Counted;
+use run_rules::questions::Extent;
+use run_rules::questions::Got;
 use symbol::Symbol;
 use symbol::position;
 use tape::Span;
@@ -14,10 +14,10 @@ ghost use mathlib.Core.Path.{_≡_};
 ghost use mathlib.Core.Bool.{false};
 ghost use mathlib.Core.List.{List};
 ghost use Prim.Native.Nat.{ℕ};
-ghost use Rattle.rle.specs.Engine.{conf};
-ghost use Rattle.rle.specs.Turns.{AskOk};
+ghost use Rattle.rle.specs.Model.Engine.{conf};
+ghost use Rattle.rle.specs.Invariants.{AskOk};
 ghost use Rattle.rle.specs.Fits.{engineCheck};
-ghost use Rattle.rle.specs.Questions.{lowestOf, highestOf, blankTape, spanOf, getAnswer, extentAnswer, countAnswer, windowInto};
+ghost use Rattle.rle.specs.Model.Questions.{lowestOf, highestOf, blankTape, spanOf, getAnswer, extentAnswer, countAnswer, windowInto};
 
 impl ChainSim {
     // Whether every cell is blank.
@@ -97,7 +97,7 @@ impl ChainSim {
             Checked::Accepted => {
                 let tape = self.tape;
                 let raised = position::raised(at);
-                let found = asks::cell(
+                let found = questions::cell(
                     tape.head,
                     tape.cur,
                     ls,
@@ -155,7 +155,7 @@ impl ChainSim {
             }
             Checked::Accepted => {
                 let tape = self.tape;
-                let found = asks::count(tape.cur, ls, ll, tape.left, rs, rl, tape.right);
+                let found = questions::count(tape.cur, ls, ll, tape.left, rs, rl, tape.right);
                 return Counted::Found(found);
             }
         }
@@ -183,7 +183,7 @@ impl ChainSim {
             Checked::Accepted => {
                 let tape = self.tape;
                 let raised = position::raised(from);
-                asks::fill_window(
+                questions::fill_window(
                     tape.head,
                     tape.cur,
                     ls,

@@ -3,12 +3,12 @@
 use super::ChainSim;
 use machine::Checked;
 use machine::Machine;
-use records::Listed;
-use records::Run;
+use rle_records::Listed;
+use rle_records::Run;
 ghost use mathlib.Core.Path.{_≡_};
 ghost use lib.ListN.{length};
-ghost use Rattle.rle.specs.Engine.{conf};
-ghost use Rattle.rle.specs.Records.{sideAnswer, leftAnswer, leftInto, rightAnswer, rightInto};
+ghost use Rattle.rle.specs.Model.Engine.{conf};
+ghost use Rattle.rle.specs.Model.Records.{sideAnswer, leftAnswer, leftInto, rightAnswer, rightInto};
 
 impl ChainSim {
     // The table check, 8, 11, 12, then 18 where `room` records are too few for `count` runs.
@@ -31,7 +31,7 @@ impl ChainSim {
                 return Listed::Refused(why);
             }
             Checked::Accepted => {
-                return records::inner::room_for(count, room);
+                return rle_records::inner::room_for(count, room);
             }
         }
     }
@@ -82,8 +82,8 @@ impl ChainSim {
         ensures { λ r. ⌜ (r ≡ leftAnswer m (now (table .entry)) (length (now (out .entry))) (conf self (now (ls .entry)) (now (ll .entry)) (now (rs .entry)) (now (rl .entry)))) × (now (out .exit) ≡ leftInto m (now (table .entry)) (conf self (now (ls .entry)) (now (ll .entry)) (now (rs .entry)) (now (rl .entry))) (now (out .entry))) ⌝ }
     {
         let listed = self.left_check(m, table, ls, ll, rs, rl, out.len());
-        let count = records::inner::written(listed);
-        records::inner::fill(ls, ll, count, out);
+        let count = rle_records::inner::written(listed);
+        rle_records::inner::fill(ls, ll, count, out);
         listed
     }
 
@@ -101,8 +101,8 @@ impl ChainSim {
         ensures { λ r. ⌜ (r ≡ rightAnswer m (now (table .entry)) (length (now (out .entry))) (conf self (now (ls .entry)) (now (ll .entry)) (now (rs .entry)) (now (rl .entry)))) × (now (out .exit) ≡ rightInto m (now (table .entry)) (conf self (now (ls .entry)) (now (ll .entry)) (now (rs .entry)) (now (rl .entry))) (now (out .entry))) ⌝ }
     {
         let listed = self.right_check(m, table, ls, ll, rs, rl, out.len());
-        let count = records::inner::written(listed);
-        records::inner::fill(rs, rl, count, out);
+        let count = rle_records::inner::written(listed);
+        rle_records::inner::fill(rs, rl, count, out);
         listed
     }
 }

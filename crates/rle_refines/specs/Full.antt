@@ -7,7 +7,7 @@ use Rattle.symbol.specs.declared.Dir.the-variants.{L, R, N}
 use Rattle.machine.specs.declared.Machine.{Machine}
 use Rattle.machine.specs.declared.Action.{Action}
 use Rattle.machine.specs.declared.Entry.the-variants.{Defined}
-use Rattle.turing.specs.TableMachine.{Table, Tape, Config, readT, entry}
+use Rattle.table_machine.specs.TableMachine.{Table, Tape, Config, readT, entry}
 use Rattle.rle_refines.specs.Meaning.{Stack, empty, over, top, stream, distance, look, RunsFit}
 
 -- how many runs
@@ -15,7 +15,7 @@ abbrev pub height : Stack → ℕ
 height empty = 0
 height (over s n r) = suc (height r)
 
--- the two stacks of a tape with symbols below k; the stack rule leaves no other two (`one-pair` in Canonical)
+-- the two stacks of a tape with symbols below k; the stack rule leaves no other two (`one-pair` in Facts/Canonical)
 pub record Stacked (k : ℕ) (t : Tape) (left right : Stack) : Type 0 where
   pub lefts : RunsFit k left
   pub rights : RunsFit k right

@@ -4,13 +4,13 @@ use mathlib.Core.List.{List}
 use Prim.Native.Nat.{ℕ, zero, suc, _+_, _≤_, _<_, _^_}
 use lib.IntN.{ℤ, pos, negsuc}
 use lib.ListN.{getD}
-use Rattle.laws.specs.Position.{_⊖_, up, dn}
+use Rattle.notation.specs.Position.{_⊖_, up, dn}
 use Rattle.symbol.specs.declared.Dir.{Dir}
 use Rattle.symbol.specs.declared.Dir.the-variants.{L, R, N}
 use Rattle.machine.specs.declared.Machine.{Machine}
-use Rattle.turing.specs.TableMachine.{Tape, Config, blankTape}
-use Rattle.stacks.specs.Sides.{Side, placesOf, cellsOf}
-use Rattle.rle.specs.Engine.{Conf, leftOf, rightOf}
+use Rattle.table_machine.specs.TableMachine.{Tape, Config, blankTape}
+use Rattle.rle_stack.specs.Model.{Side, placesOf, cellsOf}
+use Rattle.rle.specs.Model.Engine.{Conf, leftOf, rightOf}
 
 -- ---- "Each side is a stack of runs, top nearest the head"
 

@@ -7,10 +7,10 @@ use lib.ListN.{length}
 use Rattle.outcome.specs.declared.Outcome.{Outcome}
 use Rattle.machine.specs.declared.Machine.{Machine}
 use Rattle.machine.specs.declared.Checked.the-variants.{Accepted}
-use Rattle.turing.specs.TableMachine.{start}
-use Rattle.course.specs.declared.StopRule.{StopRule}
-use Rattle.course.specs.Task.{task}
-use Rattle.rle.specs.Engine.{Conf, end}
+use Rattle.table_machine.specs.TableMachine.{start}
+use Rattle.run_rules.specs.declared.StopRule.{StopRule}
+use Rattle.run_rules.specs.Model.Task.{task}
+use Rattle.rle.specs.Model.Engine.{Conf, end}
 use Rattle.rle.specs.Fits.{engineCheck}
 use Rattle.rle_refines.specs.Meaning.{configOf, ChainFits}
 use Rattle.rle_refines.specs.Statement.{Refines}

@@ -10,14 +10,14 @@ use Rattle.machine.specs.declared.Machine.{Machine}
 use Rattle.machine.specs.declared.Action.{Action}
 use Rattle.machine.specs.declared.Entry.the-variants.{Defined}
 use Rattle.machine.specs.declared.Checked.the-variants.{Accepted}
-use Rattle.machine.specs.Check.{tableCheck}
-use Rattle.tables.specs.WellFormed.{Bytes}
-use Rattle.turing.specs.TableMachine.{Config, entry, run, Halted, haltedAt, outOfFuelAt}
-pub use Rattle.turing.specs.Beside.{tableIn, Judged, Unproved, hasRule}
-use Rattle.course.specs.declared.StopRule.{StopRule}
-use Rattle.course.specs.Task.{Task, task}
-use Rattle.stacks.specs.Sides.{placesOf}
-use Rattle.rle.specs.Engine.{Conf, noPlace, End, runOf}
+use Rattle.machine.specs.Model.Check.{tableCheck}
+use Rattle.table_laws.specs.WellFormed.{Bytes}
+use Rattle.table_machine.specs.TableMachine.{Config, entry, run, Halted, haltedAt, outOfFuelAt}
+pub use Rattle.table_machine.specs.Beside.{tableIn, Judged, Unproved, hasRule}
+use Rattle.run_rules.specs.declared.StopRule.{StopRule}
+use Rattle.run_rules.specs.Model.Task.{Task, task}
+use Rattle.rle_stack.specs.Model.{placesOf}
+use Rattle.rle.specs.Model.Engine.{Conf, noPlace, End, runOf}
 use Rattle.rle_refines.specs.Meaning.{configOf, ChainFits}
 use Rattle.rle_refines.specs.Full.{FullAt}
 

@@ -1,3 +1,2 @@
-pub mod Worlds
-pub mod EngineFacts
-pub mod CodeCases
+pub mod Model
+pub mod Facts

@@ -3,14 +3,14 @@ use super::Timeline;
 use machine::Checked;
 use machine::Machine;
 use rle::ChainSim;
-use rle_engine::inner as engine;
-use times::inner as sums;
+use rle_slots::inner as engine;
+use timeline_rule::inner as sums;
 ghost use mathlib.Core.Path.{_≡_};
-ghost use Rattle.rle.specs.Engine.{conf};
-ghost use Rattle.times.specs.Timeline.{callCheck, newCheck};
-ghost use Rattle.times.specs.Kind.{opsFor};
-ghost use Rattle.rle_engine.specs.Kind.{chainKind};
-ghost use Rattle.rle_timeline.specs.Worlds.{W};
+ghost use Rattle.rle.specs.Model.Engine.{conf};
+ghost use Rattle.timeline_rule.specs.Model.Timeline.{callCheck, newCheck};
+ghost use Rattle.timeline_rule.specs.Model.Kind.{opsFor};
+ghost use Rattle.rle_slots.specs.Model.Kind.{chainKind};
+ghost use Rattle.rle_timeline.specs.Model.{withLent};
 
 pub(crate) fn new_check(
     sim: ChainSim,
@@ -50,7 +50,7 @@ impl Timeline {
         store: &[u8],
         target: u64,
     ) -> Checked
-        ensures { λ r. ⌜ r ≡ callCheck (opsFor chainKind m (now (table .entry)) (conf (self .engine) (now (ls .entry)) (now (ll .entry)) (now (rs .entry)) (now (rl .entry)))) (W self (now (ls .entry)) (now (ll .entry)) (now (rs .entry)) (now (rl .entry)) (now (store .entry))) target ⌝ }
+        ensures { λ r. ⌜ r ≡ callCheck (opsFor chainKind m (now (table .entry)) (conf (self .engine) (now (ls .entry)) (now (ll .entry)) (now (rs .entry)) (now (rl .entry)))) (withLent self (now (ls .entry)) (now (ll .entry)) (now (rs .entry)) (now (rl .entry)) (now (store .entry))) target ⌝ }
     {
         let sim = self.engine;
         let times = self.times;

@@ -1,18 +1,18 @@
 // A timeline over the run-length engine: seek, forward and back over slots in a lent store.
-use course::Answer;
 use machine::Checked;
 use machine::Machine;
 use outcome::Refusal;
 use rle::ChainSim;
-use rle_engine::inner as engine;
-use times::Times;
-use times::inner as sums;
+use rle_slots::inner as engine;
+use run_rules::Answer;
+use timeline_rule::Times;
+use timeline_rule::inner as sums;
 ghost use mathlib.Core.Path.{_≡_};
-ghost use Rattle.rle.specs.Engine.{conf};
-ghost use Rattle.times.specs.Timeline.{seek, forward, back, callFor};
-ghost use Rattle.times.specs.Kind.{callOn, newWith};
-ghost use Rattle.rle_engine.specs.Kind.{chainKind};
-ghost use Rattle.rle_timeline.specs.Worlds.{W, replied, begun};
+ghost use Rattle.rle.specs.Model.Engine.{conf};
+ghost use Rattle.timeline_rule.specs.Model.Timeline.{seek, forward, back, callFor};
+ghost use Rattle.timeline_rule.specs.Model.Kind.{callOn, newWith};
+ghost use Rattle.rle_slots.specs.Model.Kind.{chainKind};
+ghost use Rattle.rle_timeline.specs.Model.{withLent, replied, begun};
 
 mod checks;
 mod moves;
@@ -85,7 +85,7 @@ impl Timeline {
         store: &mut [u8],
         target: u64,
     ) -> Answered
-        ensures { λ r. ⌜ replied (r .answer) (W (r .timeline) (now (ls .exit)) (now (ll .exit)) (now (rs .exit)) (now (rl .exit)) (now (store .exit))) ≡ callOn chainKind m (now (table .entry)) (W self (now (ls .entry)) (now (ll .entry)) (now (rs .entry)) (now (rl .entry)) (now (store .entry))) (seek target) ⌝ }
+        ensures { λ r. ⌜ replied (r .answer) (withLent (r .timeline) (now (ls .exit)) (now (ll .exit)) (now (rs .exit)) (now (rl .exit)) (now (store .exit))) ≡ callOn chainKind m (now (table .entry)) (withLent self (now (ls .entry)) (now (ll .entry)) (now (rs .entry)) (now (rl .entry)) (now (store .entry))) (seek target) ⌝ }
     {
         let checked = self.call_check(m, table, ls, ll, rs, rl, store, target);
         match checked {
@@ -116,7 +116,7 @@ impl Timeline {
         store: &mut [u8],
         n: u64,
     ) -> Answered
-        ensures { λ r. ⌜ replied (r .answer) (W (r .timeline) (now (ls .exit)) (now (ll .exit)) (now (rs .exit)) (now (rl .exit)) (now (store .exit))) ≡ callOn chainKind m (now (table .entry)) (W self (now (ls .entry)) (now (ll .entry)) (now (rs .entry)) (now (rl .entry)) (now (store .entry))) (forward n) ⌝ }
+        ensures { λ r. ⌜ replied (r .answer) (withLent (r .timeline) (now (ls .exit)) (now (ll .exit)) (now (rs .exit)) (now (rl .exit)) (now (store .exit))) ≡ callOn chainKind m (now (table .entry)) (withLent self (now (ls .entry)) (now (ll .entry)) (now (rs .entry)) (now (rl .entry)) (now (store .entry))) (forward n) ⌝ }
     {
         let sim = self.engine;
         let target = sums::forward_to(sim.steps, n);
@@ -135,7 +135,7 @@ impl Timeline {
         store: &mut [u8],
         n: u64,
     ) -> Answered
-        ensures { λ r. ⌜ replied (r .answer) (W (r .timeline) (now (ls .exit)) (now (ll .exit)) (now (rs .exit)) (now (rl .exit)) (now (store .exit))) ≡ callOn chainKind m (now (table .entry)) (W self (now (ls .entry)) (now (ll .entry)) (now (rs .entry)) (now (rl .entry)) (now (store .entry))) (back n) ⌝ }
+        ensures { λ r. ⌜ replied (r .answer) (withLent (r .timeline) (now (ls .exit)) (now (ll .exit)) (now (rs .exit)) (now (rl .exit)) (now (store .exit))) ≡ callOn chainKind m (now (table .entry)) (withLent self (now (ls .entry)) (now (ll .entry)) (now (rs .entry)) (now (rl .entry)) (now (store .entry))) (back n) ⌝ }
     {
         let sim = self.engine;
         let target = sums::back_to(sim.steps, n);
@@ -155,7 +155,7 @@ impl Timeline {
         which: u64,
         number: u64,
     ) -> Answered
-        ensures { λ r. ⌜ replied (r .answer) (W (r .timeline) (now (ls .exit)) (now (ll .exit)) (now (rs .exit)) (now (rl .exit)) (now (store .exit))) ≡ callOn chainKind m (now (table .entry)) (W self (now (ls .entry)) (now (ll .entry)) (now (rs .entry)) (now (rl .entry)) (now (store .entry))) (callFor which number) ⌝ }
+        ensures { λ r. ⌜ replied (r .answer) (withLent (r .timeline) (now (ls .exit)) (now (ll .exit)) (now (rs .exit)) (now (rl .exit)) (now (store .exit))) ≡ callOn chainKind m (now (table .entry)) (withLent self (now (ls .entry)) (now (ll .entry)) (now (rs .entry)) (now (rl .entry)) (now (store .entry))) (callFor which number) ⌝ }
     {
         let sim = self.engine;
         let target = sums::target_of(which, sim.steps, number);

@@ -1,22 +1,22 @@
 // Where an accepted call goes: on from where the engine stands, back to a slot and on from there, or nowhere.
 use super::Answered;
 use super::Timeline;
-use course::Answer;
 use machine::Machine;
 use outcome::Refusal;
-use rle_engine::inner as engine;
-use rle_engine::inner::Found;
-use times::Times;
-use times::inner as sums;
+use rle_slots::inner as engine;
+use rle_slots::inner::Found;
+use run_rules::Answer;
+use timeline_rule::Times;
+use timeline_rule::inner as sums;
 ghost use mathlib.Core.Path.{_≡_};
-ghost use Rattle.rle.specs.Engine.{conf};
-ghost use Rattle.times.specs.Timeline.{goOn, goBack, goTo};
-ghost use Rattle.times.specs.Kind.{opsOf};
-ghost use Rattle.times.specs.Sound.{LoopOk, GoOk, rewindOf};
-ghost use Rattle.rle_engine.specs.Kind.{chainKind};
-ghost use Rattle.rle_engine.specs.Slots.{lent};
-ghost use Rattle.rle_engine.specs.Restored.{restored, restoredBy};
-ghost use Rattle.rle_timeline.specs.Worlds.{Fits, W, replied};
+ghost use Rattle.rle.specs.Model.Engine.{conf};
+ghost use Rattle.timeline_rule.specs.Model.Timeline.{goOn, goBack, goTo};
+ghost use Rattle.timeline_rule.specs.Model.Kind.{opsOf};
+ghost use Rattle.timeline_rule.specs.Invariants.{LoopOk, GoOk, rewindOf};
+ghost use Rattle.rle_slots.specs.Model.Kind.{chainKind};
+ghost use Rattle.rle_slots.specs.Model.Slots.{lent};
+ghost use Rattle.rle_slots.specs.Model.Restored.{restored, restoredBy};
+ghost use Rattle.rle_timeline.specs.Model.{Fits, withLent, replied};
 
 impl Timeline {
     fn go_on(
@@ -31,8 +31,8 @@ impl Timeline {
         size: usize,
         target: u64,
     ) -> Answered
-        requires { ⌜ LoopOk chainKind size (Fits m (now table) size) target (W self (now ls) (now ll) (now rs) (now rl) (now store)) ⌝ }
-        ensures { λ r. ⌜ replied (r .answer) (W (r .timeline) (now (ls .exit)) (now (ll .exit)) (now (rs .exit)) (now (rl .exit)) (now (store .exit))) ≡ goOn (opsOf chainKind m (now (table .entry)) size) target (W self (now (ls .entry)) (now (ll .entry)) (now (rs .entry)) (now (rl .entry)) (now (store .entry))) ⌝ }
+        requires { ⌜ LoopOk chainKind size (Fits m (now table) size) target (withLent self (now ls) (now ll) (now rs) (now rl) (now store)) ⌝ }
+        ensures { λ r. ⌜ replied (r .answer) (withLent (r .timeline) (now (ls .exit)) (now (ll .exit)) (now (rs .exit)) (now (rl .exit)) (now (store .exit))) ≡ goOn (opsOf chainKind m (now (table .entry)) size) target (withLent self (now (ls .entry)) (now (ll .entry)) (now (rs .entry)) (now (rl .entry)) (now (store .entry))) ⌝ }
     {
         let sought = self.advance_to(m, table, ls, ll, rs, rl, store, size, target);
         let timeline = sought.timeline;
@@ -56,8 +56,8 @@ impl Timeline {
         size: usize,
         target: u64,
     ) -> Found
-        requires { ⌜ GoOk chainKind size (Fits m (now table) size) target (W self (now ls) (now ll) (now rs) (now rl) (now store)) ⌝ }
-        ensures { λ r. ⌜ restored r (lent (now (ls .exit)) (now (ll .exit)) (now (rs .exit)) (now (rl .exit))) ≡ restoredBy (rewindOf chainKind m (now (table .entry)) size target (W self (now (ls .entry)) (now (ll .entry)) (now (rs .entry)) (now (rl .entry)) (now (store .entry)))) (lent (now (ls .entry)) (now (ll .entry)) (now (rs .entry)) (now (rl .entry))) ⌝ }
+        requires { ⌜ GoOk chainKind size (Fits m (now table) size) target (withLent self (now ls) (now ll) (now rs) (now rl) (now store)) ⌝ }
+        ensures { λ r. ⌜ restored r (lent (now (ls .exit)) (now (ll .exit)) (now (rs .exit)) (now (rl .exit))) ≡ restoredBy (rewindOf chainKind m (now (table .entry)) size target (withLent self (now (ls .entry)) (now (ll .entry)) (now (rs .entry)) (now (rl .entry)) (now (store .entry)))) (lent (now (ls .entry)) (now (ll .entry)) (now (rs .entry)) (now (rl .entry))) ⌝ }
     {
         let times = self.times;
         let sim = self.engine;
@@ -80,8 +80,8 @@ impl Timeline {
         size: usize,
         target: u64,
     ) -> Answered
-        requires { ⌜ GoOk chainKind size (Fits m (now table) size) target (W self (now ls) (now ll) (now rs) (now rl) (now store)) ⌝ }
-        ensures { λ r. ⌜ replied (r .answer) (W (r .timeline) (now (ls .exit)) (now (ll .exit)) (now (rs .exit)) (now (rl .exit)) (now (store .exit))) ≡ goBack (opsOf chainKind m (now (table .entry)) size) target (W self (now (ls .entry)) (now (ll .entry)) (now (rs .entry)) (now (rl .entry)) (now (store .entry))) ⌝ }
+        requires { ⌜ GoOk chainKind size (Fits m (now table) size) target (withLent self (now ls) (now ll) (now rs) (now rl) (now store)) ⌝ }
+        ensures { λ r. ⌜ replied (r .answer) (withLent (r .timeline) (now (ls .exit)) (now (ll .exit)) (now (rs .exit)) (now (rl .exit)) (now (store .exit))) ≡ goBack (opsOf chainKind m (now (table .entry)) size) target (withLent self (now (ls .entry)) (now (ll .entry)) (now (rs .entry)) (now (rl .entry)) (now (store .entry))) ⌝ }
     {
         let times = self.times;
         let found = self.rewind(m, table, ls, ll, rs, rl, store, size, target);
@@ -111,8 +111,8 @@ impl Timeline {
         size: usize,
         target: u64,
     ) -> Answered
-        requires { ⌜ GoOk chainKind size (Fits m (now table) size) target (W self (now ls) (now ll) (now rs) (now rl) (now store)) ⌝ }
-        ensures { λ r. ⌜ replied (r .answer) (W (r .timeline) (now (ls .exit)) (now (ll .exit)) (now (rs .exit)) (now (rl .exit)) (now (store .exit))) ≡ goTo (opsOf chainKind m (now (table .entry)) size) target (W self (now (ls .entry)) (now (ll .entry)) (now (rs .entry)) (now (rl .entry)) (now (store .entry))) ⌝ }
+        requires { ⌜ GoOk chainKind size (Fits m (now table) size) target (withLent self (now ls) (now ll) (now rs) (now rl) (now store)) ⌝ }
+        ensures { λ r. ⌜ replied (r .answer) (withLent (r .timeline) (now (ls .exit)) (now (ll .exit)) (now (rs .exit)) (now (rl .exit)) (now (store .exit))) ≡ goTo (opsOf chainKind m (now (table .entry)) size) target (withLent self (now (ls .entry)) (now (ll .entry)) (now (rs .entry)) (now (rl .entry)) (now (store .entry))) ⌝ }
     {
         let sim = self.engine;
         let times = self.times;

@@ -3,19 +3,19 @@ use super::Timeline;
 use machine::Machine;
 use outcome::Outcome;
 use rle::ChainSim;
-use rle_engine::inner as engine;
-use rle_engine::inner::Advanced;
-use times::Times;
-use times::inner as sums;
+use rle_slots::inner as engine;
+use rle_slots::inner::Advanced;
+use timeline_rule::Times;
+use timeline_rule::inner as sums;
 ghost use mathlib.Core.Path.{_≡_};
-ghost use Rattle.rle.specs.Engine.{conf};
-ghost use Rattle.times.specs.Timeline.{recordDue};
-ghost use Rattle.times.specs.Kind.{opsOf};
-ghost use Rattle.slots.specs.Slots.{slotOf, putSlot};
-ghost use Rattle.times.specs.Sound.{RecOk, LoopOk, strideOf, wayOf, TurnSays, LoopInv};
-ghost use Rattle.rle_engine.specs.Slots.{packOf};
-ghost use Rattle.rle_engine.specs.Kind.{chainKind};
-ghost use Rattle.rle_timeline.specs.Worlds.{SaveAt, StrideAt, Fits, W, tl};
+ghost use Rattle.rle.specs.Model.Engine.{conf};
+ghost use Rattle.timeline_rule.specs.Model.Timeline.{recordDue};
+ghost use Rattle.timeline_rule.specs.Model.Kind.{opsOf};
+ghost use Rattle.store_bytes.specs.Model.{slotOf, putSlot};
+ghost use Rattle.timeline_rule.specs.Invariants.{RecOk, LoopOk, strideOf, wayOf, TurnSays, LoopInv};
+ghost use Rattle.rle_slots.specs.Model.Slots.{packOf};
+ghost use Rattle.rle_slots.specs.Model.Kind.{chainKind};
+ghost use Rattle.rle_timeline.specs.Model.{SaveAt, StrideAt, Fits, withLent, tl};
 
 // Where a turn came to, how its advance ended, and whether it is the last.
 pub(crate) struct Turn {
@@ -83,8 +83,8 @@ impl Timeline {
         store: &mut [u8],
         size: usize,
     ) -> Times
-        requires { ⌜ RecOk chainKind size (Fits m (now table) size) (W self (now ls) (now ll) (now rs) (now rl) (now store)) ⌝ }
-        ensures { λ r. ⌜ W (tl (self .engine) r) (now (ls .entry)) (now (ll .entry)) (now (rs .entry)) (now (rl .entry)) (now (store .exit)) ≡ recordDue (opsOf chainKind m (now (table .entry)) size) (W self (now (ls .entry)) (now (ll .entry)) (now (rs .entry)) (now (rl .entry)) (now (store .entry))) ⌝ }
+        requires { ⌜ RecOk chainKind size (Fits m (now table) size) (withLent self (now ls) (now ll) (now rs) (now rl) (now store)) ⌝ }
+        ensures { λ r. ⌜ withLent (tl (self .engine) r) (now (ls .entry)) (now (ll .entry)) (now (rs .entry)) (now (rl .entry)) (now (store .exit)) ≡ recordDue (opsOf chainKind m (now (table .entry)) size) (withLent self (now (ls .entry)) (now (ll .entry)) (now (rs .entry)) (now (rl .entry)) (now (store .entry))) ⌝ }
     {
         let sim = self.engine;
         let times = self.times;
@@ -108,8 +108,8 @@ impl Timeline {
         size: usize,
         target: u64,
     ) -> Turn
-        requires { ⌜ LoopOk chainKind size (Fits m (now table) size) target (W self (now ls) (now ll) (now rs) (now rl) (now store)) ⌝ }
-        ensures { λ r. ⌜ TurnSays chainKind m (now (table .entry)) size (Fits m (now (table .entry)) size) target (W self (now (ls .entry)) (now (ll .entry)) (now (rs .entry)) (now (rl .entry)) (now (store .entry))) (r .outcome) (r .done) (W (r .timeline) (now (ls .exit)) (now (ll .exit)) (now (rs .exit)) (now (rl .exit)) (now (store .exit))) ⌝ }
+        requires { ⌜ LoopOk chainKind size (Fits m (now table) size) target (withLent self (now ls) (now ll) (now rs) (now rl) (now store)) ⌝ }
+        ensures { λ r. ⌜ TurnSays chainKind m (now (table .entry)) size (Fits m (now (table .entry)) size) target (withLent self (now (ls .entry)) (now (ll .entry)) (now (rs .entry)) (now (rl .entry)) (now (store .entry))) (r .outcome) (r .done) (withLent (r .timeline) (now (ls .exit)) (now (ll .exit)) (now (rs .exit)) (now (rl .exit)) (now (store .exit))) ⌝ }
     {
         let sim = self.engine;
         let before = sim.steps;
@@ -155,8 +155,8 @@ impl Timeline {
         size: usize,
         target: u64,
     ) -> Sought
-        requires { ⌜ LoopOk chainKind size (Fits m (now table) size) target (W self (now ls) (now ll) (now rs) (now rl) (now store)) ⌝ }
-        ensures { λ r. ⌜ (r .outcome, W (r .timeline) (now (ls .exit)) (now (ll .exit)) (now (rs .exit)) (now (rl .exit)) (now (store .exit))) ≡ wayOf chainKind m (now (table .entry)) size target (W self (now (ls .entry)) (now (ll .entry)) (now (rs .entry)) (now (rl .entry)) (now (store .entry))) ⌝ }
+        requires { ⌜ LoopOk chainKind size (Fits m (now table) size) target (withLent self (now ls) (now ll) (now rs) (now rl) (now store)) ⌝ }
+        ensures { λ r. ⌜ (r .outcome, withLent (r .timeline) (now (ls .exit)) (now (ll .exit)) (now (rs .exit)) (now (rl .exit)) (now (store .exit))) ≡ wayOf chainKind m (now (table .entry)) size target (withLent self (now (ls .entry)) (now (ll .entry)) (now (rs .entry)) (now (rl .entry)) (now (store .entry))) ⌝ }
     {
         loop {
             let turn = self.turn(m, table, ls, ll, rs, rl, store, size, target);

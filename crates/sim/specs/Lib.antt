@@ -1,14 +1,2 @@
-pub mod Engine
-pub mod Operations
-pub mod Questions
-pub mod Turns
-pub mod Runs
-pub mod EngineCases
-pub mod TurnCases
-pub mod HotFacts
-pub mod HotSteps
-pub mod WideSteps
-pub mod RunsCases
-pub mod OperationCases
-pub mod AnswerCases
-pub mod QuestionCases
+pub mod Model
+pub mod Facts

@@ -1,13 +1,13 @@
 // What every operation on an engine tests before it begins: refusals 11, 12 and 13 after the table check.
 use super::Simulator;
-use before::inner::sizes;
 use machine::Checked;
 use machine::Machine;
 use outcome::Refusal;
+use run_checks::inner::sizes;
 use tape::Tape;
 ghost use mathlib.Core.Path.{_≡_};
-ghost use Rattle.sim.specs.Engine.{conf};
-ghost use Rattle.sim.specs.Operations.{bareSim, handBack, simFits, valueCheck, engineCheck, fuelCheck, runCheck};
+ghost use Rattle.sim.specs.Model.Engine.{conf};
+ghost use Rattle.sim.specs.Model.Operations.{bareSim, handBack, simFits, valueCheck, engineCheck, fuelCheck, runCheck};
 
 impl Simulator {
     pub fn fits(self, m: Machine, c0: &[u8], c1: &[u8], c2: &[u8]) -> bool

@@ -1,12 +1,12 @@
 // The check of a fast run.
 use super::Simulator;
-use before::inner::words;
 use machine::Checked;
 use machine::Machine;
 use outcome::Refusal;
+use run_checks::inner::words;
 ghost use mathlib.Core.Path.{_≡_};
-ghost use Rattle.sim.specs.Engine.{conf};
-ghost use Rattle.sim.specs.Operations.{fastCheck};
+ghost use Rattle.sim.specs.Model.Engine.{conf};
+ghost use Rattle.sim.specs.Model.Operations.{fastCheck};
 
 impl Simulator {
     // The table check, 7, 11, 12, 13.

@@ -2,17 +2,17 @@
 use super::Answered;
 use super::Simulator;
 use super::StopRule;
-use before::inner::look;
-use before::inner::look::Choice;
 use machine::Action;
 use machine::Checked;
 use machine::Machine;
+use run_checks::inner::look;
+use run_checks::inner::look::Choice;
 ghost use mathlib.Core.Path.{_≡_};
 ghost use Prim.Native.Nat.{_+_};
-ghost use Rattle.sim.specs.Engine.{conf, stepOf};
+ghost use Rattle.sim.specs.Model.Engine.{conf, stepOf};
 ghost use Rattle.machine.specs.declared.Checked.the-variants.{Accepted};
-ghost use Rattle.sim.specs.Operations.{given, answerOf, runCheck};
-ghost use Rattle.sim.specs.Turns.{choiceOf, LookOk, StepOk};
+ghost use Rattle.sim.specs.Model.Operations.{given, answerOf, runCheck};
+ghost use Rattle.sim.specs.Model.Turns.{choiceOf, LookOk, StepOk};
 
 impl Simulator {
     // Halted, never, fuel, space, in that order, before each step of a run.

@@ -1,17 +1,17 @@
 // The plain engine: one step at a time on dense tapes, one to three of them.
-use before::inner::sizes;
-pub use course::Answer;
-pub use course::StopRule;
 use machine::Checked;
 use machine::Machine;
 use outcome::Outcome;
 use outcome::Refusal;
 use outcome::Status;
+use run_checks::inner::sizes;
+pub use run_rules::Answer;
+pub use run_rules::StopRule;
 use symbol::State;
 use tape::Tape;
 ghost use mathlib.Core.Path.{_≡_};
-ghost use Rattle.sim.specs.Engine.{conf, statusOf};
-ghost use Rattle.sim.specs.Operations.{given, runAnswer, fastAnswer, stepGiven, stepAnswer, stepAnswerOf, made, newAnswer};
+ghost use Rattle.sim.specs.Model.Engine.{conf, statusOf};
+ghost use Rattle.sim.specs.Model.Operations.{given, runAnswer, fastAnswer, stepGiven, stepAnswer, stepAnswerOf, made, newAnswer};
 
 mod checks;
 mod fast;

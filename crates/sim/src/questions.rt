@@ -1,18 +1,18 @@
 // Questions on one tape of an engine. Each tests the table, the value and the tape's number first.
 use super::Simulator;
-pub use course::questions::Counted;
-pub use course::questions::Extent;
-pub use course::questions::Got;
-pub use course::questions::Located;
 use machine::Checked;
 use machine::Machine;
 use outcome::Refusal;
+pub use run_rules::questions::Counted;
+pub use run_rules::questions::Extent;
+pub use run_rules::questions::Got;
+pub use run_rules::questions::Located;
 use symbol::Dir;
 use symbol::Symbol;
 use tape::Tape;
 ghost use mathlib.Core.Path.{_≡_};
-ghost use Rattle.sim.specs.Engine.{conf};
-ghost use Rattle.sim.specs.Questions.{tapeAt, cellsAt, questionCheck, getAnswer, extentAnswer, countAnswer, windowInto, findAnswer};
+ghost use Rattle.sim.specs.Model.Engine.{conf};
+ghost use Rattle.sim.specs.Model.Questions.{tapeAt, cellsAt, questionCheck, getAnswer, extentAnswer, countAnswer, windowInto, findAnswer};
 
 fn cells_at<'a>(i: u64, c0: &'a [u8], c1: &'a [u8], c2: &'a [u8]) -> &'a [u8]
     ensures { λ r. ⌜ now r ≡ cellsAt i (now (c0 .entry)) (now (c1 .entry)) (now (c2 .entry)) ⌝ }

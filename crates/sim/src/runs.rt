@@ -3,24 +3,24 @@ use super::Answer;
 use super::Answered;
 use super::Simulator;
 use super::StopRule;
-use before::inner::look::Choice;
-use burst::inner::hot::Hot;
-use burst::inner::packed;
-use burst::inner::table;
 use machine::Checked;
 use machine::Machine;
 use outcome::Outcome;
-use several::inner::Wide;
+use run_checks::inner::look::Choice;
+use sim_burst::inner::packed;
+use sim_burst::inner::step::BurstState;
+use sim_burst::inner::table;
+use sim_burst_wide::inner::WideBurstState;
 use symbol::State;
 use tape::Tape;
 ghost use mathlib.Core.Path.{_≡_};
 ghost use mathlib.Core.Bool.{false};
 ghost use Prim.Native.Nat.{_+_, _-_, _≤_, _<_};
 ghost use Rattle.outcome.specs.declared.Outcome.the-variants.{Stopped};
-ghost use Rattle.sim.specs.Engine.{task, conf, end, runOf};
-ghost use Rattle.sim.specs.Operations.{given, answerOf};
-ghost use Rattle.sim.specs.Turns.{RunOk};
-ghost use Rattle.sim.specs.Runs.{Misses, WordsIf, Cleared, hotOf, into, MayIf, SprintOk, SpedOne, wideOf, intoWide, Sped};
+ghost use Rattle.sim.specs.Model.Engine.{task, conf, end, runOf};
+ghost use Rattle.sim.specs.Model.Operations.{given, answerOf};
+ghost use Rattle.sim.specs.Model.Turns.{RunOk};
+ghost use Rattle.sim.specs.Model.Bursts.{Misses, WordsIf, Cleared, burstStart, into, BurstAllowedIf, OneTapeOk, SameRunOne, wideBurstStart, intoWide, SameRun};
 
 // An engine after a run, and how the run ended.
 pub struct Ran {
@@ -61,8 +61,8 @@ fn stopped(sim: Simulator) -> Ran
 
 impl Simulator {
     // Whether a burst may run on this value.
-    fn may(self, tapes: u64) -> bool
-        ensures { λ r. ⌜ MayIf r tapes self ⌝ }
+    fn burst_allowed(self, tapes: u64) -> bool
+        ensures { λ r. ⌜ BurstAllowedIf r tapes self ⌝ }
     {
         if tapes != 1 {
             return false;
@@ -89,12 +89,12 @@ impl Simulator {
     }
 
     // Where a burst on this value starts.
-    fn hot(self, left: u64) -> Hot
-        ensures { λ r. ⌜ (r ≡ hotOf self left) × (r .state < 65536) ⌝ }
+    fn burst_start(self, left: u64) -> BurstState
+        ensures { λ r. ⌜ (r ≡ burstStart self left) × (r .state < 65536) ⌝ }
     {
         let t0 = self.t0;
         let state = self.state.0 as usize;
-        Hot {
+        BurstState {
             head: t0.head,
             low: t0.lowest,
             high: t0.highest,
@@ -104,7 +104,7 @@ impl Simulator {
     }
 
     // The value after a burst, which had `left` fuel.
-    fn after(self, at: Hot, left: u64) -> Ahead
+    fn after(self, at: BurstState, left: u64) -> Ahead
         requires { ⌜ (self .steps + left ≤ 4611686018427387904) × (at .left ≤ left) × (at .state < 65536) ⌝ }
         ensures { λ r. ⌜ (r .sim ≡ into self (self .steps + (left - at .left)) at) × (r .left ≡ at .left) ⌝ }
     {
@@ -131,7 +131,7 @@ impl Simulator {
     }
 
     // The ordinary steps on one tape, over the words where they are packed; none where no burst may run.
-    fn sprint_one(
+    fn burst_one(
         self,
         m: Machine,
         proves: bool,
@@ -142,16 +142,16 @@ impl Simulator {
         c0: &mut [u8],
         left: u64,
     ) -> Ahead
-        requires { ⌜ SprintOk m self (now c0) left ⌝ }
+        requires { ⌜ OneTapeOk m self (now c0) left ⌝ }
         requires { ⌜ WordsIf packed m (now table) (now words) ⌝ }
-        ensures { λ r. ⌜ SpedOne m (now (table .entry)) proves stop self (now (c0 .entry)) left (r .sim) (now (c0 .exit)) (r .left) ⌝ }
+        ensures { λ r. ⌜ SameRunOne m (now (table .entry)) proves stop self (now (c0 .entry)) left (r .sim) (now (c0 .exit)) (r .left) ⌝ }
     {
-        if !self.may(m.tapes) {
+        if !self.burst_allowed(m.tapes) {
             return Ahead { sim: self, left };
         }
         let k = m.symbols as usize;
         let t0 = self.t0;
-        let start = self.hot(left);
+        let start = self.burst_start(left);
         if packed {
             let at = packed::burst_words(words, c0, proves, stop, k, t0.len, start);
             return self.after(at, left);
@@ -161,13 +161,13 @@ impl Simulator {
     }
 
     // Where a burst on several tapes starts on this value.
-    fn wide(self, left: u64) -> Wide
-        ensures { λ r. ⌜ r ≡ wideOf self left ⌝ }
+    fn wide(self, left: u64) -> WideBurstState
+        ensures { λ r. ⌜ r ≡ wideBurstStart self left ⌝ }
     {
         let t0 = self.t0;
         let t1 = self.t1;
         let t2 = self.t2;
-        Wide {
+        WideBurstState {
             t0,
             t1,
             t2,
@@ -177,7 +177,7 @@ impl Simulator {
     }
 
     // The value after a burst on several tapes, which had `left` fuel.
-    fn onward(self, at: Wide, left: u64) -> Ahead
+    fn onward(self, at: WideBurstState, left: u64) -> Ahead
         requires { ⌜ (self .steps + left ≤ 4611686018427387904) × (at .left ≤ left) ⌝ }
         ensures { λ r. ⌜ (r .sim ≡ intoWide (self .steps + (left - at .left)) at) × (r .left ≡ at .left) ⌝ }
     {
@@ -197,7 +197,7 @@ impl Simulator {
     }
 
     // The ordinary steps from here.
-    fn sprint(
+    fn burst(
         self,
         m: Machine,
         stride: u64,
@@ -213,16 +213,25 @@ impl Simulator {
     ) -> Ahead
         requires { ⌜ RunOk m stride self (now c0) (now c1) (now c2) left ⌝ }
         requires { ⌜ WordsIf packed m (now table) (now words) ⌝ }
-        ensures { λ r. ⌜ Sped m (now (table .entry)) proves stop self (now (c0 .entry)) (now (c1 .entry)) (now (c2 .entry)) left (r .sim) (now (c0 .exit)) (now (c1 .exit)) (now (c2 .exit)) (r .left) ⌝ }
+        ensures { λ r. ⌜ SameRun m (now (table .entry)) proves stop self (now (c0 .entry)) (now (c1 .entry)) (now (c2 .entry)) left (r .sim) (now (c0 .exit)) (now (c1 .exit)) (now (c2 .exit)) (r .left) ⌝ }
     {
         if packed {
-            return self.sprint_one(m, proves, stop, table, true, words, c0, left);
+            return self.burst_one(m, proves, stop, table, true, words, c0, left);
         }
         if m.tapes == 1 {
-            return self.sprint_one(m, proves, stop, table, false, words, c0, left);
+            return self.burst_one(m, proves, stop, table, false, words, c0, left);
         }
         let start = self.wide(left);
-        let at = several::inner::burst_several(table, c0, c1, c2, stop, m.symbols, stride, start);
+        let at = sim_burst_wide::inner::burst_several(
+            table,
+            c0,
+            c1,
+            c2,
+            stop,
+            m.symbols,
+            stride,
+            start,
+        );
         self.onward(at, left)
     }
 
@@ -248,7 +257,7 @@ impl Simulator {
         let stop = stop_of(rule);
         let mut left = fuel;
         loop {
-            let ahead = self.sprint(
+            let ahead = self.burst(
                 m,
                 stride,
                 proves,
@@ -270,7 +279,7 @@ impl Simulator {
                 }
                 Choice::Go(a) => {
                     let next = at.advance(c0, c1, c2, a);
-                    if course::inner::matches(rule, at.state) {
+                    if run_rules::inner::matches(rule, at.state) {
                         return stopped(next);
                     }
                     self = next;

@@ -7,13 +7,13 @@ use machine::Machine;
 ghost use mathlib.Core.Path.{_≡_};
 ghost use Prim.Native.Nat.{_≤_};
 ghost use Rattle.machine.specs.declared.Checked.the-variants.{Accepted};
-ghost use Rattle.machine.specs.Check.{tableCheck};
-ghost use Rattle.sim.specs.Engine.{task, conf, end, runOf};
-ghost use Rattle.sim.specs.Turns.{RunOk};
-ghost use Rattle.sim.specs.Runs.{WordsIf, Small, SmallIf};
+ghost use Rattle.machine.specs.Model.Check.{tableCheck};
+ghost use Rattle.sim.specs.Model.Engine.{task, conf, end, runOf};
+ghost use Rattle.sim.specs.Model.Turns.{RunOk};
+ghost use Rattle.sim.specs.Model.Bursts.{WordsIf, Small, SmallIf};
 
 // Whether the packing pays: a table of one tape that is not packed yet and has at most 256 entries, and fuel enough.
-fn pays(packed: bool, m: Machine, fuel: u64) -> bool
+fn worth_packing(packed: bool, m: Machine, fuel: u64) -> bool
     requires { ⌜ (m .states ≤ 65536) × (m .symbols ≤ 256) ⌝ }
     ensures { λ r. ⌜ SmallIf r m ⌝ }
 {
@@ -87,7 +87,7 @@ impl Simulator {
         requires { ⌜ tableCheck m (now table) ≡ Accepted ⌝ }
         ensures { λ r. ⌜ end (conf (r .sim) (now (c0 .exit)) (now (c1 .exit)) (now (c2 .exit))) (r .outcome) ≡ runOf (task m (now (table .entry)) proves rule) fuel (conf self (now (c0 .entry)) (now (c1 .entry)) (now (c2 .entry))) ⌝ }
     {
-        if pays(packed, m, fuel) {
+        if worth_packing(packed, m, fuel) {
             return self.run_small(m, stride, proves, rule, table, c0, c1, c2, fuel);
         }
         self.run_bursts(

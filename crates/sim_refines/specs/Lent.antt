@@ -4,9 +4,9 @@ use mathlib.Core.List.{List}
 use Prim.Native.Nat.{ℕ, _≤_, _<_}
 use lib.ListN.{length, getD}
 use Rattle.machine.specs.declared.Machine.{Machine}
-use Rattle.tape.specs.Moves.{Held}
-use Rattle.sim.specs.Engine.{Conf, tape0, tape1, tape2}
-use Rattle.sim.specs.Operations.{Given, StepGiven}
+use Rattle.tape.specs.Model.Moves.{Held}
+use Rattle.sim.specs.Model.Engine.{Conf, tape0, tape1, tape2}
+use Rattle.sim.specs.Model.Operations.{Given, StepGiven}
 
 -- ---- "those past a call's final length stay"
 

@@ -3,13 +3,13 @@ use mathlib.Core.Path.{_≡_}
 use mathlib.Core.Bool.{Bool, true, false}
 use Prim.Native.Nat.{ℕ, _≤_, _<_, _^_}
 use lib.Dec.{ltb}
-use Rattle.laws.specs.Position.{_⊖_}
+use Rattle.notation.specs.Position.{_⊖_}
 use Rattle.machine.specs.declared.Machine.{Machine}
-use Rattle.turing.specs.TableMachine.{Tape, Config, blankTape}
-use Rattle.tape.specs.Moves.{Held, noTape}
-use Rattle.tape.specs.Questions.{cellOf}
+use Rattle.table_machine.specs.TableMachine.{Tape, Config, blankTape}
+use Rattle.tape.specs.Model.Moves.{Held, noTape}
+use Rattle.tape.specs.Model.Questions.{cellOf}
 use Rattle.tape.specs.Fits.{TapeFits}
-use Rattle.sim.specs.Engine.{Conf, tape0, tape1, tape2}
+use Rattle.sim.specs.Model.Engine.{Conf, tape0, tape1, tape2}
 
 -- ---- "An engine holds a configuration when state, steps and, on each tape, head, lowest, highest and every cell agree,
 -- cells outside its tape .. being blank."

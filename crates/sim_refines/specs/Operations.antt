@@ -9,11 +9,11 @@ use Rattle.outcome.specs.declared.Status.the-variants as Step
 use Rattle.machine.specs.declared.Machine.{Machine}
 use Rattle.machine.specs.declared.Action.{Action}
 use Rattle.machine.specs.declared.Entry.the-variants.{Defined}
-use Rattle.turing.specs.TableMachine.{entry, step, Halted}
-use Rattle.turing.specs.Tables.{tableOf}
-use Rattle.course.specs.declared.StopRule.{StopRule}
-use Rattle.sim.specs.Engine.{Conf, task, end, roomyOf}
-use Rattle.sim.specs.Operations.{bareOf, simFits}
+use Rattle.table_machine.specs.TableMachine.{entry, step, Halted}
+use Rattle.table_machine.specs.Tables.{tableOf}
+use Rattle.run_rules.specs.declared.StopRule.{StopRule}
+use Rattle.sim.specs.Model.Engine.{Conf, task, end, roomyOf}
+use Rattle.sim.specs.Model.Operations.{bareOf, simFits}
 use Rattle.sim_refines.specs.Meaning.{configOf}
 use Rattle.sim_refines.specs.Statement.{Refines}
 

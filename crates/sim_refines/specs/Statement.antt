@@ -11,14 +11,14 @@ use Rattle.machine.specs.declared.Machine.{Machine}
 use Rattle.machine.specs.declared.Action.{Action}
 use Rattle.machine.specs.declared.Entry.the-variants.{Defined}
 use Rattle.machine.specs.declared.Checked.the-variants.{Accepted}
-use Rattle.machine.specs.Check.{tableCheck}
-use Rattle.tables.specs.WellFormed.{Bytes}
-use Rattle.turing.specs.TableMachine.{Config, entry, run, Halted, haltedAt, outOfFuelAt}
-pub use Rattle.turing.specs.Beside.{tableIn, Judged, Unproved, hasRule}
-use Rattle.course.specs.declared.StopRule.{StopRule}
-use Rattle.before.specs.declared.inner.look.Look.{Look}
-use Rattle.before.specs.declared.inner.look.Look.the-variants.{Halt, Never, Go}
-use Rattle.sim.specs.Engine.{Task, task, Conf, End, roomyOf, runOf}
+use Rattle.machine.specs.Model.Check.{tableCheck}
+use Rattle.table_laws.specs.WellFormed.{Bytes}
+use Rattle.table_machine.specs.TableMachine.{Config, entry, run, Halted, haltedAt, outOfFuelAt}
+pub use Rattle.table_machine.specs.Beside.{tableIn, Judged, Unproved, hasRule}
+use Rattle.run_rules.specs.declared.StopRule.{StopRule}
+use Rattle.run_checks.specs.declared.inner.look.Look.{Look}
+use Rattle.run_checks.specs.declared.inner.look.Look.the-variants.{Halt, Never, Go}
+use Rattle.sim.specs.Model.Engine.{Task, task, Conf, End, roomyOf, runOf}
 use Rattle.sim_refines.specs.Meaning.{configOf, EngineFits}
 
 -- ---- the table machine beside the engine

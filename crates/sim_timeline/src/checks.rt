@@ -3,14 +3,14 @@ use super::Timeline;
 use machine::Checked;
 use machine::Machine;
 use sim::Simulator;
-use sim_engine::inner as engine;
-use times::inner as sums;
+use sim_slots::inner as engine;
+use timeline_rule::inner as sums;
 ghost use mathlib.Core.Path.{_≡_};
-ghost use Rattle.sim.specs.Engine.{conf};
-ghost use Rattle.times.specs.Timeline.{callCheck, newCheck};
-ghost use Rattle.times.specs.Kind.{opsFor};
-ghost use Rattle.sim_engine.specs.Kind.{plainKind};
-ghost use Rattle.sim_timeline.specs.Worlds.{W};
+ghost use Rattle.sim.specs.Model.Engine.{conf};
+ghost use Rattle.timeline_rule.specs.Model.Timeline.{callCheck, newCheck};
+ghost use Rattle.timeline_rule.specs.Model.Kind.{opsFor};
+ghost use Rattle.sim_slots.specs.Model.Kind.{plainKind};
+ghost use Rattle.sim_timeline.specs.Model.{withLent};
 
 pub(crate) fn new_check(
     sim: Simulator,
@@ -48,7 +48,7 @@ impl Timeline {
         store: &[u8],
         target: u64,
     ) -> Checked
-        ensures { λ r. ⌜ r ≡ callCheck (opsFor plainKind m (now (table .entry)) (conf (self .engine) (now (c0 .entry)) (now (c1 .entry)) (now (c2 .entry)))) (W self (now (c0 .entry)) (now (c1 .entry)) (now (c2 .entry)) (now (store .entry))) target ⌝ }
+        ensures { λ r. ⌜ r ≡ callCheck (opsFor plainKind m (now (table .entry)) (conf (self .engine) (now (c0 .entry)) (now (c1 .entry)) (now (c2 .entry)))) (withLent self (now (c0 .entry)) (now (c1 .entry)) (now (c2 .entry)) (now (store .entry))) target ⌝ }
     {
         let sim = self.engine;
         let times = self.times;

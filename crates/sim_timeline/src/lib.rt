@@ -4,15 +4,15 @@ use machine::Machine;
 use outcome::Refusal;
 use sim::Answer;
 use sim::Simulator;
-use sim_engine::inner as engine;
-use times::Times;
-use times::inner as sums;
+use sim_slots::inner as engine;
+use timeline_rule::Times;
+use timeline_rule::inner as sums;
 ghost use mathlib.Core.Path.{_≡_};
-ghost use Rattle.sim.specs.Engine.{conf};
-ghost use Rattle.times.specs.Timeline.{seek, forward, back, callFor};
-ghost use Rattle.times.specs.Kind.{callOn, newWith};
-ghost use Rattle.sim_engine.specs.Kind.{plainKind};
-ghost use Rattle.sim_timeline.specs.Worlds.{W, replied, begun};
+ghost use Rattle.sim.specs.Model.Engine.{conf};
+ghost use Rattle.timeline_rule.specs.Model.Timeline.{seek, forward, back, callFor};
+ghost use Rattle.timeline_rule.specs.Model.Kind.{callOn, newWith};
+ghost use Rattle.sim_slots.specs.Model.Kind.{plainKind};
+ghost use Rattle.sim_timeline.specs.Model.{withLent, replied, begun};
 
 mod checks;
 mod moves;
@@ -83,7 +83,7 @@ impl Timeline {
         store: &mut [u8],
         target: u64,
     ) -> Answered
-        ensures { λ r. ⌜ replied (r .answer) (W (r .timeline) (now (c0 .exit)) (now (c1 .exit)) (now (c2 .exit)) (now (store .exit))) ≡ callOn plainKind m (now (table .entry)) (W self (now (c0 .entry)) (now (c1 .entry)) (now (c2 .entry)) (now (store .entry))) (seek target) ⌝ }
+        ensures { λ r. ⌜ replied (r .answer) (withLent (r .timeline) (now (c0 .exit)) (now (c1 .exit)) (now (c2 .exit)) (now (store .exit))) ≡ callOn plainKind m (now (table .entry)) (withLent self (now (c0 .entry)) (now (c1 .entry)) (now (c2 .entry)) (now (store .entry))) (seek target) ⌝ }
     {
         let checked = self.call_check(m, table, c0, c1, c2, store, target);
         match checked {
@@ -113,7 +113,7 @@ impl Timeline {
         store: &mut [u8],
         n: u64,
     ) -> Answered
-        ensures { λ r. ⌜ replied (r .answer) (W (r .timeline) (now (c0 .exit)) (now (c1 .exit)) (now (c2 .exit)) (now (store .exit))) ≡ callOn plainKind m (now (table .entry)) (W self (now (c0 .entry)) (now (c1 .entry)) (now (c2 .entry)) (now (store .entry))) (forward n) ⌝ }
+        ensures { λ r. ⌜ replied (r .answer) (withLent (r .timeline) (now (c0 .exit)) (now (c1 .exit)) (now (c2 .exit)) (now (store .exit))) ≡ callOn plainKind m (now (table .entry)) (withLent self (now (c0 .entry)) (now (c1 .entry)) (now (c2 .entry)) (now (store .entry))) (forward n) ⌝ }
     {
         let sim = self.engine;
         let target = sums::forward_to(sim.steps, n);
@@ -131,7 +131,7 @@ impl Timeline {
         store: &mut [u8],
         n: u64,
     ) -> Answered
-        ensures { λ r. ⌜ replied (r .answer) (W (r .timeline) (now (c0 .exit)) (now (c1 .exit)) (now (c2 .exit)) (now (store .exit))) ≡ callOn plainKind m (now (table .entry)) (W self (now (c0 .entry)) (now (c1 .entry)) (now (c2 .entry)) (now (store .entry))) (back n) ⌝ }
+        ensures { λ r. ⌜ replied (r .answer) (withLent (r .timeline) (now (c0 .exit)) (now (c1 .exit)) (now (c2 .exit)) (now (store .exit))) ≡ callOn plainKind m (now (table .entry)) (withLent self (now (c0 .entry)) (now (c1 .entry)) (now (c2 .entry)) (now (store .entry))) (back n) ⌝ }
     {
         let sim = self.engine;
         let target = sums::back_to(sim.steps, n);
@@ -150,7 +150,7 @@ impl Timeline {
         which: u64,
         number: u64,
     ) -> Answered
-        ensures { λ r. ⌜ replied (r .answer) (W (r .timeline) (now (c0 .exit)) (now (c1 .exit)) (now (c2 .exit)) (now (store .exit))) ≡ callOn plainKind m (now (table .entry)) (W self (now (c0 .entry)) (now (c1 .entry)) (now (c2 .entry)) (now (store .entry))) (callFor which number) ⌝ }
+        ensures { λ r. ⌜ replied (r .answer) (withLent (r .timeline) (now (c0 .exit)) (now (c1 .exit)) (now (c2 .exit)) (now (store .exit))) ≡ callOn plainKind m (now (table .entry)) (withLent self (now (c0 .entry)) (now (c1 .entry)) (now (c2 .entry)) (now (store .entry))) (callFor which number) ⌝ }
     {
         let sim = self.engine;
         let target = sums::target_of(which, sim.steps, number);

@@ -4,18 +4,18 @@ use super::Timeline;
 use machine::Machine;
 use outcome::Refusal;
 use sim::Answer;
-use sim_engine::inner as engine;
-use sim_engine::inner::Found;
-use times::Times;
-use times::inner as sums;
+use sim_slots::inner as engine;
+use sim_slots::inner::Found;
+use timeline_rule::Times;
+use timeline_rule::inner as sums;
 ghost use mathlib.Core.Path.{_≡_};
-ghost use Rattle.sim.specs.Engine.{conf};
-ghost use Rattle.times.specs.Timeline.{goOn, goBack, goTo};
-ghost use Rattle.times.specs.Kind.{opsOf};
-ghost use Rattle.times.specs.Sound.{LoopOk, GoOk, rewindOf};
-ghost use Rattle.sim_engine.specs.Kind.{plainKind};
-ghost use Rattle.sim_engine.specs.Code.{restored, restoredOn};
-ghost use Rattle.sim_timeline.specs.Worlds.{Fits, W, replied};
+ghost use Rattle.sim.specs.Model.Engine.{conf};
+ghost use Rattle.timeline_rule.specs.Model.Timeline.{goOn, goBack, goTo};
+ghost use Rattle.timeline_rule.specs.Model.Kind.{opsOf};
+ghost use Rattle.timeline_rule.specs.Invariants.{LoopOk, GoOk, rewindOf};
+ghost use Rattle.sim_slots.specs.Model.Kind.{plainKind};
+ghost use Rattle.sim_slots.specs.Invariants.{restored, restoredOn};
+ghost use Rattle.sim_timeline.specs.Model.{Fits, withLent, replied};
 
 impl Timeline {
     fn go_on(
@@ -29,8 +29,8 @@ impl Timeline {
         size: usize,
         target: u64,
     ) -> Answered
-        requires { ⌜ LoopOk plainKind size (Fits m (now table) size) target (W self (now c0) (now c1) (now c2) (now store)) ⌝ }
-        ensures { λ r. ⌜ replied (r .answer) (W (r .timeline) (now (c0 .exit)) (now (c1 .exit)) (now (c2 .exit)) (now (store .exit))) ≡ goOn (opsOf plainKind m (now (table .entry)) size) target (W self (now (c0 .entry)) (now (c1 .entry)) (now (c2 .entry)) (now (store .entry))) ⌝ }
+        requires { ⌜ LoopOk plainKind size (Fits m (now table) size) target (withLent self (now c0) (now c1) (now c2) (now store)) ⌝ }
+        ensures { λ r. ⌜ replied (r .answer) (withLent (r .timeline) (now (c0 .exit)) (now (c1 .exit)) (now (c2 .exit)) (now (store .exit))) ≡ goOn (opsOf plainKind m (now (table .entry)) size) target (withLent self (now (c0 .entry)) (now (c1 .entry)) (now (c2 .entry)) (now (store .entry))) ⌝ }
     {
         let sought = self.advance_to(m, table, c0, c1, c2, store, size, target);
         let timeline = sought.timeline;
@@ -53,8 +53,8 @@ impl Timeline {
         size: usize,
         target: u64,
     ) -> Found
-        requires { ⌜ GoOk plainKind size (Fits m (now table) size) target (W self (now c0) (now c1) (now c2) (now store)) ⌝ }
-        ensures { λ r. ⌜ restored r (now (c0 .exit)) (now (c1 .exit)) (now (c2 .exit)) ≡ restoredOn (rewindOf plainKind m (now (table .entry)) size target (W self (now (c0 .entry)) (now (c1 .entry)) (now (c2 .entry)) (now (store .entry)))) (conf (self .engine) (now (c0 .entry)) (now (c1 .entry)) (now (c2 .entry))) ⌝ }
+        requires { ⌜ GoOk plainKind size (Fits m (now table) size) target (withLent self (now c0) (now c1) (now c2) (now store)) ⌝ }
+        ensures { λ r. ⌜ restored r (now (c0 .exit)) (now (c1 .exit)) (now (c2 .exit)) ≡ restoredOn (rewindOf plainKind m (now (table .entry)) size target (withLent self (now (c0 .entry)) (now (c1 .entry)) (now (c2 .entry)) (now (store .entry)))) (conf (self .engine) (now (c0 .entry)) (now (c1 .entry)) (now (c2 .entry))) ⌝ }
     {
         let times = self.times;
         let sim = self.engine;
@@ -76,8 +76,8 @@ impl Timeline {
         size: usize,
         target: u64,
     ) -> Answered
-        requires { ⌜ GoOk plainKind size (Fits m (now table) size) target (W self (now c0) (now c1) (now c2) (now store)) ⌝ }
-        ensures { λ r. ⌜ replied (r .answer) (W (r .timeline) (now (c0 .exit)) (now (c1 .exit)) (now (c2 .exit)) (now (store .exit))) ≡ goBack (opsOf plainKind m (now (table .entry)) size) target (W self (now (c0 .entry)) (now (c1 .entry)) (now (c2 .entry)) (now (store .entry))) ⌝ }
+        requires { ⌜ GoOk plainKind size (Fits m (now table) size) target (withLent self (now c0) (now c1) (now c2) (now store)) ⌝ }
+        ensures { λ r. ⌜ replied (r .answer) (withLent (r .timeline) (now (c0 .exit)) (now (c1 .exit)) (now (c2 .exit)) (now (store .exit))) ≡ goBack (opsOf plainKind m (now (table .entry)) size) target (withLent self (now (c0 .entry)) (now (c1 .entry)) (now (c2 .entry)) (now (store .entry))) ⌝ }
     {
         let times = self.times;
         let found = self.rewind(m, table, c0, c1, c2, store, size, target);
@@ -106,8 +106,8 @@ impl Timeline {
         size: usize,
         target: u64,
     ) -> Answered
-        requires { ⌜ GoOk plainKind size (Fits m (now table) size) target (W self (now c0) (now c1) (now c2) (now store)) ⌝ }
-        ensures { λ r. ⌜ replied (r .answer) (W (r .timeline) (now (c0 .exit)) (now (c1 .exit)) (now (c2 .exit)) (now (store .exit))) ≡ goTo (opsOf plainKind m (now (table .entry)) size) target (W self (now (c0 .entry)) (now (c1 .entry)) (now (c2 .entry)) (now (store .entry))) ⌝ }
+        requires { ⌜ GoOk plainKind size (Fits m (now table) size) target (withLent self (now c0) (now c1) (now c2) (now store)) ⌝ }
+        ensures { λ r. ⌜ replied (r .answer) (withLent (r .timeline) (now (c0 .exit)) (now (c1 .exit)) (now (c2 .exit)) (now (store .exit))) ≡ goTo (opsOf plainKind m (now (table .entry)) size) target (withLent self (now (c0 .entry)) (now (c1 .entry)) (now (c2 .entry)) (now (store .entry))) ⌝ }
     {
         let sim = self.engine;
         let times = self.times;

@@ -3,19 +3,19 @@ use super::Timeline;
 use machine::Machine;
 use outcome::Outcome;
 use sim::Simulator;
-use sim_engine::inner as engine;
-use sim_engine::inner::Advanced;
-use times::Times;
-use times::inner as sums;
+use sim_slots::inner as engine;
+use sim_slots::inner::Advanced;
+use timeline_rule::Times;
+use timeline_rule::inner as sums;
 ghost use mathlib.Core.Path.{_≡_};
-ghost use Rattle.sim.specs.Engine.{conf};
-ghost use Rattle.times.specs.Timeline.{recordDue};
-ghost use Rattle.times.specs.Kind.{opsOf};
-ghost use Rattle.slots.specs.Slots.{slotOf, putSlot};
-ghost use Rattle.times.specs.Sound.{RecOk, LoopOk, strideOf, wayOf, TurnSays, LoopInv};
-ghost use Rattle.sim_engine.specs.Slots.{packOf};
-ghost use Rattle.sim_engine.specs.Kind.{plainKind};
-ghost use Rattle.sim_timeline.specs.Worlds.{SaveAt, StrideAt, Fits, W, tl};
+ghost use Rattle.sim.specs.Model.Engine.{conf};
+ghost use Rattle.timeline_rule.specs.Model.Timeline.{recordDue};
+ghost use Rattle.timeline_rule.specs.Model.Kind.{opsOf};
+ghost use Rattle.store_bytes.specs.Model.{slotOf, putSlot};
+ghost use Rattle.timeline_rule.specs.Invariants.{RecOk, LoopOk, strideOf, wayOf, TurnSays, LoopInv};
+ghost use Rattle.sim_slots.specs.Model.Slots.{packOf};
+ghost use Rattle.sim_slots.specs.Model.Kind.{plainKind};
+ghost use Rattle.sim_timeline.specs.Model.{SaveAt, StrideAt, Fits, withLent, tl};
 
 // Where a turn came to, how its advance ended, and whether it is the last.
 pub(crate) struct Turn {
@@ -80,8 +80,8 @@ impl Timeline {
         store: &mut [u8],
         size: usize,
     ) -> Times
-        requires { ⌜ RecOk plainKind size (Fits m (now table) size) (W self (now c0) (now c1) (now c2) (now store)) ⌝ }
-        ensures { λ r. ⌜ W (tl (self .engine) r) (now (c0 .entry)) (now (c1 .entry)) (now (c2 .entry)) (now (store .exit)) ≡ recordDue (opsOf plainKind m (now (table .entry)) size) (W self (now (c0 .entry)) (now (c1 .entry)) (now (c2 .entry)) (now (store .entry))) ⌝ }
+        requires { ⌜ RecOk plainKind size (Fits m (now table) size) (withLent self (now c0) (now c1) (now c2) (now store)) ⌝ }
+        ensures { λ r. ⌜ withLent (tl (self .engine) r) (now (c0 .entry)) (now (c1 .entry)) (now (c2 .entry)) (now (store .exit)) ≡ recordDue (opsOf plainKind m (now (table .entry)) size) (withLent self (now (c0 .entry)) (now (c1 .entry)) (now (c2 .entry)) (now (store .entry))) ⌝ }
     {
         let sim = self.engine;
         let times = self.times;
@@ -104,8 +104,8 @@ impl Timeline {
         size: usize,
         target: u64,
     ) -> Turn
-        requires { ⌜ LoopOk plainKind size (Fits m (now table) size) target (W self (now c0) (now c1) (now c2) (now store)) ⌝ }
-        ensures { λ r. ⌜ TurnSays plainKind m (now (table .entry)) size (Fits m (now (table .entry)) size) target (W self (now (c0 .entry)) (now (c1 .entry)) (now (c2 .entry)) (now (store .entry))) (r .outcome) (r .done) (W (r .timeline) (now (c0 .exit)) (now (c1 .exit)) (now (c2 .exit)) (now (store .exit))) ⌝ }
+        requires { ⌜ LoopOk plainKind size (Fits m (now table) size) target (withLent self (now c0) (now c1) (now c2) (now store)) ⌝ }
+        ensures { λ r. ⌜ TurnSays plainKind m (now (table .entry)) size (Fits m (now (table .entry)) size) target (withLent self (now (c0 .entry)) (now (c1 .entry)) (now (c2 .entry)) (now (store .entry))) (r .outcome) (r .done) (withLent (r .timeline) (now (c0 .exit)) (now (c1 .exit)) (now (c2 .exit)) (now (store .exit))) ⌝ }
     {
         let sim = self.engine;
         let before = sim.steps;
@@ -150,8 +150,8 @@ impl Timeline {
         size: usize,
         target: u64,
     ) -> Sought
-        requires { ⌜ LoopOk plainKind size (Fits m (now table) size) target (W self (now c0) (now c1) (now c2) (now store)) ⌝ }
-        ensures { λ r. ⌜ (r .outcome, W (r .timeline) (now (c0 .exit)) (now (c1 .exit)) (now (c2 .exit)) (now (store .exit))) ≡ wayOf plainKind m (now (table .entry)) size target (W self (now (c0 .entry)) (now (c1 .entry)) (now (c2 .entry)) (now (store .entry))) ⌝ }
+        requires { ⌜ LoopOk plainKind size (Fits m (now table) size) target (withLent self (now c0) (now c1) (now c2) (now store)) ⌝ }
+        ensures { λ r. ⌜ (r .outcome, withLent (r .timeline) (now (c0 .exit)) (now (c1 .exit)) (now (c2 .exit)) (now (store .exit))) ≡ wayOf plainKind m (now (table .entry)) size target (withLent self (now (c0 .entry)) (now (c1 .entry)) (now (c2 .entry)) (now (store .entry))) ⌝ }
     {
         loop {
             let turn = self.turn(m, table, c0, c1, c2, store, size, target);

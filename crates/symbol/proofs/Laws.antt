@@ -9,9 +9,9 @@ use lib.IntN.{ℤ, pos, negsuc, _-ℤ_, natAbs}
 use lib.Signed.{nonNeg, leZ}
 use mir.Syntax.{w64}
 use mir.Val.{Fits, SFits}
-use Rattle.laws.specs.Position.{up, dn, _⊖_}
-use Rattle.laws.specs.PositionFacts.{ints, diff-⊖}
-use Rattle.laws.specs.Tests.{clash}
+use Rattle.notation.specs.Position.{up, dn, _⊖_}
+use Rattle.notation.specs.Facts.Position.{ints, diff-⊖}
+use Rattle.notation.specs.Facts.Tests.{clash}
 
 -- what the test of a signed number against 0 says of it, and of what the code makes of it then: z itself, or −1 − z
 pub record Up (z : ℤ) : Type 0 where

@@ -1,4 +1,3 @@
 pub mod Kinds
-pub mod Places
-pub mod PlaceFacts
-pub mod FoundFacts
+pub mod Model
+pub mod Facts

@@ -2,8 +2,8 @@
 // lent buffer, and positions raised by 2^63. These are the only functions that look into a signed number.
 ghost use mathlib.Core.Path.{_≡_};
 ghost use Prim.Native.Nat.{_+_, _^_};
-ghost use Rattle.laws.specs.Position.{_⊖_, up, dn};
-ghost use Rattle.symbol.specs.Places.{raisedOf, indexOf, indexOfRaised};
+ghost use Rattle.notation.specs.Position.{_⊖_, up, dn};
+ghost use Rattle.symbol.specs.Model.{raisedOf, indexOf, indexOfRaised};
 
 // An index into a buffer, where there is one.
 pub enum Found {

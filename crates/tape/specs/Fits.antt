@@ -4,11 +4,11 @@ use mathlib.Core.List.{List}
 use Prim.Native.Nat.{ℕ, _≤_, _<_}
 use lib.Dec.{ltb, leb}
 use lib.ListN.{length, getD}
-use Rattle.laws.specs.Choice.{both}
-use Rattle.laws.specs.Scan.{allIn}
+use Rattle.notation.specs.Choice.{both}
+use Rattle.notation.specs.Scan.{allIn}
 use Rattle.symbol.specs.Kinds.{symbolIn}
 use Rattle.tape.specs.declared.Tape.{Tape}
-pub use Rattle.cells.specs.Loops.{reach}
+pub use Rattle.tape_cells.specs.Model.{reach}
 
 -- "length from 32 to the buffer's, head and origin below it, lowest ≤ head ≤ highest, all inside"
 abbrev pub shapeFits : Tape → (cap : ℕ) → Bool

@@ -1,2 +1,2 @@
 -- How many cells a growth adds. Definitions only.
-unfoldable pub use Rattle.cells.specs.Growth.{extra}
+unfoldable pub use Rattle.tape_cells.specs.Growth.{extra}

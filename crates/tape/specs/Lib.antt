@@ -1,13 +1,5 @@
 pub mod Growth
-pub mod Moves
+pub mod Model
 pub mod Fits
-pub mod Questions
 pub mod Answers
-pub mod GrowthFacts
-pub mod FitFacts
-pub mod CellFacts
-pub mod CellPlaces
-pub mod MoveCases
-pub mod MoveFacts
-pub mod QuestionCases
-pub mod AnswerFacts
+pub mod Facts

@@ -2,18 +2,18 @@
 use super::Span;
 use super::Spot;
 use super::Tape;
-use cells::inner as loops;
 use symbol::Dir;
 use symbol::position;
 use symbol::position::Found;
-use views::inner as shown;
+use tape_cells::inner as loops;
+use tape_positions::inner as shown;
 ghost use mathlib.Core.Path.{_≡_};
 ghost use mathlib.Core.Bool.{true, false};
 ghost use Prim.Native.Nat.{_+_, _≤_};
 ghost use lib.ListN.{length};
-ghost use Rattle.tape.specs.Moves.{held, freshOf, readOf, leaves, roomFor, growOf, shiftOf, actOf};
+ghost use Rattle.tape.specs.Model.Moves.{held, freshOf, readOf, leaves, roomFor, growOf, shiftOf, actOf};
 ghost use Rattle.tape.specs.Fits.{TapeOk, shapeFits, tapeFits, reach};
-ghost use Rattle.tape.specs.Questions.{blankBeyond, cellAt, spanOf, spotOf, nonBlankOf, countOf, windowOf, findOf};
+ghost use Rattle.tape.specs.Model.Questions.{blankBeyond, cellAt, spanOf, spotOf, nonBlankOf, countOf, windowOf, findOf};
 
 // A tape that holds a word from position 0 on.
 pub fn fresh(cells: &mut [u8], word: &[u8]) -> Tape

@@ -1,4 +1,4 @@
-use Rattle.alphabet.specs.EncodeCases.{allowed-missing, allowed-blank, allowed-input}
+use Rattle.alphabet.specs.Facts.EncodeCases.{allowed-missing, allowed-blank, allowed-input}
 use borrow.Author.Needs.{needs}
 use Rattle.alphabet.proofs.allowed.Statement.{statement}
 use Rattle.alphabet.proofs.allowed.Tie as tie

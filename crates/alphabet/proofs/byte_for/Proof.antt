@@ -1,4 +1,4 @@
-use Rattle.alphabet.specs.EncodeCases.{byte-missing, byte-found}
+use Rattle.alphabet.specs.Facts.EncodeCases.{byte-missing, byte-found}
 use borrow.Author.Needs.{needs}
 use Rattle.alphabet.proofs.byte_for.Statement.{statement}
 use Rattle.alphabet.proofs.byte_for.Tie as tie

@@ -1,7 +1,7 @@
 use borrow.Author.Needs.{needs}
-use Rattle.alphabet.specs.EncodeCases.{glyph-over, glyph-next, glyphs-end}
-use Rattle.alphabet.specs.Encode.{allowedAt}
-use Rattle.laws.specs.Scan.{firstFail}
+use Rattle.alphabet.specs.Facts.EncodeCases.{glyph-over, glyph-next, glyphs-end}
+use Rattle.alphabet.specs.Model.{allowedAt}
+use Rattle.notation.specs.Scan.{firstFail}
 use lib.ListN.{length}
 use native.Mathlib.Nat.{sub-zero}
 use mathlib.Core.Path.{_≡_}

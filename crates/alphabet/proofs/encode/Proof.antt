@@ -1,4 +1,4 @@
-use Rattle.alphabet.specs.EncodeCases.{encodes-refused, encodes-short, encodes-whole}
+use Rattle.alphabet.specs.Facts.EncodeCases.{encodes-refused, encodes-short, encodes-whole}
 use borrow.Author.Needs.{needs}
 use Rattle.alphabet.proofs.encode.Statement.{statement}
 use Rattle.alphabet.proofs.encode.Tie as tie

@@ -1,5 +1,5 @@
 use borrow.Author.Needs.{needs}
-use Rattle.alphabet.specs.EncodeCases.{input-unset, input-flag}
+use Rattle.alphabet.specs.Facts.EncodeCases.{input-unset, input-flag}
 use Rattle.alphabet.proofs.is_input.Statement.{statement}
 use Rattle.alphabet.proofs.is_input.Tie as tie
 

@@ -1,7 +1,7 @@
 use borrow.Author.Needs.{needs}
-use Rattle.alphabet.specs.EncodeCases.{symbol-found, symbol-next, symbol-missing}
-use Rattle.alphabet.specs.Encode.{differs}
-use Rattle.laws.specs.Scan.{firstFail}
+use Rattle.alphabet.specs.Facts.EncodeCases.{symbol-found, symbol-next, symbol-missing}
+use Rattle.alphabet.specs.Model.{differs}
+use Rattle.notation.specs.Scan.{firstFail}
 use lib.ListN.{length}
 use native.Mathlib.Nat.{sub-zero}
 use native.Mathlib.Omega.{arith}

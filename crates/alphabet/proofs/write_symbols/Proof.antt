@@ -1,8 +1,8 @@
 use borrow.Author.Needs.{needs}
-use Rattle.alphabet.specs.EncodeCases.{write-turn}
-use Rattle.alphabet.specs.Encode.{byteAt}
-use Rattle.laws.specs.Fill.{fillFrom}
-use Rattle.laws.specs.FillFacts.{fill-end}
+use Rattle.alphabet.specs.Facts.EncodeCases.{write-turn}
+use Rattle.alphabet.specs.Model.{byteAt}
+use Rattle.notation.specs.Fill.{fillFrom}
+use Rattle.notation.specs.Facts.Fill.{fill-end}
 use native.Mathlib.Omega.{arith}
 use lib.ListN.{length, length-set}
 use native.Mathlib.Nat.{sub-zero}

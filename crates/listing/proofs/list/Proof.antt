@@ -1,6 +1,6 @@
 use native.Mathlib.Omega.{arith}
-use Rattle.text.specs.PrintCases.{wrote-long}
-use Rattle.listing.specs.OutputCases.{list-short, list-long}
+use Rattle.listing_text.specs.Facts.PrintCases.{wrote-long}
+use Rattle.listing.specs.Facts.OutputCases.{list-short, list-long}
 use borrow.Author.Needs.{needs}
 use Rattle.listing.proofs.list.Statement.{statement}
 use Rattle.listing.proofs.list.Tie as tie

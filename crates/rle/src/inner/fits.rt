@@ -1,7 +1,7 @@
 // The parts of the test whether an engine's value fits that look at the value alone.
 use super::super::ChainSim;
-use before::inner::sizes;
 use machine::Machine;
+use run_checks::inner::sizes;
 ghost use mathlib.Core.Path.{_≡_};
 ghost use Prim.Native.Nat.{_+_, _≤_};
 ghost use Rattle.rle.specs.Fits.{headFits, reachFits, countsFit};

@@ -1,6 +1,6 @@
 use mathlib.Core.Path.{sym}
 use lib.Seq.{length-take-le}
-use Rattle.listing.specs.OutputCases.{printed-in}
+use Rattle.listing.specs.Facts.OutputCases.{printed-in}
 use borrow.Author.Needs.{needs}
 use Rattle.seekrun.proofs.answer.Statement.{statement}
 use Rattle.seekrun.proofs.answer.Tie as tie

@@ -1,4 +1,4 @@
-use Rattle.sim.specs.AnswerCases.{answer-refused, answer-done}
+use Rattle.sim.specs.Facts.AnswerCases.{answer-refused, answer-done}
 use borrow.Author.Needs.{needs}
 use Rattle.sim.proofs.step_answer.Statement.{statement}
 use Rattle.sim.proofs.step_answer.Tie as tie

@@ -1,4 +1,4 @@
-use Rattle.capi.specs.ChainFacts.{chain-made, chain-turned}
+use Rattle.capi.specs.Facts.Chains.{chain-made, chain-turned}
 use borrow.Author.Needs.{needs}
 use Rattle.capi.proofs.chain.tm_chain_new.Statement.{statement}
 use Rattle.capi.proofs.chain.tm_chain_new.Tie as tie

@@ -1,4 +1,4 @@
-use Rattle.capi.specs.ChainFacts.{chain-ran}
+use Rattle.capi.specs.Facts.Chains.{chain-ran}
 use borrow.Author.Needs.{needs}
 use Rattle.capi.proofs.chain.tm_chain_run.Statement.{statement}
 use Rattle.capi.proofs.chain.tm_chain_run.Tie as tie
@@ -18,8 +18,8 @@ run-requires c κs = search needs
 put-chain-requires : tie.Need-put-chain-requires
 put-chain-requires c κs = search needs
 
-tell-answer-requires : tie.Need-tell-answer-requires
-tell-answer-requires c κs = search needs
+put-answer-requires : tie.Need-put-answer-requires
+put-answer-requires c κs = search needs
 
 same-length : tie.Need-same-length
 same-length c = search needs
@@ -36,7 +36,7 @@ same-length-4 c = search needs
 returns : tie.Need-returns
 returns c =
     rw (← c .before .before .before .before .before .before .before .before .before .before .before .before .before .before .before .before .before .before .before .before .before .before .before .machine-of .ensures, ← c .before .before .before .before .before .before .before .before .before .before .before .before .before .before .before .before .before .before .before .chain-of .ensures, ← c .before .before .before .before .before .before .before .before .before .before .before .before .before .before .before .before .before .before .rule-of .ensures)
-    (chain-ran _ _ _ _ _ _ _ _ _ _ _ _ (c .before .before .put-chain .ensures) (c .before .before .before .before .before .before .before .before .before .before .before .before .before .run .ensures) (c .tell-answer .ensures .0) (c .tell-answer .ensures .1))
+    (chain-ran _ _ _ _ _ _ _ _ _ _ _ _ (c .before .before .put-chain .ensures) (c .before .before .before .before .before .before .before .before .before .before .before .before .before .run .ensures) (c .put-answer .ensures .0) (c .put-answer .ensures .1))
 
 pub tm-chain-run-spec : {M : Type 1} → statement M
 tm-chain-run-spec =
@@ -47,7 +47,7 @@ tm-chain-run-spec =
     rule-of-requires
     run-requires
     put-chain-requires
-    tell-answer-requires
+    put-answer-requires
     same-length
     same-length-2
     same-length-3

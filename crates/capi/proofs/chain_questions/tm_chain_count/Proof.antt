@@ -11,11 +11,11 @@ chain-of-requires c κs = search needs
 count-non-blank-requires : tie.Need-count-non-blank-requires
 count-non-blank-requires c κs = search needs
 
-tell-counted-requires : tie.Need-tell-counted-requires
-tell-counted-requires c κs = search needs
+put-counted-requires : tie.Need-put-counted-requires
+put-counted-requires c κs = search needs
 
 returns : tie.Need-returns
-returns c = rw (← c .before .before .before .before .machine-of .ensures, ← c .before .before .before .chain-of .ensures, ← c .before .before .count-non-blank .ensures) (c .tell-counted .ensures)
+returns c = rw (← c .before .before .before .before .machine-of .ensures, ← c .before .before .before .chain-of .ensures, ← c .before .before .count-non-blank .ensures) (c .put-counted .ensures)
 
 pub tm-chain-count-spec : {M : Type 1} → statement M
 tm-chain-count-spec =
@@ -24,5 +24,5 @@ tm-chain-count-spec =
     machine-of-requires
     chain-of-requires
     count-non-blank-requires
-    tell-counted-requires
+    put-counted-requires
     returns)

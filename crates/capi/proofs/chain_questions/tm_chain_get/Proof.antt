@@ -13,16 +13,16 @@ chain-of-requires c κs = search needs
 get-requires : tie.Need-get-requires
 get-requires c κs = search needs
 
-tell-got-requires : tie.Need-tell-got-requires
-tell-got-requires c κs = search needs
+put-got-requires : tie.Need-put-got-requires
+put-got-requires c κs = search needs
 
 returns : tie.Need-returns
 returns c =
     let e = toZ-ofZ w64 (c .before .before .before .before .before .before .before .before .before .before .args .at) (c .before .before .before .before .before .before .before .before .before .before .fits .at) in
     let g = rw e at (c .before .before .get .ensures) in
-    rw (← c .before .before .before .before .machine-of .ensures, ← c .before .before .before .chain-of .ensures, ← g) (c .tell-got .ensures)
+    rw (← c .before .before .before .before .machine-of .ensures, ← c .before .before .before .chain-of .ensures, ← g) (c .put-got .ensures)
 
 pub tm-chain-get-spec : {M : Type 1} → statement M
 tm-chain-get-spec =
     tie.close
-    (tie.spec machine-of-requires chain-of-requires get-requires tell-got-requires returns)
+    (tie.spec machine-of-requires chain-of-requires get-requires put-got-requires returns)

@@ -11,11 +11,11 @@ chain-of-requires c κs = search needs
 non-blank-requires : tie.Need-non-blank-requires
 non-blank-requires c κs = search needs
 
-tell-extent-requires : tie.Need-tell-extent-requires
-tell-extent-requires c κs = search needs
+put-extent-requires : tie.Need-put-extent-requires
+put-extent-requires c κs = search needs
 
 returns : tie.Need-returns
-returns c = rw (← c .before .before .before .before .machine-of .ensures, ← c .before .before .before .chain-of .ensures, ← c .before .before .non-blank .ensures) (c .tell-extent .ensures)
+returns c = rw (← c .before .before .before .before .machine-of .ensures, ← c .before .before .before .chain-of .ensures, ← c .before .before .non-blank .ensures) (c .put-extent .ensures)
 
 pub tm-chain-non-blank-spec : {M : Type 1} → statement M
 tm-chain-non-blank-spec =
@@ -24,5 +24,5 @@ tm-chain-non-blank-spec =
     machine-of-requires
     chain-of-requires
     non-blank-requires
-    tell-extent-requires
+    put-extent-requires
     returns)

@@ -1,4 +1,4 @@
-use Rattle.capi.specs.ChainTimelineFacts.{chain-timeline-called}
+use Rattle.capi.specs.Facts.ChainTimelines.{chain-timeline-called}
 use borrow.Author.Needs.{needs}
 use Rattle.capi.proofs.chain_timelines.tm_chain_timeline_call.Statement.{statement}
 use Rattle.capi.proofs.chain_timelines.tm_chain_timeline_call.Tie as tie
@@ -21,8 +21,8 @@ put-chain-requires c κs = search needs
 put-times-requires : tie.Need-put-times-requires
 put-times-requires c κs = search needs
 
-tell-answer-requires : tie.Need-tell-answer-requires
-tell-answer-requires c κs = search needs
+put-answer-requires : tie.Need-put-answer-requires
+put-answer-requires c κs = search needs
 
 same-length : tie.Need-same-length
 same-length c = search needs
@@ -42,7 +42,7 @@ same-length-5 c = search needs
 returns : tie.Need-returns
 returns c =
     rw (← c .before .before .before .before .before .before .before .before .before .before .before .before .before .before .before .before .before .before .before .before .before .before .before .before .before .before .before .before .before .before .machine-of .ensures, ← c .before .before .before .before .before .before .before .before .before .before .before .before .before .before .before .before .before .before .before .before .before .before .before .before .before .before .chain-of .ensures, ← c .before .before .before .before .before .before .before .before .before .before .before .before .before .before .before .before .before .before .before .before .before .before .before .before .times-of .ensures)
-    (chain-timeline-called _ _ _ _ _ _ _ _ _ _ _ _ _ _ (c .before .before .before .before .before .before .before .before .before .before .before .before .before .before .before .before .before .before .call .result .answer) (c .before .before .before .before .put-chain .ensures) (c .before .before .put-times .ensures) (c .before .before .before .before .before .before .before .before .before .before .before .before .before .before .before .before .before .before .call .ensures) (c .tell-answer .ensures .0) (c .tell-answer .ensures .1))
+    (chain-timeline-called _ _ _ _ _ _ _ _ _ _ _ _ _ _ (c .before .before .before .before .before .before .before .before .before .before .before .before .before .before .before .before .before .before .call .result .answer) (c .before .before .before .before .put-chain .ensures) (c .before .before .put-times .ensures) (c .before .before .before .before .before .before .before .before .before .before .before .before .before .before .before .before .before .before .call .ensures) (c .put-answer .ensures .0) (c .put-answer .ensures .1))
 
 pub tm-chain-timeline-call-spec : {M : Type 1} → statement M
 tm-chain-timeline-call-spec =
@@ -54,7 +54,7 @@ tm-chain-timeline-call-spec =
     call-requires
     put-chain-requires
     put-times-requires
-    tell-answer-requires
+    put-answer-requires
     same-length
     same-length-2
     same-length-3

@@ -1,4 +1,4 @@
-use Rattle.capi.specs.ChainTimelineFacts.{chain-timeline-made, chain-timeline-turned}
+use Rattle.capi.specs.Facts.ChainTimelines.{chain-timeline-made, chain-timeline-turned}
 use borrow.Author.Needs.{needs}
 use Rattle.capi.proofs.chain_timelines.tm_chain_timeline_new.Statement.{statement}
 use Rattle.capi.proofs.chain_timelines.tm_chain_timeline_new.Tie as tie

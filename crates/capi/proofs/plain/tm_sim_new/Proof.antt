@@ -1,5 +1,5 @@
 use borrow.Author.Needs.{needs}
-use Rattle.capi.specs.CallFacts.{new-called, new-turned}
+use Rattle.capi.specs.Facts.Calls.{new-called, new-turned}
 use Rattle.capi.proofs.plain.tm_sim_new.Statement.{statement}
 use Rattle.capi.proofs.plain.tm_sim_new.Tie as tie
 

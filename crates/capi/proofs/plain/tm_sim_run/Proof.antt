@@ -1,5 +1,5 @@
 use borrow.Author.Needs.{needs}
-use Rattle.capi.specs.CallFacts.{ran-called}
+use Rattle.capi.specs.Facts.Calls.{ran-called}
 use Rattle.capi.proofs.plain.tm_sim_run.Statement.{statement}
 use Rattle.capi.proofs.plain.tm_sim_run.Tie as tie
 
@@ -18,8 +18,8 @@ run-requires c κs = search needs
 put-engine-requires : tie.Need-put-engine-requires
 put-engine-requires c κs = search needs
 
-tell-answer-requires : tie.Need-tell-answer-requires
-tell-answer-requires c κs = search needs
+put-answer-requires : tie.Need-put-answer-requires
+put-answer-requires c κs = search needs
 
 same-length : tie.Need-same-length
 same-length c = search needs
@@ -33,7 +33,7 @@ same-length-3 c = search needs
 returns : tie.Need-returns
 returns c =
     rw (← c .before .before .before .before .before .before .before .before .before .before .before .before .before .before .before .before .before .before .before .machine-of .ensures, ← c .before .before .before .before .before .before .before .before .before .before .before .before .before .before .before .before .engine-of .ensures, ← c .before .before .before .before .before .before .before .before .before .before .before .before .before .before .before .rule-of .ensures)
-    (ran-called _ _ _ _ _ _ _ _ _ (c .before .before .put-engine .ensures) _ _ (c .before .before .before .before .before .before .before .before .before .before .before .run .ensures) (c .tell-answer .ensures .0) (c .tell-answer .ensures .1))
+    (ran-called _ _ _ _ _ _ _ _ _ (c .before .before .put-engine .ensures) _ _ (c .before .before .before .before .before .before .before .before .before .before .before .run .ensures) (c .put-answer .ensures .0) (c .put-answer .ensures .1))
 
 pub tm-sim-run-spec : {M : Type 1} → statement M
 tm-sim-run-spec =
@@ -44,7 +44,7 @@ tm-sim-run-spec =
     rule-of-requires
     run-requires
     put-engine-requires
-    tell-answer-requires
+    put-answer-requires
     same-length
     same-length-2
     same-length-3

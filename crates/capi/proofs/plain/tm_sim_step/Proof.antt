@@ -1,5 +1,5 @@
 use borrow.Author.Needs.{needs}
-use Rattle.capi.specs.CallFacts.{step-called}
+use Rattle.capi.specs.Facts.Calls.{step-called}
 use Rattle.capi.proofs.plain.tm_sim_step.Statement.{statement}
 use Rattle.capi.proofs.plain.tm_sim_step.Tie as tie
 
@@ -15,8 +15,8 @@ step-requires c κs = search needs
 put-engine-requires : tie.Need-put-engine-requires
 put-engine-requires c κs = search needs
 
-tell-step-requires : tie.Need-tell-step-requires
-tell-step-requires c κs = search needs
+put-step-requires : tie.Need-put-step-requires
+put-step-requires c κs = search needs
 
 same-length : tie.Need-same-length
 same-length c = search needs
@@ -30,7 +30,7 @@ same-length-3 c = search needs
 returns : tie.Need-returns
 returns c =
     rw (← c .before .before .before .before .before .before .before .before .before .before .before .before .before .before .before .before .before .before .machine-of .ensures, ← c .before .before .before .before .before .before .before .before .before .before .before .before .before .before .before .engine-of .ensures)
-    (step-called _ _ _ _ _ _ _ _ _ (c .before .before .put-engine .ensures) _ _ (c .before .before .before .before .before .before .before .before .before .before .before .step .ensures) (c .tell-step .ensures .0) (c .tell-step .ensures .1))
+    (step-called _ _ _ _ _ _ _ _ _ (c .before .before .put-engine .ensures) _ _ (c .before .before .before .before .before .before .before .before .before .before .before .step .ensures) (c .put-step .ensures .0) (c .put-step .ensures .1))
 
 pub tm-sim-step-spec : {M : Type 1} → statement M
 tm-sim-step-spec =
@@ -40,7 +40,7 @@ tm-sim-step-spec =
     engine-of-requires
     step-requires
     put-engine-requires
-    tell-step-requires
+    put-step-requires
     same-length
     same-length-2
     same-length-3

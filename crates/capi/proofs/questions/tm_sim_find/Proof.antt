@@ -16,14 +16,14 @@ dir-of-requires c κs = search needs
 find-non-blank-requires : tie.Need-find-non-blank-requires
 find-non-blank-requires c κs = search needs
 
-tell-located-requires : tie.Need-tell-located-requires
-tell-located-requires c κs = search needs
+put-located-requires : tie.Need-put-located-requires
+put-located-requires c κs = search needs
 
 returns : tie.Need-returns
 returns c =
     let e = toZ-ofZ w64 (c .before .before .before .before .before .before .before .before .before .before .args .from) (c .before .before .before .before .before .before .before .before .before .before .fits .from) in
     let g = rw e at (c .before .before .find-non-blank .ensures) in
-    rw (← c .before .before .before .before .before .machine-of .ensures, ← c .before .before .before .before .engine-of .ensures, ← c .before .before .before .dir-of .ensures, ← g) (c .tell-located .ensures)
+    rw (← c .before .before .before .before .before .machine-of .ensures, ← c .before .before .before .before .engine-of .ensures, ← c .before .before .before .dir-of .ensures, ← g) (c .put-located .ensures)
 
 pub tm-sim-find-spec : {M : Type 1} → statement M
 tm-sim-find-spec =
@@ -33,5 +33,5 @@ tm-sim-find-spec =
     engine-of-requires
     dir-of-requires
     find-non-blank-requires
-    tell-located-requires
+    put-located-requires
     returns)

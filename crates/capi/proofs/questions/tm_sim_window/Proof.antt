@@ -13,8 +13,8 @@ engine-of-requires c κs = search needs
 window-requires : tie.Need-window-requires
 window-requires c κs = search needs
 
-tell-checked-requires : tie.Need-tell-checked-requires
-tell-checked-requires c κs = search needs
+put-checked-requires : tie.Need-put-checked-requires
+put-checked-requires c κs = search needs
 
 same-length : tie.Need-same-length
 same-length c = search needs
@@ -23,7 +23,7 @@ returns : tie.Need-returns
 returns c =
     let e = toZ-ofZ w64 (c .before .before .before .before .before .before .before .before .before .before .before .before .before .args .from) (c .before .before .before .before .before .before .before .before .before .before .before .before .before .fits .from) in
     let w = rw e at (c .before .before .before .before .window .ensures .1) in
-    rw (← c .before .before .before .before .before .before .before .machine-of .ensures, ← c .before .before .before .before .before .before .engine-of .ensures, ← c .before .before .before .before .window .ensures .0) (c .tell-checked .ensures .0, c .tell-checked .ensures .1, w)
+    rw (← c .before .before .before .before .before .before .before .machine-of .ensures, ← c .before .before .before .before .before .before .engine-of .ensures, ← c .before .before .before .before .window .ensures .0) (c .put-checked .ensures .0, c .put-checked .ensures .1, w)
 
 pub tm-sim-window-spec : {M : Type 1} → statement M
 tm-sim-window-spec =
@@ -32,6 +32,6 @@ tm-sim-window-spec =
     machine-of-requires
     engine-of-requires
     window-requires
-    tell-checked-requires
+    put-checked-requires
     same-length
     returns)

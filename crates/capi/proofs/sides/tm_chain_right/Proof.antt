@@ -1,5 +1,5 @@
 -- `tm_chain_right` meets its contract: a walk of its MIR, by hand. All that is decided is in `right` and in the covered functions that read and write the numbers;
--- `runs` is given to `right` for good, `out` to `tell_listed`, each at its own lifetime, share and name. `tm_chain_left` has the same walk. Assumes nothing.
+-- `runs` is given to `right` for good, `out` to `put_listed`, each at its own lifetime, share and name. `tm_chain_left` has the same walk. Assumes nothing.
 use mathlib.Core.Path.{_≡_, refl, _∙_, ap, subst}
 use Prim.Native.Nat.{ℕ, _<_, _^_}
 use mathlib.Core.List.{[], _∷_, List}
@@ -40,36 +40,36 @@ use denote.Triple.Table.{entered, cited}
 use denote.Triple.Walked.{says, Stays, gave-slice, gave-ref, stay-dropped, walkOf, AllGo, goes-dropped, goes-gave-slice, goes-gave-ref, Walks, ends-at, walked, walk-meets}
 use denote.Exit.{yes}
 use Rattle.machine.specs.declared.Machine.{Machine}
-use Rattle.records.specs.declared.Run.{Run}
-use Rattle.records.specs.declared.Listed.{Listed}
+use Rattle.rle_records.specs.declared.Run.{Run}
+use Rattle.rle_records.specs.declared.Listed.{Listed}
 use Rattle.rle.specs.declared.ChainSim.{ChainSim}
-use Rattle.rle.specs.Engine.{Conf, conf}
-use Rattle.rle.specs.Records.{rightAnswer, rightInto}
-use Rattle.numbers.specs.Engines.{machineOf, chainOf}
-use Rattle.numbers.specs.Parts.{listedCode, listedOut}
+use Rattle.rle.specs.Model.Engine.{Conf, conf}
+use Rattle.rle.specs.Model.Records.{rightAnswer, rightInto}
+use Rattle.capi_numbers.specs.Model.Engines.{machineOf, chainOf}
+use Rattle.capi_numbers.specs.Model.Parts.{listedCode, listedOut}
 use Rattle.machine.proofs.Machine as Ma
 use Rattle.machine.proofs.Machine.Laws as Ma′
-use Rattle.records.proofs.Run as T
-use Rattle.records.proofs.Listed as E
-use Rattle.records.proofs.Listed.Laws as E′
+use Rattle.rle_records.proofs.Run as T
+use Rattle.rle_records.proofs.Listed as E
+use Rattle.rle_records.proofs.Listed.Laws as E′
 use Rattle.rle.proofs.ChainSim as Ch
 use Rattle.rle.proofs.ChainSim.Laws as Ch′
 use Rattle.rle.proofs.ChainSim.right as list
 use Rattle.rle.proofs.ChainSim.right.Symbol as list-def
 use Rattle.rle.proofs.ChainSim.right.Symbol.{name as #list}
 use Rattle.rle.proofs.ChainSim.right.Met as list-thm
-use Rattle.numbers.proofs.engines.machine_of as machine-of
-use Rattle.numbers.proofs.engines.machine_of.Symbol as machine-of-def
-use Rattle.numbers.proofs.engines.machine_of.Symbol.{name as #machine-of}
-use Rattle.numbers.proofs.engines.machine_of.Met as machine-of-thm
-use Rattle.numbers.proofs.engines.chain_of as chain-of
-use Rattle.numbers.proofs.engines.chain_of.Symbol as chain-of-def
-use Rattle.numbers.proofs.engines.chain_of.Symbol.{name as #chain-of}
-use Rattle.numbers.proofs.engines.chain_of.Met as chain-of-thm
-use Rattle.numbers.proofs.parts.tell_listed as tell
-use Rattle.numbers.proofs.parts.tell_listed.Symbol as tell-def
-use Rattle.numbers.proofs.parts.tell_listed.Symbol.{name as #tell}
-use Rattle.numbers.proofs.parts.tell_listed.Met as tell-thm
+use Rattle.capi_numbers.proofs.engines.machine_of as machine-of
+use Rattle.capi_numbers.proofs.engines.machine_of.Symbol as machine-of-def
+use Rattle.capi_numbers.proofs.engines.machine_of.Symbol.{name as #machine-of}
+use Rattle.capi_numbers.proofs.engines.machine_of.Met as machine-of-thm
+use Rattle.capi_numbers.proofs.engines.chain_of as chain-of
+use Rattle.capi_numbers.proofs.engines.chain_of.Symbol as chain-of-def
+use Rattle.capi_numbers.proofs.engines.chain_of.Symbol.{name as #chain-of}
+use Rattle.capi_numbers.proofs.engines.chain_of.Met as chain-of-thm
+use Rattle.capi_numbers.proofs.parts.put_listed as put-listed
+use Rattle.capi_numbers.proofs.parts.put_listed.Symbol as put-def
+use Rattle.capi_numbers.proofs.parts.put_listed.Symbol.{name as #put-listed}
+use Rattle.capi_numbers.proofs.parts.put_listed.Met as put-thm
 use Rattle.capi.proofs.sides.tm_chain_right.Key.{name as #this}
 use Rattle.capi.proofs.sides.tm_chain_right as f
 use Rattle.capi.proofs.sides.tm_chain_right.Statement as stated
@@ -103,8 +103,8 @@ module _ {M : Type 1} (𝓤 : URA M) (H : Heap 𝓤) (A : Atoms 𝓤) (mem : Mem
   abbrev Lists : Contract 𝓤
   Lists = tripleOf 𝓤 H A list.signature (list.spec 𝓤 H A mem run)
 
-  abbrev Tell : Contract 𝓤
-  Tell = tripleOf 𝓤 H A tell.signature (tell.spec 𝓤 H A mem run)
+  abbrev Put : Contract 𝓤
+  Put = tripleOf 𝓤 H A put-listed.signature (put-listed.spec 𝓤 H A mem run)
 
 abbrev word : Ty
 word = tyInt w64
@@ -252,14 +252,14 @@ module _ {M : Type 1} (𝓤 : URA M) (H : Heap 𝓤) (A : Atoms 𝓤) (W : Given
   Listing r zs = (r ≡ told) × (zs ≡ rightInto m (x₁ .now) σ ys)
 
   -- ---- the numbers of the answer
-  abbrev tell-args : RefT (List ℕ) × (Listed × Unit {0})
-  tell-args = (g, (told, tt))
+  abbrev put-args : RefT (List ℕ) × (Listed × Unit {0})
+  put-args = (g, (told, tt))
 
-  abbrev to-tell : Tell 𝓤 H A mem run .Ghost
-  to-tell = (((κ₃, tt), (q₃, tt), tt, tell-args, (vptr (g .ptr .0) (g .ptr .1) ∷ [], (mach told ∷ [], tt))), tt)
+  abbrev to-put : Put 𝓤 H A mem run .Ghost
+  to-put = (((κ₃, tt), (q₃, tt), tt, put-args, (vptr (g .ptr .0) (g .ptr .1) ∷ [], (mach told ∷ [], tt))), tt)
 
-  tell-asked : Is E.the-row told (mach told ∷ []) → ent 𝓤 (⋆ 𝓤 H A (‵ (flft κ₃ q₃) ∷ ‵ Out ∷ [])) (Tell 𝓤 H A mem run .pre to-tell)
-  tell-asked is =
+  put-asked : Is E.the-row told (mach told ∷ []) → ent 𝓤 (⋆ 𝓤 H A (‵ (flft κ₃ q₃) ∷ ‵ Out ∷ [])) (Put 𝓤 H A mem run .pre to-put)
+  put-asked is =
       qed W (‵ (flft κ₃ q₃) ∷ ‵ Out ∷ []) ∵ nothing ! $ move ! (1 ∷ 0 ∷ []) $ join ! $ nothing ! $ owned ! E.the-row (Is E.the-row) (LE.makes E.the-type E′.the-plain 𝓤 H A) told _ is $ fjoin ! $
       move ! (2 ∷ 0 ∷ []) $ fjoin ! $ move ! (1 ∷ 0 ∷ []) $ join ! $ frame ! $ done !
 
@@ -278,7 +278,7 @@ module _ {M : Type 1} (𝓤 : URA M) (H : Heap 𝓤) (A : Atoms 𝓤) (W : Given
       nothing ! $ move ! (2 ∷ 0 ∷ []) $ fjoin ! $ move ! (2 ∷ 0 ∷ []) $ fjoin ! $ nothing ! $ fjoin ! $ nothing ! $ fjoin ! $ nothing ! $ fjoin ! $ nothing ! $ fjoin ! $ nothing ! $ fjoin ! $ nothing ! $ fjoin ! $ nothing ! $ fjoin ! $ nothing ! $ fjoin ! $ nothing ! $ fjoin ! $ nothing ! $ fjoin ! $ nothing ! $ fjoin ! $ nothing ! $ fjoin ! $ done !
 
   -- ---- the walk
-  module _ (𝓣 : Tables 𝓤 H) (list-known : Triple 𝓤 (𝓣 .C #list) (Lists 𝓤 H A mem run)) (tell-known : Triple 𝓤 (𝓣 .C #tell) (Tell 𝓤 H A mem run)) (l₀ l₁ l₂ l₃ l₄ l₅ l₆ l₇ l₈ l₉ l₁₀ l₁₁ l₁₂ l₁₃ l₁₄ l₁₅ l₁₆ l₁₇ l₁₈ l₁₉ l₂₀ : ℕ) where
+  module _ (𝓣 : Tables 𝓤 H) (list-known : Triple 𝓤 (𝓣 .C #list) (Lists 𝓤 H A mem run)) (put-known : Triple 𝓤 (𝓣 .C #put-listed) (Put 𝓤 H A mem run)) (l₀ l₁ l₂ l₃ l₄ l₅ l₆ l₇ l₈ l₉ l₁₀ l₁₁ l₁₂ l₁₃ l₁₄ l₁₅ l₁₆ l₁₇ l₁₈ l₁₉ l₂₀ : ℕ) where
     abbrev C : Calls 𝓤 H
     C = 𝓣 .C
 
@@ -317,11 +317,11 @@ module _ {M : Type 1} (𝓤 : URA M) (H : Heap 𝓤) (A : Atoms 𝓤) (W : Given
         → Sq W (Toks₂ ∷ ‵ (finally T.the-row γ zs) ∷ ‵ (flft κ₃ q₃) ∷ ‵ Out ∷ ‵ (froom ρₒ l₂₀ 0) ∷ ‵ (fdies ρₒ l₂₀) ∷ ‵ (fat fullShare (sliceTy ρ) l₁₉ 0 (s)) ∷ ‵ (fdies (sliceTy ρ) l₁₉) ∷ ‵ (fat fullShare ρ l₁₈ 0 (vptr b o)) ∷ ‵ (fdies ρ l₁₈) ∷ ‵ (fat fullShare E′.mir l₁₇ 0 (mach told)) ∷ ‵ (fdies E′.mir l₁₇) ∷ ‵ (fat fullShare Ch′.mir l₁₆ 0 (cval c)) ∷ ‵ (fdies Ch′.mir l₁₆) ∷ ‵ (fat fullShare Ma′.mir l₁₅ 0 (mval m)) ∷ ‵ (fdies Ma′.mir l₁₅) ∷ ‵ (fat fullShare τₒ l₁₄ 0 (vptr (g .ptr .0) (g .ptr .1))) ∷ ‵ (fdies τₒ l₁₄) ∷ ‵ (fat fullShare τ l₁₃ 0 (s)) ∷ ‵ (fdies τ l₁₃) ∷ ‵ (fat fullShare τₑ l₁₂ 0 (vptr (y .ptr .0) (y .ptr .1))) ∷ ‵ (fdies τₑ l₁₂) ∷ ‵ (fat fullShare (tyInt w8) l₁₁ 0 (vint w8 u)) ∷ ‵ (fdies (tyInt w8) l₁₁) ∷ ‵ (fat fullShare (tyInt w16) l₁₀ 0 (vint w16 k)) ∷ ‵ (fdies (tyInt w16) l₁₀) ∷ ‵ (fat fullShare τ₂ l₉ 0 (s₅)) ∷ ‵ (fdies τ₂ l₉) ∷ ‵ (fat fullShare τ₁ l₈ 0 (s₄)) ∷ ‵ (fdies τ₁ l₈) ∷ ‵ (fat fullShare τ₂ l₇ 0 (s₃)) ∷ ‵ (fdies τ₂ l₇) ∷ ‵ (fat fullShare τ₁ l₆ 0 (s₂)) ∷ ‵ (fdies τ₁ l₆) ∷ ‵ (fat fullShare τ₁ l₅ 0 (s₁)) ∷ ‵ (fdies τ₁ l₅) ∷ ‵ (fat fullShare word l₄ 0 (vint w64 n₄)) ∷ ‵ (fdies word l₄) ∷ ‵ (fat fullShare word l₃ 0 (vint w64 n₃)) ∷ ‵ (fdies word l₃) ∷ ‵ (fat fullShare word l₂ 0 (vint w64 n₂)) ∷ ‵ (fdies word l₂) ∷ ‵ (fat fullShare word l₁ 0 (vint w64 n₁)) ∷ ‵ (fdies word l₁) ∷ ‵ (froom (tyInt w8) l₀ 0) ∷ ‵ (fdies (tyInt w8) l₀) ∷ []) (runs C Λ En pieces.t-6 (atRet En Post))
     tells told-is zs e l =
         assigns ! (addr ! (from ! (hop ! (look ! 16 refl) (stop !)))) (from ! (stop !)) (init ! 4 refl (tt, tt)) $
-        move ! (2 ∷ 3 ∷ []) $ use2 W (raw (Tell 𝓤 H A mem run .pre to-tell)) (tell-asked told-is) $
+        move ! (2 ∷ 3 ∷ []) $ use2 W (raw (Put 𝓤 H A mem run .pre to-put)) (put-asked told-is) $
         -- [what tell_listed asks; Toks₂; the last list; the locals at 3]
-        calls-at ! fm (Tell 𝓤 H A mem run) tell-known to-tell (and-then ! (load ! (from ! (stop !)) (look ! 3 refl)) (and-then ! (load ! (from ! (stop !)) (look ! 9 refl)) (no-more !))) (λ w.
-        use1 W (later (some (λ (r : ℕ). (Tok₃ ⊛ ‵ (u8 .own r (w ∷ []))) ⊛ raw (ensured 𝓤 H A tell.ended (tell.clauses 𝓤 H A mem run) (κ₃, tt) tell-args tt r)))) (id⊢ 𝓤 _) $ await ! tt $ pick ! (λ r.
-        split ! $ move ! (1 ∷ []) $ use1 W (some (λ (ws : List ℕ × (Unit {0} × Unit {0})). ‵ (lasts tell.ended (κ₃, tt) tell-args ws) ⊛ raw (fact 𝓤 (Told r (ws .0))))) (id⊢ 𝓤 _) $ pick ! (λ ws.
+        calls-at ! fm (Put 𝓤 H A mem run) put-known to-put (and-then ! (load ! (from ! (stop !)) (look ! 3 refl)) (and-then ! (load ! (from ! (stop !)) (look ! 9 refl)) (no-more !))) (λ w.
+        use1 W (later (some (λ (r : ℕ). (Tok₃ ⊛ ‵ (u8 .own r (w ∷ []))) ⊛ raw (ensured 𝓤 H A put-listed.ended (put-listed.clauses 𝓤 H A mem run) (κ₃, tt) put-args tt r)))) (id⊢ 𝓤 _) $ await ! tt $ pick ! (λ r.
+        split ! $ move ! (1 ∷ []) $ use1 W (some (λ (ws : List ℕ × (Unit {0} × Unit {0})). ‵ (lasts put-listed.ended (κ₃, tt) put-args ws) ⊛ raw (fact 𝓤 (Told r (ws .0))))) (id⊢ 𝓤 _) $ pick ! (λ ws.
         split ! $ move ! (1 ∷ []) $ heard ! (Told r (ws .0)) (λ t. fsplit ! $ move ! (1 ∷ []) $ drop ! $
         -- [the last numbers; the token and the result; Toks₂; the last list; the locals at 4]
         move ! (1 ∷ []) $ split ! $ move ! (1 ∷ []) $ peeks ! u8 (Is u8) (shows 𝓤 H A u8) r (w ∷ []) (λ is.
@@ -352,9 +352,9 @@ module _ {M : Type 1} (𝓤 : URA M) (H : Heap 𝓤) (A : Atoms 𝓤) (W : Given
         told-is : (r : Listed) (w : Val) → r ≡ told → Is E.the-row r (w ∷ []) → Is E.the-row told (mach told ∷ [])
         told-is r w e is = subst (λ (t : Listed). Is E.the-row t (mach t ∷ [])) e (subst (Is E.the-row r) (LE.tells E.the-type E′.the-laws r _ is) is)
 
-  walk : (𝓣 : Tables 𝓤 H) → Triple 𝓤 (𝓣 .C #machine-of) (MachineOf 𝓤 H A mem run) → Triple 𝓤 (𝓣 .C #chain-of) (ChainOf 𝓤 H A mem run) → Triple 𝓤 (𝓣 .C #list) (Lists 𝓤 H A mem run) → Triple 𝓤 (𝓣 .C #tell) (Tell 𝓤 H A mem run)
+  walk : (𝓣 : Tables 𝓤 H) → Triple 𝓤 (𝓣 .C #machine-of) (MachineOf 𝓤 H A mem run) → Triple 𝓤 (𝓣 .C #chain-of) (ChainOf 𝓤 H A mem run) → Triple 𝓤 (𝓣 .C #list) (Lists 𝓤 H A mem run) → Triple 𝓤 (𝓣 .C #put-listed) (Put 𝓤 H A mem run)
       → ent 𝓤 (onEntry 𝓤 H A f.signature (κ₁, (κ₂, (κ₃, tt))) (q₁, (q₂, (q₃, tt))) a vals) (WpFn 𝓤 H (𝓣 .C) (𝓣 .Λ) code.function (vint w64 n₁ ∷ vint w64 n₂ ∷ vint w64 n₃ ∷ vint w64 n₄ ∷ s₁ ∷ s₂ ∷ s₃ ∷ s₄ ∷ s₅ ∷ vint w16 k ∷ vint w8 u ∷ vptr (y .ptr .0) (y .ptr .1) ∷ s ∷ vptr (g .ptr .0) (g .ptr .1) ∷ []) Post)
-  walk 𝓣 machine-known chain-known list-known tell-known =
+  walk 𝓣 machine-known chain-known list-known put-known =
       qed W (Toks ∷ ‵ (owns (u64 ∷ u64 ∷ u64 ∷ u64 ∷ ShrSlice (named 0) κ₁ u8 ∷ ShrSlice (named 0) κ₁ u8 ∷ ShrSlice (named 0) κ₁ u64 ∷ ShrSlice (named 0) κ₁ u8 ∷ ShrSlice (named 0) κ₁ u64 ∷ u16 ∷ u8 ∷ ShrRef (named 0) κ₁ Seven ∷ MutSlice (named 1) κ₂ T.the-row ∷ MutRef (named 2) κ₃ Eight ∷ []) a vals) ∷ []) ∵ enter ! (𝓣 .C) (𝓣 .Λ) code.function (vint w64 n₁ ∷ vint w64 n₂ ∷ vint w64 n₃ ∷ vint w64 n₄ ∷ s₁ ∷ s₂ ∷ s₃ ∷ s₄ ∷ s₅ ∷ vint w16 k ∷ vint w8 u ∷ vptr (y .ptr .0) (y .ptr .1) ∷ s ∷ vptr (g .ptr .0) (g .ptr .1) ∷ []) _ $
       alloc1 ! (λ l₀. alloc1 ! (λ l₁. alloc1 ! (λ l₂. alloc1 ! (λ l₃. alloc1 ! (λ l₄. alloc1 ! (λ l₅. alloc1 ! (λ l₆. alloc1 ! (λ l₇. alloc1 ! (λ l₈. alloc1 ! (λ l₉. alloc1 ! (λ l₁₀. alloc1 ! (λ l₁₁. alloc1 ! (λ l₁₂. alloc1 ! (λ l₁₃. alloc1 ! (λ l₁₄. alloc1 ! (λ l₁₅. alloc1 ! (λ l₁₆. alloc1 ! (λ l₁₇. alloc1 ! (λ l₁₈. alloc1 ! (λ l₁₉. alloc1 ! (λ l₂₀. alloc0 ! $ params1 ! $
       pass1 ! (init ! 38 refl (tt, record { fits = fits₁ })) $ pass1 ! (init ! 36 refl (tt, record { fits = fits₂ })) $ pass1 ! (init ! 34 refl (tt, record { fits = fits₃ })) $ pass1 ! (init ! 32 refl (tt, record { fits = fits₄ })) $ pass1 ! (init ! 30 refl (tt, (tt, (record { fits = room₁ .0 }, tt)))) $ pass1 ! (init ! 28 refl (tt, (tt, (record { fits = room₂ .0 }, tt)))) $ pass1 ! (init ! 26 refl (tt, (tt, (record { fits = room₃ .0 }, tt)))) $ pass1 ! (init ! 24 refl (tt, (tt, (record { fits = room₄ .0 }, tt)))) $ pass1 ! (init ! 22 refl (tt, (tt, (record { fits = room₅ .0 }, tt)))) $ pass1 ! (init ! 20 refl (tt, record { fits = fits-k })) $ pass1 ! (init ! 18 refl (tt, record { fits = fits-u })) $ pass1 ! (init ! 16 refl (tt, tt)) $ pass1 ! (init ! 14 refl (tt, (tt, (record { fits = room .0 }, tt)))) $ pass1 ! (init ! 12 refl (tt, tt)) $ pass0 ! $
@@ -378,7 +378,7 @@ module _ {M : Type 1} (𝓤 : URA M) (H : Heap 𝓤) (A : Atoms 𝓤) (W : Given
       split ! $ move ! (1 ∷ []) $ use1 W (raw (fact 𝓤 (r′ ≡ c))) (chain-said r′) $ heard ! (r′ ≡ c) (λ e′.
       split ! $ move ! (1 ∷ []) $ peeks ! Ch.the-row (Is Ch.the-row) (shows 𝓤 H A Ch.the-row) r′ (w′ ∷ []) (λ is′. drop ! $ split ! $ move ! (1 ∷ []) $ drop ! $
       land ! (from ! (stop !)) (init ! 14 refl (LL.lawful Ch.the-type Ch′.the-laws 𝓤 H A W .typed r′ _ is′ .0)) $ rewrite ! 14 (λ (v : Val). ‵ (fat fullShare Ch′.mir l₁₆ 0 v)) (ap only (LL.tells Ch.the-type Ch′.the-laws r′ _ is′) ∙ ap cval e′) refl $
-      lists 𝓣 list-known tell-known l₀ l₁ l₂ l₃ l₄ l₅ l₆ l₇ l₈ l₉ l₁₀ l₁₁ l₁₂ l₁₃ l₁₄ l₁₅ l₁₆ l₁₇ l₁₈ l₁₉ l₂₀ (is-c r′ w′ e′ is′) (is-m r w e is))))))))))))))))))))))))))))))
+      lists 𝓣 list-known put-known l₀ l₁ l₂ l₃ l₄ l₅ l₆ l₇ l₈ l₉ l₁₀ l₁₁ l₁₂ l₁₃ l₁₄ l₁₅ l₁₆ l₁₇ l₁₈ l₁₉ l₂₀ (is-c r′ w′ e′ is′) (is-m r w e is))))))))))))))))))))))))))))))
     where
       is-m : (r : Machine) (w : Val) → r ≡ m → Is Ma.the-row r (w ∷ []) → Is Ma.the-row m (LL.vals Ma.the-type Ma′.the-laws m)
       is-m r w e is = subst (λ (t : Machine). Is Ma.the-row t (LL.vals Ma.the-type Ma′.the-laws t)) e (subst (Is Ma.the-row r) (LL.tells Ma.the-type Ma′.the-laws r _ is) is)
@@ -387,7 +387,7 @@ module _ {M : Type 1} (𝓤 : URA M) (H : Heap 𝓤) (A : Atoms 𝓤) (W : Given
       is-c r w e is = subst (λ (t : ChainSim). Is Ch.the-row t (LL.vals Ch.the-type Ch′.the-laws t)) e (subst (Is Ch.the-row r) (LL.tells Ch.the-type Ch′.the-laws r _ is) is)
 
 module _ {M : Type 1} (𝓤 : URA M) (H : Heap 𝓤) (A : Atoms 𝓤) (W : Given 𝓤 H A) (mem : Memory → SProp 𝓤) (run : Routine → Fun 𝓤) where
-  walks : (𝓣 : Tables 𝓤 H) → Triple 𝓤 (𝓣 .C #machine-of) (MachineOf 𝓤 H A mem run) → Triple 𝓤 (𝓣 .C #chain-of) (ChainOf 𝓤 H A mem run) → Triple 𝓤 (𝓣 .C #list) (Lists 𝓤 H A mem run) → Triple 𝓤 (𝓣 .C #tell) (Tell 𝓤 H A mem run)
+  walks : (𝓣 : Tables 𝓤 H) → Triple 𝓤 (𝓣 .C #machine-of) (MachineOf 𝓤 H A mem run) → Triple 𝓤 (𝓣 .C #chain-of) (ChainOf 𝓤 H A mem run) → Triple 𝓤 (𝓣 .C #list) (Lists 𝓤 H A mem run) → Triple 𝓤 (𝓣 .C #put-listed) (Put 𝓤 H A mem run)
       → Walks 𝓤 H A f.ended stayed (WpFn 𝓤 H (𝓣 .C) (𝓣 .Λ) code.function) (f.clauses 𝓤 H A mem run)
   walks 𝓣 km kc kl kt = walked 𝓤 H A f.ended stayed (f.clauses 𝓤 H A mem run) (WpFn 𝓤 H (𝓣 .C) (𝓣 .Λ) code.function)
       (λ κs. (uint-vals w64, (uint-vals w64, (uint-vals w64, (uint-vals w64, (slice-vals, (slice-vals, (slice-vals, (slice-vals, (slice-vals, (uint-vals w16, (uint-vals w8, (ptr-vals, (slice-vals, (ptr-vals, tt)))))))))))))))
@@ -399,7 +399,7 @@ module _ {M : Type 1} (𝓤 : URA M) (H : Heap 𝓤) (A : Atoms 𝓤) (W : Given
   goes = (goes-dropped 𝓤 H A W 3 (plain (λ _. u64)) yes (λ κs x f. refl), (goes-dropped 𝓤 H A W 3 (plain (λ _. u64)) yes (λ κs x f. refl), (goes-dropped 𝓤 H A W 3 (plain (λ _. u64)) yes (λ κs x f. refl), (goes-dropped 𝓤 H A W 3 (plain (λ _. u64)) yes (λ κs x f. refl), (goes-dropped 𝓤 H A W 3 (shrSliceOf (0 ∷ []) tt (plain (λ _. u8))) yes (λ κs x f. refl), (goes-dropped 𝓤 H A W 3 (shrSliceOf (0 ∷ []) tt (plain (λ _. u8))) yes (λ κs x f. refl), (goes-dropped 𝓤 H A W 3 (shrSliceOf (0 ∷ []) tt (plain (λ _. u64))) yes (λ κs x f. refl), (goes-dropped 𝓤 H A W 3 (shrSliceOf (0 ∷ []) tt (plain (λ _. u8))) yes (λ κs x f. refl), (goes-dropped 𝓤 H A W 3 (shrSliceOf (0 ∷ []) tt (plain (λ _. u64))) yes (λ κs x f. refl), (goes-dropped 𝓤 H A W 3 (plain (λ _. u16)) yes (λ κs x f. refl), (goes-dropped 𝓤 H A W 3 (plain (λ _. u8)) yes (λ κs x f. refl), (goes-dropped 𝓤 H A W 3 (shrRefTo (0 ∷ []) tt seven) yes (λ κs x f. refl), (goes-gave-slice 𝓤 H A W 3 1 tt (plain (λ _. T.the-row)), (goes-gave-ref 𝓤 H A W 3 2 tt eight, tt))))))))))))))
 
 meets : {M : Type 1} (𝓤 : URA M) (H : Heap 𝓤) (A : Atoms 𝓤) → Given 𝓤 H A → (mem : Memory → SProp 𝓤) (run : Routine → Fun 𝓤) (𝓣 : Tables 𝓤 H)
-    → Triple 𝓤 (𝓣 .C #machine-of) (MachineOf 𝓤 H A mem run) → Triple 𝓤 (𝓣 .C #chain-of) (ChainOf 𝓤 H A mem run) → Triple 𝓤 (𝓣 .C #list) (Lists 𝓤 H A mem run) → Triple 𝓤 (𝓣 .C #tell) (Tell 𝓤 H A mem run)
+    → Triple 𝓤 (𝓣 .C #machine-of) (MachineOf 𝓤 H A mem run) → Triple 𝓤 (𝓣 .C #chain-of) (ChainOf 𝓤 H A mem run) → Triple 𝓤 (𝓣 .C #list) (Lists 𝓤 H A mem run) → Triple 𝓤 (𝓣 .C #put-listed) (Put 𝓤 H A mem run)
     → Meets 𝓤 H A f.signature (WpFn 𝓤 H (𝓣 .C) (𝓣 .Λ) code.function) (f.spec 𝓤 H A mem run)
 meets 𝓤 H A W mem run 𝓣 km kc kl kt =
     walk-meets 𝓤 H A f.ended stayed W (goes 𝓤 H A W mem run) (f.clauses 𝓤 H A mem run) (WpFn 𝓤 H (𝓣 .C) (𝓣 .Λ) code.function) (WpFn-mono 𝓤 H (W .laws) 𝓣 code.function) (walks 𝓤 H A W mem run 𝓣 km kc kl kt)
@@ -410,7 +410,7 @@ tm-chain-right-spec 𝓤 H 𝓜 𝓖 𝓡 =
     entered 𝓤 H (tripleOf 𝓤 H (𝓖 .A) f.signature (f.spec 𝓤 H (𝓖 .A) (𝓜 .mem) (𝓡 .run)))
     (tables 𝓤 H 𝓜 𝓡 code.env .C) (tables 𝓤 H 𝓜 𝓡 code.env .Λ) #this code.function (code.unfolded 𝓤 H 𝓜 𝓡)
     (meets 𝓤 H (𝓖 .A) (givenOf 𝓤 H 𝓜 𝓖) (𝓜 .mem) (𝓡 .run) (tablesOf 𝓤 H 𝓜 (tables 𝓤 H 𝓜 𝓡 code.env))
-    (cited 𝓤 H (MachineOf 𝓤 H (𝓖 .A) (𝓜 .mem) (𝓡 .run)) 𝓜 𝓡 code.env #machine-of machine-of-def.routine code.calls-numbers·engines·machine-of (machine-of-thm.met 𝓤 H 𝓜 𝓖 𝓡))
-    (cited 𝓤 H (ChainOf 𝓤 H (𝓖 .A) (𝓜 .mem) (𝓡 .run)) 𝓜 𝓡 code.env #chain-of chain-of-def.routine code.calls-numbers·engines·chain-of (chain-of-thm.met 𝓤 H 𝓜 𝓖 𝓡))
+    (cited 𝓤 H (MachineOf 𝓤 H (𝓖 .A) (𝓜 .mem) (𝓡 .run)) 𝓜 𝓡 code.env #machine-of machine-of-def.routine code.calls-capi-numbers·engines·machine-of (machine-of-thm.met 𝓤 H 𝓜 𝓖 𝓡))
+    (cited 𝓤 H (ChainOf 𝓤 H (𝓖 .A) (𝓜 .mem) (𝓡 .run)) 𝓜 𝓡 code.env #chain-of chain-of-def.routine code.calls-capi-numbers·engines·chain-of (chain-of-thm.met 𝓤 H 𝓜 𝓖 𝓡))
     (cited 𝓤 H (Lists 𝓤 H (𝓖 .A) (𝓜 .mem) (𝓡 .run)) 𝓜 𝓡 code.env #list list-def.routine code.calls-rle·ChainSim·right (list-thm.met 𝓤 H 𝓜 𝓖 𝓡))
-    (cited 𝓤 H (Tell 𝓤 H (𝓖 .A) (𝓜 .mem) (𝓡 .run)) 𝓜 𝓡 code.env #tell tell-def.routine code.calls-numbers·parts·tell-listed (tell-thm.met 𝓤 H 𝓜 𝓖 𝓡)))
+    (cited 𝓤 H (Put 𝓤 H (𝓖 .A) (𝓜 .mem) (𝓡 .run)) 𝓜 𝓡 code.env #put-listed put-def.routine code.calls-capi-numbers·parts·put-listed (put-thm.met 𝓤 H 𝓜 𝓖 𝓡)))

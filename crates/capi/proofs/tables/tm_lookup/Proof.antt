@@ -8,12 +8,12 @@ machine-of-requires c κs = search needs
 lookup-requires : tie.Need-lookup-requires
 lookup-requires c κs = search needs
 
-tell-looked-requires : tie.Need-tell-looked-requires
-tell-looked-requires c κs = search needs
+put-looked-requires : tie.Need-put-looked-requires
+put-looked-requires c κs = search needs
 
 returns : tie.Need-returns
-returns c = rw (← c .before .before .before .machine-of .ensures, ← c .before .before .lookup .ensures) (c .tell-looked .ensures)
+returns c = rw (← c .before .before .before .machine-of .ensures, ← c .before .before .lookup .ensures) (c .put-looked .ensures)
 
 pub tm-lookup-spec : {M : Type 1} → statement M
 tm-lookup-spec =
-    tie.close (tie.spec machine-of-requires lookup-requires tell-looked-requires returns)
+    tie.close (tie.spec machine-of-requires lookup-requires put-looked-requires returns)

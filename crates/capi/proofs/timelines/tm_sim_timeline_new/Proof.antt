@@ -1,4 +1,4 @@
-use Rattle.capi.specs.TimelineFacts.{timeline-made, timeline-turned}
+use Rattle.capi.specs.Facts.Timelines.{timeline-made, timeline-turned}
 use borrow.Author.Needs.{needs}
 use Rattle.capi.proofs.timelines.tm_sim_timeline_new.Statement.{statement}
 use Rattle.capi.proofs.timelines.tm_sim_timeline_new.Tie as tie

@@ -1,4 +1,4 @@
-use Rattle.listing.specs.OutputCases.{fresh-turned, fresh-made}
+use Rattle.listing.specs.Facts.OutputCases.{fresh-turned, fresh-made}
 use borrow.Author.Needs.{needs}
 use Rattle.listing.proofs.asked.on_engine.Statement.{statement}
 use Rattle.listing.proofs.asked.on_engine.Tie as tie

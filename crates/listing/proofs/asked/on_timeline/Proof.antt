@@ -1,5 +1,5 @@
 use native.Mathlib.Omega.{arith}
-use Rattle.listing.specs.OutputCases.{new-fits, new-turned, new-rows}
+use Rattle.listing.specs.Facts.OutputCases.{new-fits, new-turned, new-rows}
 use borrow.Author.Needs.{needs}
 use Rattle.listing.proofs.asked.on_timeline.Statement.{statement}
 use Rattle.listing.proofs.asked.on_timeline.Tie as tie

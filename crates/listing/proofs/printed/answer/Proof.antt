@@ -1,7 +1,7 @@
 use mathlib.Core.Path.{sym}
 use lib.Seq.{length-take-le}
 use native.Mathlib.Omega.{arith}
-use Rattle.reader.specs.Reading.{sofar}
+use Rattle.listing_reader.specs.Invariants.{sofar}
 use Rattle.listing.specs.Output.{answerOf}
 use borrow.Author.Needs.{needs}
 use Rattle.listing.proofs.printed.answer.Statement.{statement}

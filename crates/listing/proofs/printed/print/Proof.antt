@@ -1,5 +1,5 @@
-use Rattle.reader.specs.Asked.{contents-ok}
-use Rattle.listing.specs.OutputCases.{read-bad, read-asked}
+use Rattle.listing_reader.specs.Facts.Accepted.{contents-ok}
+use Rattle.listing.specs.Facts.OutputCases.{read-bad, read-asked}
 use borrow.Author.Needs.{needs}
 use Rattle.listing.proofs.printed.print.Statement.{statement}
 use Rattle.listing.proofs.printed.print.Tie as tie

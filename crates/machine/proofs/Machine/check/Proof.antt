@@ -1,7 +1,7 @@
-use Rattle.machine.specs.CheckFacts.{within-passed}
-use Rattle.machine.specs.CheckCases.{count-fits, count-small, size-via}
-use Rattle.machine.specs.Check.{tableCheck}
-use Rattle.laws.specs.Tests.{tests, via}
+use Rattle.machine.specs.Facts.Check.{within-passed}
+use Rattle.machine.specs.Facts.CheckCases.{count-fits, count-small, size-via}
+use Rattle.machine.specs.Model.Check.{tableCheck}
+use Rattle.notation.specs.Facts.Tests.{tests, via}
 use borrow.Author.Needs.{needs}
 use Rattle.machine.proofs.Machine.check.Statement.{statement}
 use Rattle.machine.proofs.Machine.check.Tie as tie

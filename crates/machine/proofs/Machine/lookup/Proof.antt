@@ -1,6 +1,6 @@
 use mathlib.Core.Path.{sym, _∙_}
-use Rattle.machine.specs.CheckFacts.{ranges}
-use Rattle.machine.specs.CheckCases.{looked-refused, looked-found}
+use Rattle.machine.specs.Facts.Check.{ranges}
+use Rattle.machine.specs.Facts.CheckCases.{looked-refused, looked-found}
 use borrow.Author.Needs.{needs}
 use Rattle.machine.proofs.Machine.lookup.Statement.{statement}
 use Rattle.machine.proofs.Machine.lookup.Tie as tie

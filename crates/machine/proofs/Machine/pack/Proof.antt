@@ -1,9 +1,9 @@
 use borrow.Author.Needs.{needs}
 use native.Mathlib.Omega.{arith}
 use mathlib.Core.Path.{sym, _∙_}
-use Rattle.machine.specs.CheckCases.{count-small}
-use Rattle.machine.specs.CheckFacts.{ranges}
-use Rattle.machine.specs.PackingCases.{packs-refused, packs-several, packs-short, packs-whole}
+use Rattle.machine.specs.Facts.CheckCases.{count-small}
+use Rattle.machine.specs.Facts.Check.{ranges}
+use Rattle.machine.specs.Facts.PackingCases.{packs-refused, packs-several, packs-short, packs-whole}
 use Rattle.machine.proofs.Machine.pack.Statement.{statement}
 use Rattle.machine.proofs.Machine.pack.Tie as tie
 

@@ -1,6 +1,6 @@
 use Rattle.outcome.specs.declared.Refusal.the-variants as Why
-use Rattle.machine.specs.Check.{entryOk, entriesCheck}
-use Rattle.machine.specs.CheckCases.{scan-bad, scan-end}
+use Rattle.machine.specs.Model.Check.{entryOk, entriesCheck}
+use Rattle.machine.specs.Facts.CheckCases.{scan-bad, scan-end}
 use borrow.Author.Needs.{needs}
 use Rattle.machine.proofs.checks.check_entries.Statement.{statement}
 use Rattle.machine.proofs.checks.check_entries.Tie as tie

@@ -1,5 +1,5 @@
-use Rattle.machine.specs.Check.{sizeCheck}
-use Rattle.laws.specs.Tests.{tests}
+use Rattle.machine.specs.Model.Check.{sizeCheck}
+use Rattle.notation.specs.Facts.Tests.{tests}
 use borrow.Author.Needs.{needs}
 use Rattle.machine.proofs.checks.check_size.Statement.{statement}
 use Rattle.machine.proofs.checks.check_size.Tie as tie

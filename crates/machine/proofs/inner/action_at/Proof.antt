@@ -1,4 +1,4 @@
-use Rattle.machine.specs.CheckCases.{action-made}
+use Rattle.machine.specs.Facts.CheckCases.{action-made}
 use borrow.Author.Needs.{needs}
 use Rattle.machine.proofs.inner.action_at.Statement.{statement}
 use Rattle.machine.proofs.inner.action_at.Tie as tie

@@ -1,4 +1,4 @@
-use Rattle.laws.specs.Tests.{tests}
+use Rattle.notation.specs.Facts.Tests.{tests}
 use Rattle.machine.proofs.inner.dir_of.Statement.{statement}
 use Rattle.machine.proofs.inner.dir_of.Tie as tie
 

@@ -1,4 +1,4 @@
-use Rattle.machine.specs.CheckCases.{entry-past, entry-none, entry-some}
+use Rattle.machine.specs.Facts.CheckCases.{entry-past, entry-none, entry-some}
 use borrow.Author.Needs.{needs}
 use Rattle.machine.proofs.inner.entry_at.Statement.{statement}
 use Rattle.machine.proofs.inner.entry_at.Tie as tie

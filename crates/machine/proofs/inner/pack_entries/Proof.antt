@@ -1,8 +1,8 @@
 use borrow.Author.Needs.{needs}
-use Rattle.machine.specs.Packing.{wordAt}
-use Rattle.laws.specs.FillFacts.{fill-end}
-use Rattle.machine.specs.PackingCases.{pack-turn}
-use Rattle.laws.specs.Fill.{fillFrom}
+use Rattle.machine.specs.Model.Packing.{wordAt}
+use Rattle.notation.specs.Facts.Fill.{fill-end}
+use Rattle.machine.specs.Facts.PackingCases.{pack-turn}
+use Rattle.notation.specs.Fill.{fillFrom}
 use lib.ListN.{length, length-set}
 use native.Mathlib.Omega.{arith}
 use native.Mathlib.Nat.{sub-zero}

@@ -1,4 +1,4 @@
-use Rattle.machine.specs.PackingCases.{word-made}
+use Rattle.machine.specs.Facts.PackingCases.{word-made}
 use borrow.Author.Needs.{needs}
 use Rattle.machine.proofs.packed.pack_action.Statement.{statement}
 use Rattle.machine.proofs.packed.pack_action.Tie as tie

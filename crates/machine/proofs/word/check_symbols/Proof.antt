@@ -1,6 +1,6 @@
 use Rattle.outcome.specs.declared.Refusal.the-variants as Why
-use Rattle.machine.specs.Word.{symbolsCheck}
-use Rattle.machine.specs.CheckCases.{scan-bad, scan-end}
+use Rattle.machine.specs.Model.Word.{symbolsCheck}
+use Rattle.machine.specs.Facts.CheckCases.{scan-bad, scan-end}
 use borrow.Author.Needs.{needs}
 use Rattle.machine.proofs.word.check_symbols.Statement.{statement}
 use Rattle.machine.proofs.word.check_symbols.Tie as tie

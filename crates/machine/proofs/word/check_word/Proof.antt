@@ -1,5 +1,5 @@
-use Rattle.machine.specs.Word.{wordCheck}
-use Rattle.laws.specs.Tests.{tests}
+use Rattle.machine.specs.Model.Word.{wordCheck}
+use Rattle.notation.specs.Facts.Tests.{tests}
 use borrow.Author.Needs.{needs}
 use Rattle.machine.proofs.word.check_word.Statement.{statement}
 use Rattle.machine.proofs.word.check_word.Tie as tie

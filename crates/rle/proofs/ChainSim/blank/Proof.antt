@@ -1,4 +1,4 @@
-use Rattle.rle.specs.QuestionCases.{blank-cur, blank-left, blank-right}
+use Rattle.rle.specs.Facts.QuestionCases.{blank-cur, blank-left, blank-right}
 use Rattle.rle.proofs.ChainSim.blank.Statement.{statement}
 use Rattle.rle.proofs.ChainSim.blank.Tie as tie
 

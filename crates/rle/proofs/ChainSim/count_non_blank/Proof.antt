@@ -1,4 +1,4 @@
-use Rattle.rle.specs.QuestionCases.{asked-places, asked-sums, count-refused, count-done}
+use Rattle.rle.specs.Facts.QuestionCases.{asked-places, asked-sums, count-refused, count-done}
 use borrow.Author.Needs.{needs}
 use Rattle.rle.proofs.ChainSim.count_non_blank.Statement.{statement}
 use Rattle.rle.proofs.ChainSim.count_non_blank.Tie as tie

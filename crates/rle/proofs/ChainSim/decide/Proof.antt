@@ -1,4 +1,4 @@
-use Rattle.rle.specs.EngineCases.{turn-halts, turn-never, turn-goes}
+use Rattle.rle.specs.Facts.EngineCases.{turn-halts, turn-never, turn-goes}
 use borrow.Author.Needs.{needs}
 use Rattle.rle.proofs.ChainSim.decide.Statement.{statement}
 use Rattle.rle.proofs.ChainSim.decide.Tie as tie

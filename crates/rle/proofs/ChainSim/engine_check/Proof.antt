@@ -1,4 +1,4 @@
-use Rattle.rle.specs.FitsCases.{engine-table, engine-value}
+use Rattle.rle.specs.Facts.FitsCases.{engine-table, engine-value}
 use borrow.Author.Needs.{needs}
 use Rattle.rle.proofs.ChainSim.engine_check.Statement.{statement}
 use Rattle.rle.proofs.ChainSim.engine_check.Tie as tie

@@ -1,6 +1,6 @@
 use native.Mathlib.Omega.{arith}
 use borrow.Author.Tests.{not-true, not-false}
-use Rattle.rle.specs.FitsCases.{fits-counts, fits-head, fits-left, fits-right, fits-reach, counts-steps}
+use Rattle.rle.specs.Facts.FitsCases.{fits-counts, fits-head, fits-left, fits-right, fits-reach, counts-steps}
 use borrow.Author.Needs.{needs}
 use Rattle.rle.proofs.ChainSim.fits.Statement.{statement}
 use Rattle.rle.proofs.ChainSim.fits.Tie as tie

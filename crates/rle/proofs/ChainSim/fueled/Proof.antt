@@ -1,4 +1,4 @@
-use Rattle.rle.specs.EngineCases.{fuel-none, fuel-stops, fuel-goes}
+use Rattle.rle.specs.Facts.EngineCases.{fuel-none, fuel-stops, fuel-goes}
 use borrow.Author.Needs.{needs}
 use Rattle.rle.proofs.ChainSim.fueled.Statement.{statement}
 use Rattle.rle.proofs.ChainSim.fueled.Tie as tie

@@ -1,6 +1,6 @@
 use mir.ValLaws.{toZ-ofZ}
 use mir.Syntax.{w64}
-use Rattle.rle.specs.QuestionCases.{asked-places, get-refused, get-done}
+use Rattle.rle.specs.Facts.QuestionCases.{asked-places, get-refused, get-done}
 use borrow.Author.Needs.{needs}
 use Rattle.rle.proofs.ChainSim.get.Statement.{statement}
 use Rattle.rle.proofs.ChainSim.get.Tie as tie

@@ -1,6 +1,6 @@
 use native.Mathlib.Omega.{arith}
-use Rattle.rle.specs.Engine.{conf}
-use Rattle.rle.specs.QuestionCases.{highest-right, highest-head, highest-left, some-on-left}
+use Rattle.rle.specs.Model.Engine.{conf}
+use Rattle.rle.specs.Facts.QuestionCases.{highest-right, highest-head, highest-left, some-on-left}
 use borrow.Author.Needs.{needs}
 use Rattle.rle.proofs.ChainSim.highest_cell.Statement.{statement}
 use Rattle.rle.proofs.ChainSim.highest_cell.Tie as tie

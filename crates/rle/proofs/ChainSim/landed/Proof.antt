@@ -1,4 +1,4 @@
-use Rattle.rle.specs.EngineCases.{landed-made}
+use Rattle.rle.specs.Facts.EngineCases.{landed-made}
 use borrow.Author.Needs.{needs}
 use Rattle.rle.proofs.ChainSim.landed.Statement.{statement}
 use Rattle.rle.proofs.ChainSim.landed.Tie as tie

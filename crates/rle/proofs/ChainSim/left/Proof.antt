@@ -41,27 +41,27 @@ use denote.Triple.Table.{entered, cited}
 use denote.Triple.Walked.{says, Stays, gave-slice, stay-none, stay-none-slice, walkOf, AllGo, goes-none, goes-none-slice, goes-gave-slice, Walks, ends-at, walked, walk-meets}
 use denote.Exit.{yes}
 use Rattle.machine.specs.declared.Machine.{Machine}
-use Rattle.stacks.specs.Sides.{side}
-use Rattle.records.specs.declared.Run.{Run}
-use Rattle.records.specs.declared.Listed.{Listed}
-use Rattle.records.specs.Records.{recordsOf, writtenOf}
+use Rattle.rle_stack.specs.Model.{side}
+use Rattle.rle_records.specs.declared.Run.{Run}
+use Rattle.rle_records.specs.declared.Listed.{Listed}
+use Rattle.rle_records.specs.Model.{recordsOf, writtenOf}
 use Rattle.rle.specs.declared.ChainSim.{ChainSim}
-use Rattle.rle.specs.Engine.{Conf, conf}
-use Rattle.rle.specs.Records.{leftAnswer}
-use Rattle.rle.specs.RecordCases.{left-fits, left-writes}
+use Rattle.rle.specs.Model.Engine.{Conf, conf}
+use Rattle.rle.specs.Model.Records.{leftAnswer}
+use Rattle.rle.specs.Facts.RecordCases.{left-fits, left-writes}
 use Rattle.machine.proofs.Machine as Ma
 use Rattle.machine.proofs.Machine.Laws as Ma′
-use Rattle.records.proofs.Run as T
-use Rattle.records.proofs.Listed as E
-use Rattle.records.proofs.Listed.Laws as E′
-use Rattle.records.proofs.inner.fill as fill
-use Rattle.records.proofs.inner.fill.Symbol as fill-def
-use Rattle.records.proofs.inner.fill.Symbol.{name as #fill}
-use Rattle.records.proofs.inner.fill.Met as fill-thm
-use Rattle.records.proofs.inner.written as written
-use Rattle.records.proofs.inner.written.Symbol as written-def
-use Rattle.records.proofs.inner.written.Symbol.{name as #written}
-use Rattle.records.proofs.inner.written.Met as written-thm
+use Rattle.rle_records.proofs.Run as T
+use Rattle.rle_records.proofs.Listed as E
+use Rattle.rle_records.proofs.Listed.Laws as E′
+use Rattle.rle_records.proofs.inner.fill as fill
+use Rattle.rle_records.proofs.inner.fill.Symbol as fill-def
+use Rattle.rle_records.proofs.inner.fill.Symbol.{name as #fill}
+use Rattle.rle_records.proofs.inner.fill.Met as fill-thm
+use Rattle.rle_records.proofs.inner.written as written
+use Rattle.rle_records.proofs.inner.written.Symbol as written-def
+use Rattle.rle_records.proofs.inner.written.Symbol.{name as #written}
+use Rattle.rle_records.proofs.inner.written.Met as written-thm
 use Rattle.rle.proofs.ChainSim as Ch
 use Rattle.rle.proofs.ChainSim.Laws as Ch′
 use Rattle.rle.proofs.ChainSim.left_check as check
@@ -383,5 +383,5 @@ left-spec 𝓤 H 𝓜 𝓖 𝓡 =
     (tables 𝓤 H 𝓜 𝓡 code.env .C) (tables 𝓤 H 𝓜 𝓡 code.env .Λ) #left code.function (code.unfolded 𝓤 H 𝓜 𝓡)
     (meets 𝓤 H (𝓖 .A) (givenOf 𝓤 H 𝓜 𝓖) (𝓜 .mem) (𝓡 .run) (tablesOf 𝓤 H 𝓜 (tables 𝓤 H 𝓜 𝓡 code.env))
     (cited 𝓤 H (Check 𝓤 H (𝓖 .A) (𝓜 .mem) (𝓡 .run)) 𝓜 𝓡 code.env #check check-def.routine code.calls-rle·ChainSim·left-check (check-thm.met 𝓤 H 𝓜 𝓖 𝓡))
-    (cited 𝓤 H (Written 𝓤 H (𝓖 .A) (𝓜 .mem) (𝓡 .run)) 𝓜 𝓡 code.env #written written-def.routine code.calls-records·inner·written (written-thm.met 𝓤 H 𝓜 𝓖 𝓡))
-    (cited 𝓤 H (Fill 𝓤 H (𝓖 .A) (𝓜 .mem) (𝓡 .run)) 𝓜 𝓡 code.env #fill fill-def.routine code.calls-records·inner·fill (fill-thm.met 𝓤 H 𝓜 𝓖 𝓡)))
+    (cited 𝓤 H (Written 𝓤 H (𝓖 .A) (𝓜 .mem) (𝓡 .run)) 𝓜 𝓡 code.env #written written-def.routine code.calls-rle-records·inner·written (written-thm.met 𝓤 H 𝓜 𝓖 𝓡))
+    (cited 𝓤 H (Fill 𝓤 H (𝓖 .A) (𝓜 .mem) (𝓡 .run)) 𝓜 𝓡 code.env #fill fill-def.routine code.calls-rle-records·inner·fill (fill-thm.met 𝓤 H 𝓜 𝓖 𝓡)))

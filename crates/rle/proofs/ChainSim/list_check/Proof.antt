@@ -1,4 +1,4 @@
-use Rattle.rle.specs.RecordCases.{list-refused, list-room}
+use Rattle.rle.specs.Facts.RecordCases.{list-refused, list-room}
 use borrow.Author.Needs.{needs}
 use Rattle.rle.proofs.ChainSim.list_check.Statement.{statement}
 use Rattle.rle.proofs.ChainSim.list_check.Tie as tie

@@ -1,6 +1,6 @@
 use native.Mathlib.Omega.{arith}
-use Rattle.rle.specs.Engine.{conf}
-use Rattle.rle.specs.QuestionCases.{left-sum, lowest-left, lowest-head, lowest-right, some-on-right}
+use Rattle.rle.specs.Model.Engine.{conf}
+use Rattle.rle.specs.Facts.QuestionCases.{left-sum, lowest-left, lowest-head, lowest-right, some-on-right}
 use borrow.Author.Needs.{needs}
 use Rattle.rle.proofs.ChainSim.lowest_cell.Statement.{statement}
 use Rattle.rle.proofs.ChainSim.lowest_cell.Tie as tie

@@ -1,5 +1,5 @@
 use native.Mathlib.Omega.{arith}
-use Rattle.rle.specs.OperationCases.{new-refused, new-lays, fresh-start, new-made}
+use Rattle.rle.specs.Facts.OperationCases.{new-refused, new-lays, fresh-start, new-made}
 use borrow.Author.Needs.{needs}
 use Rattle.rle.proofs.ChainSim.new.Statement.{statement}
 use Rattle.rle.proofs.ChainSim.new.Tie as tie

@@ -1,4 +1,4 @@
-use Rattle.rle.specs.QuestionCases.{asked-ok, extent-refused, extent-done}
+use Rattle.rle.specs.Facts.QuestionCases.{asked-ok, extent-refused, extent-done}
 use borrow.Author.Needs.{needs}
 use Rattle.rle.proofs.ChainSim.non_blank.Statement.{statement}
 use Rattle.rle.proofs.ChainSim.non_blank.Tie as tie

@@ -1,4 +1,4 @@
-use Rattle.rle.specs.OperationCases.{ran-refused, stride-ok, run-ok, ran-done}
+use Rattle.rle.specs.Facts.OperationCases.{ran-refused, stride-ok, run-ok, ran-done}
 use borrow.Author.Needs.{needs}
 use Rattle.rle.proofs.ChainSim.run.Statement.{statement}
 use Rattle.rle.proofs.ChainSim.run.Tie as tie

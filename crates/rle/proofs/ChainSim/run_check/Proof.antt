@@ -1,5 +1,5 @@
 use borrow.Author.Tests.{not-true, not-false}
-use Rattle.rle.specs.FitsCases.{run-refused, run-over, run-passed}
+use Rattle.rle.specs.Facts.FitsCases.{run-refused, run-over, run-passed}
 use borrow.Author.Needs.{needs}
 use Rattle.rle.proofs.ChainSim.run_check.Statement.{statement}
 use Rattle.rle.proofs.ChainSim.run_check.Tie as tie

@@ -1,7 +1,7 @@
 use mir.ValLaws.{toZ-ofZ}
 use mir.Syntax.{w64}
 use mathlib.Core.Path.{sym, _∙_}
-use Rattle.rle.specs.QuestionCases.{span-empty, span-cells}
+use Rattle.rle.specs.Facts.QuestionCases.{span-empty, span-cells}
 use borrow.Author.Needs.{needs}
 use Rattle.rle.proofs.ChainSim.span.Statement.{statement}
 use Rattle.rle.proofs.ChainSim.span.Tie as tie

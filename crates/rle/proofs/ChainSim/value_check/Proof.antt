@@ -1,5 +1,5 @@
 use borrow.Author.Tests.{not-true, not-false}
-use Rattle.rle.specs.FitsCases.{value-tapes, value-lefts, value-rights, value-misfit, value-passed}
+use Rattle.rle.specs.Facts.FitsCases.{value-tapes, value-lefts, value-rights, value-misfit, value-passed}
 use borrow.Author.Needs.{needs}
 use Rattle.rle.proofs.ChainSim.value_check.Statement.{statement}
 use Rattle.rle.proofs.ChainSim.value_check.Tie as tie

@@ -1,7 +1,7 @@
 use mathlib.Core.Path.{sym, _∙_}
 use mir.ValLaws.{toZ-ofZ}
 use mir.Syntax.{w64}
-use Rattle.rle.specs.QuestionCases.{asked-places, window-refused, window-done}
+use Rattle.rle.specs.Facts.QuestionCases.{asked-places, window-refused, window-done}
 use borrow.Author.Needs.{needs}
 use Rattle.rle.proofs.ChainSim.window.Statement.{statement}
 use Rattle.rle.proofs.ChainSim.window.Tie as tie

@@ -1,4 +1,4 @@
-use Rattle.tally.specs.SumCases.{measure-places, measure-runs, measure-sum}
+use Rattle.rle_counts.specs.Facts.SumCases.{measure-places, measure-runs, measure-sum}
 use borrow.Author.Tests.{not-true, not-false}
 use borrow.Author.Needs.{needs}
 use Rattle.rle.proofs.checks.measure.Statement.{statement}

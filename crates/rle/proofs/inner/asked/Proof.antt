@@ -1,4 +1,4 @@
-use Rattle.rle.specs.EngineCases.{asked-loops, asked-none}
+use Rattle.rle.specs.Facts.EngineCases.{asked-loops, asked-none}
 use Rattle.rle.proofs.inner.asked.Statement.{statement}
 use Rattle.rle.proofs.inner.asked.Tie as tie
 

@@ -1,4 +1,4 @@
-use Rattle.before.specs.LookCases.{entry-is}
+use Rattle.run_checks.specs.Facts.LookCases.{entry-is}
 use borrow.Author.Needs.{needs}
 use Rattle.rle.proofs.inner.entry_of.Statement.{statement}
 use Rattle.rle.proofs.inner.entry_of.Tie as tie

@@ -1,4 +1,4 @@
-use Rattle.rle.specs.EngineCases.{loops-leaves, loops-keeps}
+use Rattle.rle.specs.Facts.EngineCases.{loops-leaves, loops-keeps}
 use borrow.Author.Needs.{needs}
 use Rattle.rle.proofs.inner.loops_on.Statement.{statement}
 use Rattle.rle.proofs.inner.loops_on.Tie as tie

@@ -1,4 +1,4 @@
-use Rattle.rle.specs.VerdictCases.{verdict-halts, verdict-never, verdict-spent}
+use Rattle.rle.specs.Facts.VerdictCases.{verdict-halts, verdict-never, verdict-spent}
 use borrow.Author.Needs.{needs}
 use Rattle.rle.proofs.inner.verdict.Statement.{statement}
 use Rattle.rle.proofs.inner.verdict.Tie as tie

@@ -1,16 +1,16 @@
-use Rattle.times.specs.TurnCases.{loop-start, loop-stop, loop-fall, loop-next}
-use Rattle.rle_engine.specs.Kind.{chainKind}
+use Rattle.timeline_rule.specs.Facts.TurnCases.{loop-start, loop-stop, loop-fall, loop-next}
+use Rattle.rle_slots.specs.Model.Kind.{chainKind}
 use native.Mathlib.Omega.{arith}
 use mathlib.Core.Path.{refl, _≡_}
-use Rattle.rle_timeline.specs.Worlds.{Fits, W}
-use Rattle.times.specs.Sound.{LoopInv}
+use Rattle.rle_timeline.specs.Model.{Fits, withLent}
+use Rattle.timeline_rule.specs.Invariants.{LoopInv}
 use Prim.Native.Nat.{_-_}
 use lib.ListN.{length}
 use Rattle.rle_timeline.proofs.Timeline.advance_to.Statement.{statement}
 use Rattle.rle_timeline.proofs.Timeline.advance_to.Tie as tie
 
 abbrev Inv-loop : tie.InvT-loop
-Inv-loop self₀ m table ls₀ ll₀ rs₀ rl₀ store₀ size target self ls ll rs rl store = (LoopInv chainKind m table size (Fits m table size) target (W self₀ ls₀ ll₀ rs₀ rl₀ store₀) (W self ls ll rs rl store)) × (length ls ≡ length ls₀) × (length ll ≡ length ll₀) × (length rs ≡ length rs₀) × (length rl ≡ length rl₀) × (length store ≡ length store₀)
+Inv-loop self₀ m table ls₀ ll₀ rs₀ rl₀ store₀ size target self ls ll rs rl store = (LoopInv chainKind m table size (Fits m table size) target (withLent self₀ ls₀ ll₀ rs₀ rl₀ store₀) (withLent self ls ll rs rl store)) × (length ls ≡ length ls₀) × (length ll ≡ length ll₀) × (length rs ≡ length rs₀) × (length rl ≡ length rl₀) × (length store ≡ length store₀)
 
 abbrev μ-loop : tie.MeasureT-loop
 μ-loop self₀ m table ls₀ ll₀ rs₀ rl₀ store₀ size target self ls ll rs rl store = target - self .engine .steps

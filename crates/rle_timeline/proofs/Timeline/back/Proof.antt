@@ -1,5 +1,5 @@
-use Rattle.times.specs.CallCases.{back-on}
-use Rattle.rle_engine.specs.Kind.{chainKind}
+use Rattle.timeline_rule.specs.Facts.CallCases.{back-on}
+use Rattle.rle_slots.specs.Model.Kind.{chainKind}
 use borrow.Author.Needs.{needs}
 use Rattle.rle_timeline.proofs.Timeline.back.Statement.{statement}
 use Rattle.rle_timeline.proofs.Timeline.back.Tie as tie

@@ -1,5 +1,5 @@
-use Rattle.times.specs.WhichCases.{which-on}
-use Rattle.rle_engine.specs.Kind.{chainKind}
+use Rattle.timeline_rule.specs.Facts.WhichCases.{which-on}
+use Rattle.rle_slots.specs.Model.Kind.{chainKind}
 use borrow.Author.Needs.{needs}
 use Rattle.rle_timeline.proofs.Timeline.call.Statement.{statement}
 use Rattle.rle_timeline.proofs.Timeline.call.Tie as tie

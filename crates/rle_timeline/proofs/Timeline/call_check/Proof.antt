@@ -1,6 +1,6 @@
-use Rattle.times.specs.GoCases.{call-check, call-later}
-use Rattle.rle_timeline.specs.CodeCases.{sizes-in, low-in}
-use Rattle.rle_engine.specs.Kind.{chainKind}
+use Rattle.timeline_rule.specs.Facts.GoCases.{call-check, call-later}
+use Rattle.rle_timeline.specs.Facts.CallCases.{sizes-in, low-in}
+use Rattle.rle_slots.specs.Model.Kind.{chainKind}
 use borrow.Author.Needs.{needs}
 use Rattle.rle_timeline.proofs.Timeline.call_check.Statement.{statement}
 use Rattle.rle_timeline.proofs.Timeline.call_check.Tie as tie

@@ -1,5 +1,5 @@
-use Rattle.times.specs.CallCases.{forward-on}
-use Rattle.rle_engine.specs.Kind.{chainKind}
+use Rattle.timeline_rule.specs.Facts.CallCases.{forward-on}
+use Rattle.rle_slots.specs.Model.Kind.{chainKind}
 use borrow.Author.Needs.{needs}
 use Rattle.rle_timeline.proofs.Timeline.forward.Statement.{statement}
 use Rattle.rle_timeline.proofs.Timeline.forward.Tie as tie

@@ -1,4 +1,4 @@
-use Rattle.rle_timeline.specs.CodeCases.{back-refused, back-ready, back-done}
+use Rattle.rle_timeline.specs.Facts.CallCases.{back-refused, back-ready, back-done}
 use native.Mathlib.Omega.{arith}
 use borrow.Author.Needs.{needs}
 use Rattle.rle_timeline.proofs.Timeline.go_back.Statement.{statement}

@@ -1,5 +1,5 @@
-use Rattle.times.specs.GoCases.{on-goes}
-use Rattle.rle_engine.specs.Kind.{chainKind}
+use Rattle.timeline_rule.specs.Facts.GoCases.{on-goes}
+use Rattle.rle_slots.specs.Model.Kind.{chainKind}
 use borrow.Author.Needs.{needs}
 use Rattle.rle_timeline.proofs.Timeline.go_on.Statement.{statement}
 use Rattle.rle_timeline.proofs.Timeline.go_on.Tie as tie

@@ -1,7 +1,7 @@
-use Rattle.times.specs.GoCases.{to-here, to-back, to-on, to-loop}
-use Rattle.rle_timeline.specs.CodeCases.{stay-asks}
-use Rattle.rle_engine.specs.Kind.{chainKind}
-use Rattle.rle_timeline.specs.EngineFacts.{chain-sound}
+use Rattle.timeline_rule.specs.Facts.GoCases.{to-here, to-back, to-on, to-loop}
+use Rattle.rle_timeline.specs.Facts.CallCases.{stay-asks}
+use Rattle.rle_slots.specs.Model.Kind.{chainKind}
+use Rattle.rle_timeline.specs.Facts.Engine.{chain-sound}
 use borrow.Author.Needs.{needs}
 use Rattle.rle_timeline.proofs.Timeline.go_to.Statement.{statement}
 use Rattle.rle_timeline.proofs.Timeline.go_to.Tie as tie

@@ -1,8 +1,8 @@
-use Rattle.times.specs.NewCases.{new-refused, new-passed, new-room, new-made}
-use Rattle.rle_timeline.specs.CodeCases.{passed-sizes, new-save}
-use Rattle.rle_engine.specs.Kind.{chainKind}
+use Rattle.timeline_rule.specs.Facts.NewCases.{new-refused, new-passed, new-room, new-made}
+use Rattle.rle_timeline.specs.Facts.CallCases.{passed-sizes, new-save}
+use Rattle.rle_slots.specs.Model.Kind.{chainKind}
 use mathlib.Core.Path.{refl}
-use Rattle.rle.specs.Engine.{conf}
+use Rattle.rle.specs.Model.Engine.{conf}
 use borrow.Author.Needs.{needs}
 use Rattle.rle_timeline.proofs.Timeline.new.Statement.{statement}
 use Rattle.rle_timeline.proofs.Timeline.new.Tie as tie

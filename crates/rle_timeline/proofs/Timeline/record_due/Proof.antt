@@ -1,7 +1,7 @@
-use Rattle.times.specs.TurnCases.{rec-fit, rec-low, rec-not, rec-more, rec-yes}
-use Rattle.rle_timeline.specs.CodeCases.{rec-save}
-use Rattle.rle_timeline.specs.EngineFacts.{chain-sound}
-use Rattle.rle_engine.specs.Kind.{chainKind}
+use Rattle.timeline_rule.specs.Facts.TurnCases.{rec-fit, rec-low, rec-not, rec-more, rec-yes}
+use Rattle.rle_timeline.specs.Facts.CallCases.{rec-save}
+use Rattle.rle_timeline.specs.Facts.Engine.{chain-sound}
+use Rattle.rle_slots.specs.Model.Kind.{chainKind}
 use borrow.Author.Tests.{not-true, not-false}
 use native.Mathlib.Omega.{arith}
 use borrow.Author.Needs.{needs}

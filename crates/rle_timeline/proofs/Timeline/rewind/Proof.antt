@@ -1,9 +1,9 @@
-use Rattle.times.specs.GoCases.{back-small, back-inside}
-use Rattle.rle_timeline.specs.CodeCases.{rewind-found}
-use Rattle.rle_timeline.specs.EngineFacts.{chain-sound}
-use Rattle.rle_engine.specs.Kind.{chainKind}
+use Rattle.timeline_rule.specs.Facts.GoCases.{back-small, back-inside}
+use Rattle.rle_timeline.specs.Facts.CallCases.{rewind-found}
+use Rattle.rle_timeline.specs.Facts.Engine.{chain-sound}
+use Rattle.rle_slots.specs.Model.Kind.{chainKind}
 use native.Mathlib.Omega.{arith}
-use Rattle.rle_timeline.specs.Worlds.{Fits, W}
+use Rattle.rle_timeline.specs.Model.{Fits, withLent}
 use borrow.Author.Needs.{needs}
 use Rattle.rle_timeline.proofs.Timeline.rewind.Statement.{statement}
 use Rattle.rle_timeline.proofs.Timeline.rewind.Tie as tie
@@ -18,10 +18,10 @@ add-step : tie.Need-add-step
 add-step c = record { fits = omega (arith, back-small (c .before .before .before .before .before .before .before .before .before .before .before .args .self .times) (c .before .before .before .before .before .before .before .before .before .before .before .args .target) (c .before .before .slot-for .result) (c .before .before .slot-for .ensures) (c .before .before .before .before .before .before .before .before .before .before .before .pre .start), c .before .before .before .before .before .before .before .before .before .before .before .pre .top) }
 
 mul-at : tie.Need-mul-at
-mul-at c = record { fits = omega (arith, c .before .before .before .before .before .before .before .before .before .before .before .good .1 .1 .1 .1 .1 .1 .1 .0 .0, back-inside chainKind (c .before .before .before .before .before .before .before .before .before .before .before .args .m) (c .before .before .before .before .before .before .before .before .before .before .before .args .table .now) (c .before .before .before .before .before .before .before .before .before .before .before .args .size) (Fits (c .before .before .before .before .before .before .before .before .before .before .before .args .m) (c .before .before .before .before .before .before .before .before .before .before .before .args .table .now) (c .before .before .before .before .before .before .before .before .before .before .before .args .size)) (chain-sound (c .before .before .before .before .before .before .before .before .before .before .before .args .m) (c .before .before .before .before .before .before .before .before .before .before .before .args .table .now) (c .before .before .before .before .before .before .before .before .before .before .before .args .size) (λ j. c .before .before .before .before .before .before .before .before .before .before .shared-slice-known .given j .fits)) (c .before .before .before .before .before .before .before .before .before .before .before .args .target) (W (c .before .before .before .before .before .before .before .before .before .before .before .args .self) (c .before .before .before .before .before .before .before .before .before .before .before .args .ls .now) (c .before .before .before .before .before .before .before .before .before .before .before .args .ll .now) (c .before .before .before .before .before .before .before .before .before .before .before .args .rs .now) (c .before .before .before .before .before .before .before .before .before .before .before .args .rl .now) (c .before .before .before .before .before .before .before .before .before .before .before .args .store .now)) (c .before .before .before .before .before .before .before .before .before .before .before .pre) (c .before .before .slot-for .result) (c .before .before .slot-for .ensures)) }
+mul-at c = record { fits = omega (arith, c .before .before .before .before .before .before .before .before .before .before .before .good .1 .1 .1 .1 .1 .1 .1 .0 .0, back-inside chainKind (c .before .before .before .before .before .before .before .before .before .before .before .args .m) (c .before .before .before .before .before .before .before .before .before .before .before .args .table .now) (c .before .before .before .before .before .before .before .before .before .before .before .args .size) (Fits (c .before .before .before .before .before .before .before .before .before .before .before .args .m) (c .before .before .before .before .before .before .before .before .before .before .before .args .table .now) (c .before .before .before .before .before .before .before .before .before .before .before .args .size)) (chain-sound (c .before .before .before .before .before .before .before .before .before .before .before .args .m) (c .before .before .before .before .before .before .before .before .before .before .before .args .table .now) (c .before .before .before .before .before .before .before .before .before .before .before .args .size) (λ j. c .before .before .before .before .before .before .before .before .before .before .shared-slice-known .given j .fits)) (c .before .before .before .before .before .before .before .before .before .before .before .args .target) (withLent (c .before .before .before .before .before .before .before .before .before .before .before .args .self) (c .before .before .before .before .before .before .before .before .before .before .before .args .ls .now) (c .before .before .before .before .before .before .before .before .before .before .before .args .ll .now) (c .before .before .before .before .before .before .before .before .before .before .before .args .rs .now) (c .before .before .before .before .before .before .before .before .before .before .before .args .rl .now) (c .before .before .before .before .before .before .before .before .before .before .before .args .store .now)) (c .before .before .before .before .before .before .before .before .before .before .before .pre) (c .before .before .slot-for .result) (c .before .before .slot-for .ensures)) }
 
 add-end : tie.Need-add-end
-add-end c = record { fits = omega (arith, c .before .before .before .before .before .before .before .before .before .before .before .good .1 .1 .1 .1 .1 .1 .1 .0 .0, back-inside chainKind (c .before .before .before .before .before .before .before .before .before .before .before .args .m) (c .before .before .before .before .before .before .before .before .before .before .before .args .table .now) (c .before .before .before .before .before .before .before .before .before .before .before .args .size) (Fits (c .before .before .before .before .before .before .before .before .before .before .before .args .m) (c .before .before .before .before .before .before .before .before .before .before .before .args .table .now) (c .before .before .before .before .before .before .before .before .before .before .before .args .size)) (chain-sound (c .before .before .before .before .before .before .before .before .before .before .before .args .m) (c .before .before .before .before .before .before .before .before .before .before .before .args .table .now) (c .before .before .before .before .before .before .before .before .before .before .before .args .size) (λ j. c .before .before .before .before .before .before .before .before .before .before .shared-slice-known .given j .fits)) (c .before .before .before .before .before .before .before .before .before .before .before .args .target) (W (c .before .before .before .before .before .before .before .before .before .before .before .args .self) (c .before .before .before .before .before .before .before .before .before .before .before .args .ls .now) (c .before .before .before .before .before .before .before .before .before .before .before .args .ll .now) (c .before .before .before .before .before .before .before .before .before .before .before .args .rs .now) (c .before .before .before .before .before .before .before .before .before .before .before .args .rl .now) (c .before .before .before .before .before .before .before .before .before .before .before .args .store .now)) (c .before .before .before .before .before .before .before .before .before .before .before .pre) (c .before .before .slot-for .result) (c .before .before .slot-for .ensures)) }
+add-end c = record { fits = omega (arith, c .before .before .before .before .before .before .before .before .before .before .before .good .1 .1 .1 .1 .1 .1 .1 .0 .0, back-inside chainKind (c .before .before .before .before .before .before .before .before .before .before .before .args .m) (c .before .before .before .before .before .before .before .before .before .before .before .args .table .now) (c .before .before .before .before .before .before .before .before .before .before .before .args .size) (Fits (c .before .before .before .before .before .before .before .before .before .before .before .args .m) (c .before .before .before .before .before .before .before .before .before .before .before .args .table .now) (c .before .before .before .before .before .before .before .before .before .before .before .args .size)) (chain-sound (c .before .before .before .before .before .before .before .before .before .before .before .args .m) (c .before .before .before .before .before .before .before .before .before .before .before .args .table .now) (c .before .before .before .before .before .before .before .before .before .before .before .args .size) (λ j. c .before .before .before .before .before .before .before .before .before .before .shared-slice-known .given j .fits)) (c .before .before .before .before .before .before .before .before .before .before .before .args .target) (withLent (c .before .before .before .before .before .before .before .before .before .before .before .args .self) (c .before .before .before .before .before .before .before .before .before .before .before .args .ls .now) (c .before .before .before .before .before .before .before .before .before .before .before .args .ll .now) (c .before .before .before .before .before .before .before .before .before .before .before .args .rs .now) (c .before .before .before .before .before .before .before .before .before .before .before .args .rl .now) (c .before .before .before .before .before .before .before .before .before .before .before .args .store .now)) (c .before .before .before .before .before .before .before .before .before .before .before .pre) (c .before .before .slot-for .result) (c .before .before .slot-for .ensures)) }
 
 sub-restore : tie.Need-sub-restore
 sub-restore c = search needs
@@ -30,7 +30,7 @@ part-restore-start : tie.Need-part-restore-start
 part-restore-start c = search needs
 
 part-restore-end : tie.Need-part-restore-end
-part-restore-end c = omega (arith, back-inside chainKind (c .before .before .before .before .before .before .before .before .before .before .before .args .m) (c .before .before .before .before .before .before .before .before .before .before .before .args .table .now) (c .before .before .before .before .before .before .before .before .before .before .before .args .size) (Fits (c .before .before .before .before .before .before .before .before .before .before .before .args .m) (c .before .before .before .before .before .before .before .before .before .before .before .args .table .now) (c .before .before .before .before .before .before .before .before .before .before .before .args .size)) (chain-sound (c .before .before .before .before .before .before .before .before .before .before .before .args .m) (c .before .before .before .before .before .before .before .before .before .before .before .args .table .now) (c .before .before .before .before .before .before .before .before .before .before .before .args .size) (λ j. c .before .before .before .before .before .before .before .before .before .before .shared-slice-known .given j .fits)) (c .before .before .before .before .before .before .before .before .before .before .before .args .target) (W (c .before .before .before .before .before .before .before .before .before .before .before .args .self) (c .before .before .before .before .before .before .before .before .before .before .before .args .ls .now) (c .before .before .before .before .before .before .before .before .before .before .before .args .ll .now) (c .before .before .before .before .before .before .before .before .before .before .before .args .rs .now) (c .before .before .before .before .before .before .before .before .before .before .before .args .rl .now) (c .before .before .before .before .before .before .before .before .before .before .before .args .store .now)) (c .before .before .before .before .before .before .before .before .before .before .before .pre) (c .before .before .slot-for .result) (c .before .before .slot-for .ensures))
+part-restore-end c = omega (arith, back-inside chainKind (c .before .before .before .before .before .before .before .before .before .before .before .args .m) (c .before .before .before .before .before .before .before .before .before .before .before .args .table .now) (c .before .before .before .before .before .before .before .before .before .before .before .args .size) (Fits (c .before .before .before .before .before .before .before .before .before .before .before .args .m) (c .before .before .before .before .before .before .before .before .before .before .before .args .table .now) (c .before .before .before .before .before .before .before .before .before .before .before .args .size)) (chain-sound (c .before .before .before .before .before .before .before .before .before .before .before .args .m) (c .before .before .before .before .before .before .before .before .before .before .before .args .table .now) (c .before .before .before .before .before .before .before .before .before .before .before .args .size) (λ j. c .before .before .before .before .before .before .before .before .before .before .shared-slice-known .given j .fits)) (c .before .before .before .before .before .before .before .before .before .before .before .args .target) (withLent (c .before .before .before .before .before .before .before .before .before .before .before .args .self) (c .before .before .before .before .before .before .before .before .before .before .before .args .ls .now) (c .before .before .before .before .before .before .before .before .before .before .before .args .ll .now) (c .before .before .before .before .before .before .before .before .before .before .before .args .rs .now) (c .before .before .before .before .before .before .before .before .before .before .before .args .rl .now) (c .before .before .before .before .before .before .before .before .before .before .before .args .store .now)) (c .before .before .before .before .before .before .before .before .before .before .before .pre) (c .before .before .slot-for .result) (c .before .before .slot-for .ensures))
 
 restore-requires : tie.Need-restore-requires
 restore-requires c κs = search needs

@@ -1,7 +1,7 @@
-use Rattle.times.specs.TurnCases.{turn-stride, turn-there, turn-stuck, turn-on}
-use Rattle.rle_timeline.specs.CodeCases.{stride-at}
-use Rattle.rle_timeline.specs.EngineFacts.{chain-sound}
-use Rattle.rle_engine.specs.Kind.{chainKind}
+use Rattle.timeline_rule.specs.Facts.TurnCases.{turn-stride, turn-there, turn-stuck, turn-on}
+use Rattle.rle_timeline.specs.Facts.CallCases.{stride-at}
+use Rattle.rle_timeline.specs.Facts.Engine.{chain-sound}
+use Rattle.rle_slots.specs.Model.Kind.{chainKind}
 use native.Mathlib.Omega.{arith}
 use borrow.Author.Needs.{needs}
 use Rattle.rle_timeline.proofs.Timeline.turn.Statement.{statement}

@@ -1,6 +1,6 @@
-use Rattle.times.specs.GoCases.{new-check, new-first}
-use Rattle.rle_timeline.specs.CodeCases.{sizes-in}
-use Rattle.rle_engine.specs.Kind.{chainKind}
+use Rattle.timeline_rule.specs.Facts.GoCases.{new-check, new-first}
+use Rattle.rle_timeline.specs.Facts.CallCases.{sizes-in}
+use Rattle.rle_slots.specs.Model.Kind.{chainKind}
 use borrow.Author.Needs.{needs}
 use Rattle.rle_timeline.proofs.checks.new_check.Statement.{statement}
 use Rattle.rle_timeline.proofs.checks.new_check.Tie as tie

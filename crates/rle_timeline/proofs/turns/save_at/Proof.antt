@@ -1,6 +1,6 @@
-use Rattle.times.specs.TurnCases.{saved-is}
-use Rattle.rle_timeline.specs.CodeCases.{part-long}
-use Rattle.rle_engine.specs.Kind.{chainKind}
+use Rattle.timeline_rule.specs.Facts.TurnCases.{saved-is}
+use Rattle.rle_timeline.specs.Facts.CallCases.{part-long}
+use Rattle.rle_slots.specs.Model.Kind.{chainKind}
 use native.Mathlib.Omega.{arith}
 use borrow.Author.Needs.{needs}
 use Rattle.rle_timeline.proofs.turns.save_at.Statement.{statement}

@@ -1,6 +1,6 @@
-use Rattle.times.specs.TurnCases.{stride-is}
-use Rattle.rle_timeline.specs.CodeCases.{stride-asks}
-use Rattle.rle_engine.specs.Kind.{chainKind}
+use Rattle.timeline_rule.specs.Facts.TurnCases.{stride-is}
+use Rattle.rle_timeline.specs.Facts.CallCases.{stride-asks}
+use Rattle.rle_slots.specs.Model.Kind.{chainKind}
 use borrow.Author.Needs.{needs}
 use Rattle.rle_timeline.proofs.turns.stride.Statement.{statement}
 use Rattle.rle_timeline.proofs.turns.stride.Tie as tie

@@ -1,5 +1,5 @@
 use native.Mathlib.Omega.{arith}
-use Rattle.sim.specs.EngineCases.{stepped, rooms-each}
+use Rattle.sim.specs.Facts.EngineCases.{stepped, rooms-each}
 use borrow.Author.Needs.{needs}
 use Rattle.sim.proofs.Simulator.advance.Statement.{statement}
 use Rattle.sim.proofs.Simulator.advance.Tie as tie

@@ -1,4 +1,4 @@
-use Rattle.sim.specs.Operations.{bareSim}
+use Rattle.sim.specs.Model.Operations.{bareSim}
 use mathlib.Core.Path.{refl}
 use borrow.Author.Needs.{needs}
 use Rattle.sim.proofs.Simulator.bare.Statement.{statement}

@@ -1,4 +1,4 @@
-use Rattle.sim.specs.QuestionCases.{asked-ok, count-refused, count-done}
+use Rattle.sim.specs.Facts.QuestionCases.{asked-ok, count-refused, count-done}
 use borrow.Author.Needs.{needs}
 use Rattle.sim.proofs.Simulator.count_non_blank.Statement.{statement}
 use Rattle.sim.proofs.Simulator.count_non_blank.Tie as tie

@@ -1,4 +1,4 @@
-use Rattle.sim.specs.OperationCases.{engine-table, engine-value}
+use Rattle.sim.specs.Facts.OperationCases.{engine-table, engine-value}
 use borrow.Author.Needs.{needs}
 use Rattle.sim.proofs.Simulator.engine_check.Statement.{statement}
 use Rattle.sim.proofs.Simulator.engine_check.Tie as tie

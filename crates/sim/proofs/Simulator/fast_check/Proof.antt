@@ -1,7 +1,7 @@
-use Rattle.machine.specs.CheckFacts.{ranges}
+use Rattle.machine.specs.Facts.Check.{ranges}
 use mathlib.Core.Path.{sym, _∙_}
 use borrow.Author.Tests.{not-true, not-false}
-use Rattle.sim.specs.OperationCases.{fast-refused, fast-wrong, fast-passed}
+use Rattle.sim.specs.Facts.OperationCases.{fast-refused, fast-wrong, fast-passed}
 use borrow.Author.Needs.{needs}
 use Rattle.sim.proofs.Simulator.fast_check.Statement.{statement}
 use Rattle.sim.proofs.Simulator.fast_check.Tie as tie

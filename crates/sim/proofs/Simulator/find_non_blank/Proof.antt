@@ -1,6 +1,6 @@
 use mir.ValLaws.{toZ-ofZ}
 use mir.Syntax.{w64}
-use Rattle.sim.specs.QuestionCases.{asked-ok, find-refused, find-done}
+use Rattle.sim.specs.Facts.QuestionCases.{asked-ok, find-refused, find-done}
 use borrow.Author.Needs.{needs}
 use Rattle.sim.proofs.Simulator.find_non_blank.Statement.{statement}
 use Rattle.sim.proofs.Simulator.find_non_blank.Tie as tie

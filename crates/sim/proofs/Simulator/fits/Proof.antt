@@ -1,5 +1,5 @@
-use Rattle.sim.specs.Operations.{simFits}
-use Rattle.laws.specs.Tests.{tests, via}
+use Rattle.sim.specs.Model.Operations.{simFits}
+use Rattle.notation.specs.Facts.Tests.{tests, via}
 use borrow.Author.Needs.{needs}
 use Rattle.sim.proofs.Simulator.fits.Statement.{statement}
 use Rattle.sim.proofs.Simulator.fits.Tie as tie

@@ -1,5 +1,5 @@
 use borrow.Author.Tests.{not-true, not-false}
-use Rattle.sim.specs.OperationCases.{fuel-refused, fuel-over, fuel-passed}
+use Rattle.sim.specs.Facts.OperationCases.{fuel-refused, fuel-over, fuel-passed}
 use borrow.Author.Needs.{needs}
 use Rattle.sim.proofs.Simulator.fuel_check.Statement.{statement}
 use Rattle.sim.proofs.Simulator.fuel_check.Tie as tie

@@ -1,6 +1,6 @@
 use mir.ValLaws.{toZ-ofZ}
 use mir.Syntax.{w64}
-use Rattle.sim.specs.QuestionCases.{asked-ok, get-refused, get-done}
+use Rattle.sim.specs.Facts.QuestionCases.{asked-ok, get-refused, get-done}
 use borrow.Author.Needs.{needs}
 use Rattle.sim.proofs.Simulator.get.Statement.{statement}
 use Rattle.sim.proofs.Simulator.get.Tie as tie

@@ -1,4 +1,4 @@
-use Rattle.sim.specs.Operations.{handBack}
+use Rattle.sim.specs.Model.Operations.{handBack}
 use mathlib.Core.Path.{refl}
 use borrow.Author.Needs.{needs}
 use Rattle.sim.proofs.Simulator.hand_back.Statement.{statement}

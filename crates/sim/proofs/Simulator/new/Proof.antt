@@ -1,6 +1,6 @@
 use native.Mathlib.Omega.{arith}
-use Rattle.before.specs.SizesCases.{fresh-ok}
-use Rattle.sim.specs.OperationCases.{new-refused, new-made}
+use Rattle.run_checks.specs.Facts.SizesCases.{fresh-ok}
+use Rattle.sim.specs.Facts.OperationCases.{new-refused, new-made}
 use borrow.Author.Needs.{needs}
 use Rattle.sim.proofs.Simulator.new.Statement.{statement}
 use Rattle.sim.proofs.Simulator.new.Tie as tie

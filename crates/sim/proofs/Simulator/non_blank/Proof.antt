@@ -1,4 +1,4 @@
-use Rattle.sim.specs.QuestionCases.{asked-ok, extent-refused, extent-done}
+use Rattle.sim.specs.Facts.QuestionCases.{asked-ok, extent-refused, extent-done}
 use borrow.Author.Needs.{needs}
 use Rattle.sim.proofs.Simulator.non_blank.Statement.{statement}
 use Rattle.sim.proofs.Simulator.non_blank.Tie as tie

@@ -1,4 +1,4 @@
-use Rattle.sim.specs.QuestionCases.{question-refused, question-lacks, question-passed}
+use Rattle.sim.specs.Facts.QuestionCases.{question-refused, question-lacks, question-passed}
 use borrow.Author.Needs.{needs}
 use Rattle.sim.proofs.Simulator.question_check.Statement.{statement}
 use Rattle.sim.proofs.Simulator.question_check.Tie as tie

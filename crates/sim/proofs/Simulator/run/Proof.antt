@@ -1,4 +1,4 @@
-use Rattle.sim.specs.AnswerCases.{run-cleared, run-answers}
+use Rattle.sim.specs.Facts.AnswerCases.{run-cleared, run-answers}
 use borrow.Author.Needs.{needs}
 use Rattle.sim.proofs.Simulator.run.Statement.{statement}
 use Rattle.sim.proofs.Simulator.run.Tie as tie

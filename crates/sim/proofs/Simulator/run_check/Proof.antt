@@ -1,5 +1,5 @@
 use mathlib.Core.List.{[]}
-use Rattle.sim.specs.OperationCases.{run-refused, run-passed}
+use Rattle.sim.specs.Facts.OperationCases.{run-refused, run-passed}
 use borrow.Author.Needs.{needs}
 use Rattle.sim.proofs.Simulator.run_check.Statement.{statement}
 use Rattle.sim.proofs.Simulator.run_check.Tie as tie

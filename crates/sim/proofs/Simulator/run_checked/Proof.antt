@@ -1,5 +1,5 @@
-use Rattle.sim.specs.AnswerCases.{ran-refused, ran-done}
-use Rattle.sim.specs.OperationCases.{stride-ok, run-says, run-ok}
+use Rattle.sim.specs.Facts.AnswerCases.{ran-refused, ran-done}
+use Rattle.sim.specs.Facts.OperationCases.{stride-ok, run-says, run-ok}
 use borrow.Author.Needs.{needs}
 use Rattle.sim.proofs.Simulator.run_checked.Statement.{statement}
 use Rattle.sim.proofs.Simulator.run_checked.Tie as tie

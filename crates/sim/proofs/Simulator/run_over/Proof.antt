@@ -1,13 +1,13 @@
-use Rattle.machine.specs.CheckFacts.{ranges}
+use Rattle.machine.specs.Facts.Check.{ranges}
 use borrow.Author.Needs.{needs}
 use Rattle.sim.proofs.Simulator.run_over.Statement.{statement}
 use Rattle.sim.proofs.Simulator.run_over.Tie as tie
 
-pays-requires : tie.Need-pays-requires
-pays-requires c κs = let g = ranges _ _ (c .before .before .before .before .before .pre .1 .1) in (g .states-high, g .symbols-high)
+worth-packing-requires : tie.Need-worth-packing-requires
+worth-packing-requires c κs = let g = ranges _ _ (c .before .before .before .before .before .pre .1 .1) in (g .states-high, g .symbols-high)
 
 run-small-requires : tie.Need-run-small-requires
-run-small-requires c κs = (c .before .before .before .before .before .before .before .before .before .before .pre .0, (c .before .before .before .before .before .before .before .before .before .before .pre .1 .1, c .before .before .before .before .pays .ensures .small (c .before .before .before .if1 .taken)))
+run-small-requires c κs = (c .before .before .before .before .before .before .before .before .before .before .pre .0, (c .before .before .before .before .before .before .before .before .before .before .pre .1 .1, c .before .before .before .before .worth-packing .ensures .small (c .before .before .before .if1 .taken)))
 
 same-length : tie.Need-same-length
 same-length c = search needs
@@ -40,7 +40,7 @@ pub run-over-spec : {M : Type 1} → statement M
 run-over-spec =
     tie.close
     (tie.spec
-    pays-requires
+    worth-packing-requires
     run-small-requires
     same-length
     same-length-2

@@ -1,4 +1,4 @@
-use Rattle.sim.specs.AnswerCases.{fast-cleared, fast-answers}
+use Rattle.sim.specs.Facts.AnswerCases.{fast-cleared, fast-answers}
 use borrow.Author.Needs.{needs}
 use Rattle.sim.proofs.Simulator.run_packed.Statement.{statement}
 use Rattle.sim.proofs.Simulator.run_packed.Tie as tie

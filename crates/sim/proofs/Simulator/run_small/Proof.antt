@@ -1,7 +1,7 @@
 use mathlib.Core.Path.{refl, sym}
 use native.Mathlib.Omega.{arith}
 use lib.Seq.{length-take-le}
-use Rattle.sim.specs.RunsCases.{small-words}
+use Rattle.sim.specs.Facts.BurstCases.{small-words}
 use borrow.Author.Needs.{needs}
 use Rattle.sim.proofs.Simulator.run_small.Statement.{statement}
 use Rattle.sim.proofs.Simulator.run_small.Tie as tie

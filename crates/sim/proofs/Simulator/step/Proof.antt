@@ -1,4 +1,4 @@
-use Rattle.sim.specs.AnswerCases.{run-cleared, step-answers}
+use Rattle.sim.specs.Facts.AnswerCases.{run-cleared, step-answers}
 use borrow.Author.Needs.{needs}
 use Rattle.sim.proofs.Simulator.step.Statement.{statement}
 use Rattle.sim.proofs.Simulator.step.Tie as tie

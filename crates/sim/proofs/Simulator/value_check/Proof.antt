@@ -1,5 +1,5 @@
-use Rattle.sim.specs.Operations.{valueCheck}
-use Rattle.laws.specs.Tests.{tests, via}
+use Rattle.sim.specs.Model.Operations.{valueCheck}
+use Rattle.notation.specs.Facts.Tests.{tests, via}
 use borrow.Author.Needs.{needs}
 use Rattle.sim.proofs.Simulator.value_check.Statement.{statement}
 use Rattle.sim.proofs.Simulator.value_check.Tie as tie

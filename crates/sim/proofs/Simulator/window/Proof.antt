@@ -1,7 +1,7 @@
 use mathlib.Core.Path.{sym, _∙_}
 use mir.ValLaws.{toZ-ofZ}
 use mir.Syntax.{w64}
-use Rattle.sim.specs.QuestionCases.{asked-ok, window-refused, window-done}
+use Rattle.sim.specs.Facts.QuestionCases.{asked-ok, window-refused, window-done}
 use borrow.Author.Needs.{needs}
 use Rattle.sim.proofs.Simulator.window.Statement.{statement}
 use Rattle.sim.proofs.Simulator.window.Tie as tie

@@ -1,5 +1,5 @@
 use mathlib.Core.Path.{sym}
-use Rattle.sim.specs.AnswerCases.{run-cleared}
+use Rattle.sim.specs.Facts.AnswerCases.{run-cleared}
 use borrow.Author.Needs.{needs}
 use Rattle.sim.proofs.inner.run_all.Statement.{statement}
 use Rattle.sim.proofs.inner.run_all.Tie as tie

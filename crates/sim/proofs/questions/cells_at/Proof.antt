@@ -1,4 +1,4 @@
-use Rattle.laws.specs.Tests.{tests}
+use Rattle.notation.specs.Facts.Tests.{tests}
 use Rattle.sim.proofs.questions.cells_at.Statement.{statement}
 use Rattle.sim.proofs.questions.cells_at.Tie as tie
 

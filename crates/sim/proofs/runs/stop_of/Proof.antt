@@ -1,4 +1,4 @@
-use Rattle.sim.specs.RunsCases.{misses-never, misses-from}
+use Rattle.sim.specs.Facts.BurstCases.{misses-never, misses-from}
 use borrow.Author.Needs.{needs}
 use Rattle.sim.proofs.runs.stop_of.Statement.{statement}
 use Rattle.sim.proofs.runs.stop_of.Tie as tie

@@ -1,16 +1,16 @@
-use Rattle.times.specs.TurnCases.{loop-start, loop-stop, loop-fall, loop-next}
-use Rattle.sim_engine.specs.Kind.{plainKind}
+use Rattle.timeline_rule.specs.Facts.TurnCases.{loop-start, loop-stop, loop-fall, loop-next}
+use Rattle.sim_slots.specs.Model.Kind.{plainKind}
 use native.Mathlib.Omega.{arith}
 use mathlib.Core.Path.{refl, _≡_}
-use Rattle.sim_timeline.specs.Worlds.{Fits, W}
-use Rattle.times.specs.Sound.{LoopInv}
+use Rattle.sim_timeline.specs.Model.{Fits, withLent}
+use Rattle.timeline_rule.specs.Invariants.{LoopInv}
 use Prim.Native.Nat.{_-_}
 use lib.ListN.{length}
 use Rattle.sim_timeline.proofs.Timeline.advance_to.Statement.{statement}
 use Rattle.sim_timeline.proofs.Timeline.advance_to.Tie as tie
 
 abbrev Inv-loop : tie.InvT-loop
-Inv-loop self₀ m table c0₀ c1₀ c2₀ store₀ size target self c0 c1 c2 store = (LoopInv plainKind m table size (Fits m table size) target (W self₀ c0₀ c1₀ c2₀ store₀) (W self c0 c1 c2 store)) × (length c0 ≡ length c0₀) × (length c1 ≡ length c1₀) × (length c2 ≡ length c2₀) × (length store ≡ length store₀)
+Inv-loop self₀ m table c0₀ c1₀ c2₀ store₀ size target self c0 c1 c2 store = (LoopInv plainKind m table size (Fits m table size) target (withLent self₀ c0₀ c1₀ c2₀ store₀) (withLent self c0 c1 c2 store)) × (length c0 ≡ length c0₀) × (length c1 ≡ length c1₀) × (length c2 ≡ length c2₀) × (length store ≡ length store₀)
 
 abbrev μ-loop : tie.MeasureT-loop
 μ-loop self₀ m table c0₀ c1₀ c2₀ store₀ size target self c0 c1 c2 store = target - self .engine .steps

@@ -1,5 +1,5 @@
-use Rattle.times.specs.WhichCases.{which-on}
-use Rattle.sim_engine.specs.Kind.{plainKind}
+use Rattle.timeline_rule.specs.Facts.WhichCases.{which-on}
+use Rattle.sim_slots.specs.Model.Kind.{plainKind}
 use borrow.Author.Needs.{needs}
 use Rattle.sim_timeline.proofs.Timeline.call.Statement.{statement}
 use Rattle.sim_timeline.proofs.Timeline.call.Tie as tie

@@ -1,6 +1,6 @@
-use Rattle.times.specs.GoCases.{call-check, call-later}
-use Rattle.sim_timeline.specs.CodeCases.{sizes-in, low-in}
-use Rattle.sim_engine.specs.Kind.{plainKind}
+use Rattle.timeline_rule.specs.Facts.GoCases.{call-check, call-later}
+use Rattle.sim_timeline.specs.Facts.CallCases.{sizes-in, low-in}
+use Rattle.sim_slots.specs.Model.Kind.{plainKind}
 use borrow.Author.Needs.{needs}
 use Rattle.sim_timeline.proofs.Timeline.call_check.Statement.{statement}
 use Rattle.sim_timeline.proofs.Timeline.call_check.Tie as tie

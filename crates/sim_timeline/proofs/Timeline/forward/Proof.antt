@@ -1,5 +1,5 @@
-use Rattle.times.specs.CallCases.{forward-on}
-use Rattle.sim_engine.specs.Kind.{plainKind}
+use Rattle.timeline_rule.specs.Facts.CallCases.{forward-on}
+use Rattle.sim_slots.specs.Model.Kind.{plainKind}
 use borrow.Author.Needs.{needs}
 use Rattle.sim_timeline.proofs.Timeline.forward.Statement.{statement}
 use Rattle.sim_timeline.proofs.Timeline.forward.Tie as tie

@@ -1,5 +1,5 @@
-use Rattle.times.specs.GoCases.{on-goes}
-use Rattle.sim_engine.specs.Kind.{plainKind}
+use Rattle.timeline_rule.specs.Facts.GoCases.{on-goes}
+use Rattle.sim_slots.specs.Model.Kind.{plainKind}
 use borrow.Author.Needs.{needs}
 use Rattle.sim_timeline.proofs.Timeline.go_on.Statement.{statement}
 use Rattle.sim_timeline.proofs.Timeline.go_on.Tie as tie

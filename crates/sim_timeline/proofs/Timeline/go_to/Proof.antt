@@ -1,7 +1,7 @@
-use Rattle.times.specs.GoCases.{to-here, to-back, to-on, to-loop}
-use Rattle.sim_timeline.specs.CodeCases.{stay-asks}
-use Rattle.sim_engine.specs.Kind.{plainKind}
-use Rattle.sim_timeline.specs.EngineFacts.{plain-sound}
+use Rattle.timeline_rule.specs.Facts.GoCases.{to-here, to-back, to-on, to-loop}
+use Rattle.sim_timeline.specs.Facts.CallCases.{stay-asks}
+use Rattle.sim_slots.specs.Model.Kind.{plainKind}
+use Rattle.sim_timeline.specs.Facts.Engine.{plain-sound}
 use borrow.Author.Needs.{needs}
 use Rattle.sim_timeline.proofs.Timeline.go_to.Statement.{statement}
 use Rattle.sim_timeline.proofs.Timeline.go_to.Tie as tie

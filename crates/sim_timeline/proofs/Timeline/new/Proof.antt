@@ -1,8 +1,8 @@
-use Rattle.times.specs.NewCases.{new-refused, new-passed, new-room, new-made}
-use Rattle.sim_timeline.specs.CodeCases.{passed-sizes, new-save}
-use Rattle.sim_engine.specs.Kind.{plainKind}
+use Rattle.timeline_rule.specs.Facts.NewCases.{new-refused, new-passed, new-room, new-made}
+use Rattle.sim_timeline.specs.Facts.CallCases.{passed-sizes, new-save}
+use Rattle.sim_slots.specs.Model.Kind.{plainKind}
 use mathlib.Core.Path.{refl}
-use Rattle.sim.specs.Engine.{conf}
+use Rattle.sim.specs.Model.Engine.{conf}
 use borrow.Author.Needs.{needs}
 use Rattle.sim_timeline.proofs.Timeline.new.Statement.{statement}
 use Rattle.sim_timeline.proofs.Timeline.new.Tie as tie

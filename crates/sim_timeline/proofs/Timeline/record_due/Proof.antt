@@ -1,7 +1,7 @@
-use Rattle.times.specs.TurnCases.{rec-fit, rec-low, rec-not, rec-more, rec-yes}
-use Rattle.sim_timeline.specs.CodeCases.{rec-save}
-use Rattle.sim_timeline.specs.EngineFacts.{plain-sound}
-use Rattle.sim_engine.specs.Kind.{plainKind}
+use Rattle.timeline_rule.specs.Facts.TurnCases.{rec-fit, rec-low, rec-not, rec-more, rec-yes}
+use Rattle.sim_timeline.specs.Facts.CallCases.{rec-save}
+use Rattle.sim_timeline.specs.Facts.Engine.{plain-sound}
+use Rattle.sim_slots.specs.Model.Kind.{plainKind}
 use borrow.Author.Tests.{not-true, not-false}
 use native.Mathlib.Omega.{arith}
 use borrow.Author.Needs.{needs}

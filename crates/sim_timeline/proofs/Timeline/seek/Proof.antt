@@ -1,8 +1,8 @@
-use Rattle.times.specs.CallCases.{seek-none, seek-passed, seek-ready, seek-done}
-use Rattle.sim_timeline.specs.CodeCases.{passed-sizes}
-use Rattle.sim_engine.specs.Kind.{plainKind}
-use Rattle.sim_timeline.specs.EngineFacts.{plain-sound}
-use Rattle.sim_timeline.specs.Worlds.{W}
+use Rattle.timeline_rule.specs.Facts.CallCases.{seek-none, seek-passed, seek-ready, seek-done}
+use Rattle.sim_timeline.specs.Facts.CallCases.{passed-sizes}
+use Rattle.sim_slots.specs.Model.Kind.{plainKind}
+use Rattle.sim_timeline.specs.Facts.Engine.{plain-sound}
+use Rattle.sim_timeline.specs.Model.{withLent}
 use borrow.Author.Needs.{needs}
 use Rattle.sim_timeline.proofs.Timeline.seek.Statement.{statement}
 use Rattle.sim_timeline.proofs.Timeline.seek.Tie as tie
@@ -26,19 +26,19 @@ same-length-4 : tie.Need-same-length-4
 same-length-4 c = search needs
 
 returns : tie.Need-returns
-returns c = seek-none plainKind (c .before .before .before .before .before .before .before .before .before .before .before .before .before .args .m) (c .before .before .before .before .before .before .before .before .before .before .before .before .before .args .table .now) (W (c .before .before .before .before .before .before .before .before .before .before .before .before .before .args .self) (c .before .before .before .before .before .before .before .before .before .before .before .before .before .args .c0 .now) (c .before .before .before .before .before .before .before .before .before .before .before .before .before .args .c1 .now) (c .before .before .before .before .before .before .before .before .before .before .before .before .before .args .c2 .now) (c .before .before .before .before .before .before .before .before .before .before .before .before .before .args .store .now)) (c .before .before .before .before .before .before .before .before .before .before .before .before .before .args .target) _ (c .before .before .before .call-check .ensures) _ (c .before .checked .given .1)
+returns c = seek-none plainKind (c .before .before .before .before .before .before .before .before .before .before .before .before .before .args .m) (c .before .before .before .before .before .before .before .before .before .before .before .before .before .args .table .now) (withLent (c .before .before .before .before .before .before .before .before .before .before .before .before .before .args .self) (c .before .before .before .before .before .before .before .before .before .before .before .before .before .args .c0 .now) (c .before .before .before .before .before .before .before .before .before .before .before .before .before .args .c1 .now) (c .before .before .before .before .before .before .before .before .before .before .before .before .before .args .c2 .now) (c .before .before .before .before .before .before .before .before .before .before .before .before .before .args .store .now)) (c .before .before .before .before .before .before .before .before .before .before .before .before .before .args .target) _ (c .before .before .before .call-check .ensures) _ (c .before .checked .given .1)
 
 enum-told : tie.Need-enum-told
 enum-told c = search needs
 
 slot-size-requires : tie.Need-slot-size-requires
-slot-size-requires c κs = passed-sizes _ _ _ (seek-passed plainKind (c .before .before .before .before .before .before .before .before .before .before .before .before .args .m) (c .before .before .before .before .before .before .before .before .before .before .before .before .args .table .now) (W (c .before .before .before .before .before .before .before .before .before .before .before .before .args .self) (c .before .before .before .before .before .before .before .before .before .before .before .before .args .c0 .now) (c .before .before .before .before .before .before .before .before .before .before .before .before .args .c1 .now) (c .before .before .before .before .before .before .before .before .before .before .before .before .args .c2 .now) (c .before .before .before .before .before .before .before .before .before .before .before .before .args .store .now)) (c .before .before .before .before .before .before .before .before .before .before .before .before .args .target) _ (c .before .before .call-check .ensures) (c .enum-told .given .1))
+slot-size-requires c κs = passed-sizes _ _ _ (seek-passed plainKind (c .before .before .before .before .before .before .before .before .before .before .before .before .args .m) (c .before .before .before .before .before .before .before .before .before .before .before .before .args .table .now) (withLent (c .before .before .before .before .before .before .before .before .before .before .before .before .args .self) (c .before .before .before .before .before .before .before .before .before .before .before .before .args .c0 .now) (c .before .before .before .before .before .before .before .before .before .before .before .before .args .c1 .now) (c .before .before .before .before .before .before .before .before .before .before .before .before .args .c2 .now) (c .before .before .before .before .before .before .before .before .before .before .before .before .args .store .now)) (c .before .before .before .before .before .before .before .before .before .before .before .before .args .target) _ (c .before .before .call-check .ensures) (c .enum-told .given .1))
 
 max-requires : tie.Need-max-requires
 max-requires c κs = search needs
 
 go-to-requires : tie.Need-go-to-requires
-go-to-requires c κs = seek-ready plainKind (c .before .before .before .before .before .before .before .before .before .before .before .before .before .before .before .before .before .before .before .args .m) (c .before .before .before .before .before .before .before .before .before .before .before .before .before .before .before .before .before .before .before .args .table .now) (W (c .before .before .before .before .before .before .before .before .before .before .before .before .before .before .before .before .before .before .before .args .self) (c .before .before .before .before .before .before .before .before .before .before .before .before .before .before .before .before .before .before .before .args .c0 .now) (c .before .before .before .before .before .before .before .before .before .before .before .before .before .before .before .before .before .before .before .args .c1 .now) (c .before .before .before .before .before .before .before .before .before .before .before .before .before .before .before .before .before .before .before .args .c2 .now) (c .before .before .before .before .before .before .before .before .before .before .before .before .before .before .before .before .before .before .before .args .store .now)) (c .before .before .before .before .before .before .before .before .before .before .before .before .before .before .before .before .before .before .before .args .target) _ (c .before .before .before .before .before .before .before .before .before .call-check .ensures) _ _ (c .before .before .before .before .before .before .slot-size .ensures) (c .before .before .before .before .before .before .before .enum-told .given .1) (c .before .before .before .before .max .ensures) _ (plain-sound _ _ _)
+go-to-requires c κs = seek-ready plainKind (c .before .before .before .before .before .before .before .before .before .before .before .before .before .before .before .before .before .before .before .args .m) (c .before .before .before .before .before .before .before .before .before .before .before .before .before .before .before .before .before .before .before .args .table .now) (withLent (c .before .before .before .before .before .before .before .before .before .before .before .before .before .before .before .before .before .before .before .args .self) (c .before .before .before .before .before .before .before .before .before .before .before .before .before .before .before .before .before .before .before .args .c0 .now) (c .before .before .before .before .before .before .before .before .before .before .before .before .before .before .before .before .before .before .before .args .c1 .now) (c .before .before .before .before .before .before .before .before .before .before .before .before .before .before .before .before .before .before .before .args .c2 .now) (c .before .before .before .before .before .before .before .before .before .before .before .before .before .before .before .before .before .before .before .args .store .now)) (c .before .before .before .before .before .before .before .before .before .before .before .before .before .before .before .before .before .before .before .args .target) _ (c .before .before .before .before .before .before .before .before .before .call-check .ensures) _ _ (c .before .before .before .before .before .before .slot-size .ensures) (c .before .before .before .before .before .before .before .enum-told .given .1) (c .before .before .before .before .max .ensures) _ (plain-sound _ _ _)
 
 same-length-5 : tie.Need-same-length-5
 same-length-5 c = search needs
@@ -53,7 +53,7 @@ same-length-8 : tie.Need-same-length-8
 same-length-8 c = search needs
 
 returns-2 : tie.Need-returns-2
-returns-2 c = seek-done plainKind (c .before .before .before .before .before .before .before .before .before .before .before .before .before .before .before .before .before .before .before .before .before .before .before .before .before .before .before .before .args .m) (c .before .before .before .before .before .before .before .before .before .before .before .before .before .before .before .before .before .before .before .before .before .before .before .before .before .before .before .before .args .table .now) (W (c .before .before .before .before .before .before .before .before .before .before .before .before .before .before .before .before .before .before .before .before .before .before .before .before .before .before .before .before .args .self) (c .before .before .before .before .before .before .before .before .before .before .before .before .before .before .before .before .before .before .before .before .before .before .before .before .before .before .before .before .args .c0 .now) (c .before .before .before .before .before .before .before .before .before .before .before .before .before .before .before .before .before .before .before .before .before .before .before .before .before .before .before .before .args .c1 .now) (c .before .before .before .before .before .before .before .before .before .before .before .before .before .before .before .before .before .before .before .before .before .before .before .before .before .before .before .before .args .c2 .now) (c .before .before .before .before .before .before .before .before .before .before .before .before .before .before .before .before .before .before .before .before .before .before .before .before .before .before .before .before .args .store .now)) (c .before .before .before .before .before .before .before .before .before .before .before .before .before .before .before .before .before .before .before .before .before .before .before .before .before .before .before .before .args .target) _ (c .before .before .before .before .before .before .before .before .before .before .before .before .before .before .before .before .before .before .call-check .ensures) _ _ (c .before .before .before .before .before .before .before .before .before .before .before .before .before .before .before .slot-size .ensures) (c .before .before .before .before .before .before .before .before .before .before .before .before .before .before .before .before .enum-told .given .1) (c .before .before .before .before .before .before .before .before .before .before .before .before .before .max .ensures) _ (c .before .before .before .before .before .before .before .before .go-to .ensures)
+returns-2 c = seek-done plainKind (c .before .before .before .before .before .before .before .before .before .before .before .before .before .before .before .before .before .before .before .before .before .before .before .before .before .before .before .before .args .m) (c .before .before .before .before .before .before .before .before .before .before .before .before .before .before .before .before .before .before .before .before .before .before .before .before .before .before .before .before .args .table .now) (withLent (c .before .before .before .before .before .before .before .before .before .before .before .before .before .before .before .before .before .before .before .before .before .before .before .before .before .before .before .before .args .self) (c .before .before .before .before .before .before .before .before .before .before .before .before .before .before .before .before .before .before .before .before .before .before .before .before .before .before .before .before .args .c0 .now) (c .before .before .before .before .before .before .before .before .before .before .before .before .before .before .before .before .before .before .before .before .before .before .before .before .before .before .before .before .args .c1 .now) (c .before .before .before .before .before .before .before .before .before .before .before .before .before .before .before .before .before .before .before .before .before .before .before .before .before .before .before .before .args .c2 .now) (c .before .before .before .before .before .before .before .before .before .before .before .before .before .before .before .before .before .before .before .before .before .before .before .before .before .before .before .before .args .store .now)) (c .before .before .before .before .before .before .before .before .before .before .before .before .before .before .before .before .before .before .before .before .before .before .before .before .before .before .before .before .args .target) _ (c .before .before .before .before .before .before .before .before .before .before .before .before .before .before .before .before .before .before .call-check .ensures) _ _ (c .before .before .before .before .before .before .before .before .before .before .before .before .before .before .before .slot-size .ensures) (c .before .before .before .before .before .before .before .before .before .before .before .before .before .before .before .before .enum-told .given .1) (c .before .before .before .before .before .before .before .before .before .before .before .before .before .max .ensures) _ (c .before .before .before .before .before .before .before .before .go-to .ensures)
 
 pub seek-spec : {M : Type 1} → statement M
 seek-spec =

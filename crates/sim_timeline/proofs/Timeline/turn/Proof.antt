@@ -1,7 +1,7 @@
-use Rattle.times.specs.TurnCases.{turn-stride, turn-there, turn-stuck, turn-on}
-use Rattle.sim_timeline.specs.CodeCases.{stride-at}
-use Rattle.sim_timeline.specs.EngineFacts.{plain-sound}
-use Rattle.sim_engine.specs.Kind.{plainKind}
+use Rattle.timeline_rule.specs.Facts.TurnCases.{turn-stride, turn-there, turn-stuck, turn-on}
+use Rattle.sim_timeline.specs.Facts.CallCases.{stride-at}
+use Rattle.sim_timeline.specs.Facts.Engine.{plain-sound}
+use Rattle.sim_slots.specs.Model.Kind.{plainKind}
 use native.Mathlib.Omega.{arith}
 use borrow.Author.Needs.{needs}
 use Rattle.sim_timeline.proofs.Timeline.turn.Statement.{statement}

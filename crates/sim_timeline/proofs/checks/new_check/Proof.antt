@@ -1,6 +1,6 @@
-use Rattle.times.specs.GoCases.{new-check, new-first}
-use Rattle.sim_timeline.specs.CodeCases.{sizes-in}
-use Rattle.sim_engine.specs.Kind.{plainKind}
+use Rattle.timeline_rule.specs.Facts.GoCases.{new-check, new-first}
+use Rattle.sim_timeline.specs.Facts.CallCases.{sizes-in}
+use Rattle.sim_slots.specs.Model.Kind.{plainKind}
 use borrow.Author.Needs.{needs}
 use Rattle.sim_timeline.proofs.checks.new_check.Statement.{statement}
 use Rattle.sim_timeline.proofs.checks.new_check.Tie as tie

@@ -1,6 +1,6 @@
-use Rattle.times.specs.TurnCases.{saved-is}
-use Rattle.sim_timeline.specs.CodeCases.{save-asks}
-use Rattle.sim_engine.specs.Kind.{plainKind}
+use Rattle.timeline_rule.specs.Facts.TurnCases.{saved-is}
+use Rattle.sim_timeline.specs.Facts.CallCases.{save-asks}
+use Rattle.sim_slots.specs.Model.Kind.{plainKind}
 use native.Mathlib.Omega.{arith}
 use borrow.Author.Needs.{needs}
 use Rattle.sim_timeline.proofs.turns.save_at.Statement.{statement}

@@ -1,6 +1,6 @@
-use Rattle.times.specs.TurnCases.{stride-is}
-use Rattle.sim_timeline.specs.CodeCases.{stride-asks}
-use Rattle.sim_engine.specs.Kind.{plainKind}
+use Rattle.timeline_rule.specs.Facts.TurnCases.{stride-is}
+use Rattle.sim_timeline.specs.Facts.CallCases.{stride-asks}
+use Rattle.sim_slots.specs.Model.Kind.{plainKind}
 use borrow.Author.Needs.{needs}
 use Rattle.sim_timeline.proofs.turns.stride.Statement.{statement}
 use Rattle.sim_timeline.proofs.turns.stride.Tie as tie

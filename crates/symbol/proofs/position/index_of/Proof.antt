@@ -3,8 +3,8 @@ use native.Mathlib.Omega.{arith}
 use mathlib.Core.Path.{_≡_, _∙_}
 use mir.Syntax.{w64}
 use mir.ValLaws.{toZ-ofZ}
-use Rattle.laws.specs.Position.{up, dn}
-use Rattle.symbol.specs.PlaceFacts.{index-alike}
+use Rattle.notation.specs.Position.{up, dn}
+use Rattle.symbol.specs.Facts.Places.{index-alike}
 use borrow.Author.Needs.{needs}
 use Rattle.symbol.proofs.position.index_of.Statement.{statement}
 use Rattle.symbol.proofs.position.index_of.Tie as tie

@@ -1,5 +1,5 @@
 use native.Mathlib.Omega.{arith}
-use Rattle.symbol.specs.PlaceFacts.{index-in, index-before, index-past}
+use Rattle.symbol.specs.Facts.Places.{index-in, index-before, index-past}
 use borrow.Author.Needs.{needs}
 use Rattle.symbol.proofs.position.index_of_raised.Statement.{statement}
 use Rattle.symbol.proofs.position.index_of_raised.Tie as tie

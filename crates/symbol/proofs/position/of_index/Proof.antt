@@ -2,7 +2,7 @@ use Prim.Native.Nat.{_+_, _-_, _^_}
 use mathlib.Core.Path.{_∙_}
 use mir.Syntax.{w64}
 use mir.ValLaws.{toZ-ofZ}
-use Rattle.laws.specs.PositionFacts.{ints, diff-⊖}
+use Rattle.notation.specs.Facts.Position.{ints, diff-⊖}
 use borrow.Author.Needs.{needs}
 use Rattle.symbol.proofs.position.of_index.Statement.{statement}
 use Rattle.symbol.proofs.position.of_index.Tie as tie

@@ -1,7 +1,7 @@
-use Rattle.laws.specs.Tests.{tests, via}
+use Rattle.notation.specs.Facts.Tests.{tests, via}
 use borrow.Author.Tests.{not-false}
 use Rattle.tape.specs.Fits.{tapeFits}
-use Rattle.tape.specs.FitFacts.{shape-len}
+use Rattle.tape.specs.Facts.Fits.{shape-len}
 use borrow.Author.Needs.{needs}
 use Rattle.tape.proofs.Tape.fits.Statement.{statement}
 use Rattle.tape.proofs.Tape.fits.Tie as tie

@@ -1,4 +1,4 @@
-use Rattle.tape.specs.MoveCases.{grow-fits, grow-left, grow-right, grow-none}
+use Rattle.tape.specs.Facts.MoveCases.{grow-fits, grow-left, grow-right, grow-none}
 use borrow.Author.Needs.{needs}
 use Rattle.tape.proofs.Tape.grow.Statement.{statement}
 use Rattle.tape.proofs.Tape.grow.Tie as tie

@@ -1,4 +1,4 @@
-use Rattle.tape.specs.MoveCases.{leaves-left, leaves-right, leaves-none}
+use Rattle.tape.specs.Facts.MoveCases.{leaves-left, leaves-right, leaves-none}
 use borrow.Author.Needs.{needs}
 use Rattle.tape.proofs.Tape.leaves.Statement.{statement}
 use Rattle.tape.proofs.Tape.leaves.Tie as tie

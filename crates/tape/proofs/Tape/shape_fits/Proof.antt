@@ -1,4 +1,4 @@
-use Rattle.laws.specs.Tests.{tests}
+use Rattle.notation.specs.Facts.Tests.{tests}
 use Rattle.tape.proofs.Tape.shape_fits.Statement.{statement}
 use Rattle.tape.proofs.Tape.shape_fits.Tie as tie
 

@@ -1,4 +1,4 @@
-use Rattle.tape.specs.MoveCases.{not-left, shift-left, shift-right, shift-none}
+use Rattle.tape.specs.Facts.MoveCases.{not-left, shift-left, shift-right, shift-none}
 use borrow.Author.Needs.{needs}
 use Rattle.tape.proofs.Tape.shifted.Statement.{statement}
 use Rattle.tape.proofs.Tape.shifted.Tie as tie

@@ -1,6 +1,6 @@
 use mathlib.Core.Path.{sym, _∙_}
 use native.Mathlib.Omega.{arith}
-use Rattle.tape.specs.MoveCases.{act-none, act-inside, act-grown, grown-inside}
+use Rattle.tape.specs.Facts.MoveCases.{act-none, act-inside, act-grown, grown-inside}
 use borrow.Author.Needs.{needs}
 use Rattle.tape.proofs.inner.act.Statement.{statement}
 use Rattle.tape.proofs.inner.act.Tie as tie

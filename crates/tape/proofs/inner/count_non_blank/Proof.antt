@@ -1,4 +1,4 @@
-use Rattle.tape.specs.Questions.{countOf}
+use Rattle.tape.specs.Model.Questions.{countOf}
 use borrow.Author.Needs.{needs}
 use Rattle.tape.proofs.inner.count_non_blank.Statement.{statement}
 use Rattle.tape.proofs.inner.count_non_blank.Tie as tie

@@ -1,6 +1,6 @@
 use mir.ValLaws.{toZ-ofZ}
 use mir.Syntax.{w64}
-use Rattle.tape.specs.QuestionCases.{find-none, find-left, find-right, find-here}
+use Rattle.tape.specs.Facts.QuestionCases.{find-none, find-left, find-right, find-here}
 use borrow.Author.Needs.{needs}
 use Rattle.tape.proofs.inner.find_non_blank.Statement.{statement}
 use Rattle.tape.proofs.inner.find_non_blank.Tie as tie

@@ -1,4 +1,4 @@
-use Rattle.tape.specs.MoveCases.{fresh-held}
+use Rattle.tape.specs.Facts.MoveCases.{fresh-held}
 use borrow.Author.Needs.{needs}
 use Rattle.tape.proofs.inner.fresh.Statement.{statement}
 use Rattle.tape.proofs.inner.fresh.Tie as tie

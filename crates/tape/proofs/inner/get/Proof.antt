@@ -1,5 +1,5 @@
 use mir.ValLaws.{toZ-ofZ}
-use Rattle.tape.specs.QuestionCases.{cell-is}
+use Rattle.tape.specs.Facts.QuestionCases.{cell-is}
 use borrow.Author.Needs.{needs}
 use Rattle.tape.proofs.inner.get.Statement.{statement}
 use Rattle.tape.proofs.inner.get.Tie as tie

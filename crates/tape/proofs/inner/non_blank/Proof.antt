@@ -1,5 +1,5 @@
-use Rattle.cells.specs.LoopCases.{first-reach, last-reach}
-use Rattle.tape.specs.QuestionCases.{non-blank-is}
+use Rattle.tape_cells.specs.Facts.LoopCases.{first-reach, last-reach}
+use Rattle.tape.specs.Facts.QuestionCases.{non-blank-is}
 use borrow.Author.Needs.{needs}
 use Rattle.tape.proofs.inner.non_blank.Statement.{statement}
 use Rattle.tape.proofs.inner.non_blank.Tie as tie

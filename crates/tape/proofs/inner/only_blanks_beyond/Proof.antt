@@ -1,4 +1,4 @@
-use Rattle.tape.specs.QuestionCases.{beyond-left, beyond-right, beyond-none}
+use Rattle.tape.specs.Facts.QuestionCases.{beyond-left, beyond-right, beyond-none}
 use borrow.Author.Needs.{needs}
 use Rattle.tape.proofs.inner.only_blanks_beyond.Statement.{statement}
 use Rattle.tape.proofs.inner.only_blanks_beyond.Tie as tie

@@ -1,5 +1,5 @@
-use Rattle.laws.specs.Tests.{tests}
-use Rattle.tape.specs.Moves.{readOf}
+use Rattle.notation.specs.Facts.Tests.{tests}
+use Rattle.tape.specs.Model.Moves.{readOf}
 use borrow.Author.Needs.{needs}
 use Rattle.tape.proofs.inner.read.Statement.{statement}
 use Rattle.tape.proofs.inner.read.Tie as tie

@@ -1,4 +1,4 @@
-use Rattle.tape.specs.MoveCases.{room-asked, room-given}
+use Rattle.tape.specs.Facts.MoveCases.{room-asked, room-given}
 use borrow.Author.Needs.{needs}
 use Rattle.tape.proofs.inner.room.Statement.{statement}
 use Rattle.tape.proofs.inner.room.Tie as tie

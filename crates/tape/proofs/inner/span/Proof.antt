@@ -1,6 +1,6 @@
 use mir.ValLaws.{toZ-ofZ}
 use mir.Syntax.{w64}
-use Rattle.tape.specs.QuestionCases.{found-fits, span-none, span-no-last, span-cells}
+use Rattle.tape.specs.Facts.QuestionCases.{found-fits, span-none, span-no-last, span-cells}
 use borrow.Author.Needs.{needs}
 use Rattle.tape.proofs.inner.span.Statement.{statement}
 use Rattle.tape.proofs.inner.span.Tie as tie

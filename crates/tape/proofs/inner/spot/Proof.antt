@@ -1,6 +1,6 @@
 use mir.ValLaws.{toZ-ofZ}
 use mir.Syntax.{w64}
-use Rattle.tape.specs.QuestionCases.{found-fits, spot-none, spot-at}
+use Rattle.tape.specs.Facts.QuestionCases.{found-fits, spot-none, spot-at}
 use borrow.Author.Needs.{needs}
 use Rattle.tape.proofs.inner.spot.Statement.{statement}
 use Rattle.tape.proofs.inner.spot.Tie as tie

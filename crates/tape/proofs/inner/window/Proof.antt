@@ -1,5 +1,5 @@
 use mir.ValLaws.{toZ-ofZ}
-use Rattle.tape.specs.QuestionCases.{window-is}
+use Rattle.tape.specs.Facts.QuestionCases.{window-is}
 use borrow.Author.Needs.{needs}
 use Rattle.tape.proofs.inner.window.Statement.{statement}
 use Rattle.tape.proofs.inner.window.Tie as tie

@@ -1,4 +1,4 @@
-use Rattle.machine.specs.PackingCases.{action-of}
+use Rattle.machine.specs.Facts.PackingCases.{action-of}
 use borrow.Author.Needs.{needs}
 use Rattle.machine.proofs.packed.Packed.action.Statement.{statement}
 use Rattle.machine.proofs.packed.Packed.action.Tie as tie

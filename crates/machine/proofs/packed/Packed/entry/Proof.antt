@@ -1,4 +1,4 @@
-use Rattle.machine.specs.PackingCases.{entry-of, entry-of-none}
+use Rattle.machine.specs.Facts.PackingCases.{entry-of, entry-of-none}
 use borrow.Author.Needs.{needs}
 use Rattle.machine.proofs.packed.Packed.entry.Statement.{statement}
 use Rattle.machine.proofs.packed.Packed.entry.Tie as tie

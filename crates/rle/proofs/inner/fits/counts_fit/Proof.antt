@@ -1,4 +1,4 @@
-use Rattle.laws.specs.Tests.{tests, via}
+use Rattle.notation.specs.Facts.Tests.{tests, via}
 use Rattle.rle.specs.Fits.{countsFit}
 use borrow.Author.Needs.{needs}
 use Rattle.rle.proofs.inner.fits.counts_fit.Statement.{statement}

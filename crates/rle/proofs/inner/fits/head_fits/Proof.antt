@@ -1,4 +1,4 @@
-use Rattle.laws.specs.Tests.{tests}
+use Rattle.notation.specs.Facts.Tests.{tests}
 use Rattle.rle.specs.Fits.{headFits}
 use borrow.Author.Needs.{needs}
 use Rattle.rle.proofs.inner.fits.head_fits.Statement.{statement}

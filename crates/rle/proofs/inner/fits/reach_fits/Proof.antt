@@ -1,4 +1,4 @@
-use Rattle.rle.specs.FitsCases.{reach-left, reach-right}
+use Rattle.rle.specs.Facts.FitsCases.{reach-left, reach-right}
 use borrow.Author.Needs.{needs}
 use Rattle.rle.proofs.inner.fits.reach_fits.Statement.{statement}
 use Rattle.rle.proofs.inner.fits.reach_fits.Tie as tie

@@ -1,0 +1,4 @@
+pub mod EncodeCases
+pub mod Encode
+pub mod Glyphs
+pub mod Examples

@@ -1,9 +1,0 @@
-use Rattle.laws.specs.Tests.{tests}
-use Rattle.before.proofs.inner.sizes.steps_fit.Statement.{statement}
-use Rattle.before.proofs.inner.sizes.steps_fit.Tie as tie
-
-returns : tie.Need-returns
-returns c = search tests
-
-pub steps-fit-spec : {M : Type 1} → statement M
-steps-fit-spec = tie.close (tie.spec returns)

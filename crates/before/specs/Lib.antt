@@ -1,4 +1,0 @@
-pub mod Look
-pub mod LookCases
-pub mod Sizes
-pub mod SizesCases

@@ -1,4 +1,0 @@
-// Steps of the plain engine's runs, which ask that numbers lie inside their bounds.
-pub mod hot;
-pub mod packed;
-pub mod table;

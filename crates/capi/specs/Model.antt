@@ -1,0 +1,4 @@
+pub mod Calls
+pub mod Chains
+pub mod Timelines
+pub mod ChainTimelines

@@ -1,0 +1,37 @@
+use mathlib.Core.Path.{refl}
+use borrow.Author.Needs.{needs}
+use Rattle.capi_numbers.proofs.answers.put_answer.Statement.{statement}
+use Rattle.capi_numbers.proofs.answers.put_answer.Tie as tie
+
+enum-known-answer : tie.Need-enum-known-answer
+enum-known-answer c = search needs
+
+as-values-requires : tie.Need-as-values-requires
+as-values-requires c κs = search needs
+
+put-values-requires : tie.Need-put-values-requires
+put-values-requires c κs = search needs
+
+returns : tie.Need-returns
+returns c = rw (c .before .before .before .before .answer .given .1) (refl, rw (← c .before .as-values .ensures) (c .put-values .ensures))
+
+enum-known-answer-2 : tie.Need-enum-known-answer-2
+enum-known-answer-2 c = search needs
+
+refuse-requires : tie.Need-refuse-requires
+refuse-requires c κs = search needs
+
+returns-2 : tie.Need-returns-2
+returns-2 c = rw (c .before .before .before .answer2 .given .1) (c .refuse .ensures)
+
+pub put-answer-spec : {M : Type 1} → statement M
+put-answer-spec =
+    tie.close
+    (tie.spec
+    enum-known-answer
+    as-values-requires
+    put-values-requires
+    returns
+    enum-known-answer-2
+    refuse-requires
+    returns-2)

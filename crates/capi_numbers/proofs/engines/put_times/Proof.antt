@@ -1,0 +1,28 @@
+use mathlib.Core.Path.{refl}
+use Rattle.capi_numbers.specs.Model.Engines.{withTimes}
+use borrow.Author.Needs.{needs}
+use Rattle.capi_numbers.proofs.engines.put_times.Statement.{statement}
+use Rattle.capi_numbers.proofs.engines.put_times.Tie as tie
+use Rattle.capi_numbers.proofs.engines.put_times.Reads as reads
+use Rattle.capi_numbers.proofs.engines.put_times.Lts as lts
+
+element-write-xs : tie.Need-element-write-xs
+element-write-xs c = search needs
+
+element-write-xs-2 : tie.Need-element-write-xs-2
+element-write-xs-2 c = search needs
+
+element-write-xs-3 : tie.Need-element-write-xs-3
+element-write-xs-3 c = search needs
+
+element-write-xs-4 : tie.Need-element-write-xs-4
+element-write-xs-4 c = search needs
+
+returns : tie.Need-returns
+unfolding withTimes
+returns c = refl
+
+pub put-times-spec : {M : Type 1} → statement M
+put-times-spec =
+    tie.close
+    (tie.spec element-write-xs element-write-xs-2 element-write-xs-3 element-write-xs-4 returns)

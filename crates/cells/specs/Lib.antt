@@ -1,4 +1,0 @@
-pub mod Growth
-pub mod Loops
-pub mod GrowthFacts
-pub mod LoopCases

@@ -1,4 +1,0 @@
-pub mod Entries
-pub mod Words
-pub mod EntryCases
-pub mod WordCases

@@ -1,4 +1,0 @@
-pub mod Forms
-pub mod Answers
-pub mod FormFacts
-pub mod FormCases

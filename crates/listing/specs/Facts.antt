@@ -1,0 +1,2 @@
+pub mod OutputCases
+pub mod FirstBytes

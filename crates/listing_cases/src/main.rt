@@ -1,0 +1,136 @@
+// Runs the listing on each pair of data/: NNN.in is an input, NNN.out what must be printed for it. Writes a line for each
+// pair that differs, and at the end how many pairs there are and how many of them differ. A file that cannot be read
+// counts as one that differs. Where the last line cannot be written, one line goes to standard error.
+use listing::Listed;
+ghost use Prim.Native.Nat.{_<_};
+ghost use Rattle.io.specs.Counts.{Counts};
+
+// What was found at a pair's number.
+enum Pair {
+    Same,
+    Differs,
+    // There is no input of this number.
+    Missing,
+}
+
+fn digit(n: usize) -> u8
+    requires { ⌜ n < 10 ⌝ }
+{
+    48 + (n as u8)
+}
+
+fn open_input(i: usize) -> i32
+    requires { ⌜ i < 1000 ⌝ }
+{
+    let hundreds = digit(i / 100);
+    let tens = digit(i / 10 % 10);
+    let ones = digit(i % 10);
+    os::open_read(&[hundreds, tens, ones, b'.', b'i', b'n'])
+}
+
+fn open_output(i: usize) -> i32
+    requires { ⌜ i < 1000 ⌝ }
+{
+    let hundreds = digit(i / 100);
+    let tens = digit(i / 10 % 10);
+    let ones = digit(i % 10);
+    os::open_read(&[hundreds, tens, ones, b'.', b'o', b'u', b't'])
+}
+
+// Whether all that `seekrun` reads of a file was read: n bytes fill its buffer, or the next read says that the file ends.
+fn is_read(fd: i32, n: usize) -> bool {
+    if n == 65536 {
+        return true;
+    }
+    let mut one = [0u8; 1];
+    libc::read(fd, &mut one) == 0
+}
+
+// Runs the listing: how many bytes it put at the start of output. None where it refuses the output's size.
+fn print(input: &[u8], output: &mut [u8]) -> usize
+    ensures { λ r. ⌜ Counts r (now (output .exit)) ⌝ }
+{
+    match listing::list(input, output) {
+        Listed::Printed(n) => n,
+        Listed::Refused(_) => 0,
+    }
+}
+
+// Whether both files can be read, and the listing prints for the first what the other holds.
+fn agrees(input: i32, expected: i32) -> bool {
+    let mut given = io::large_buffer();
+    let n = io::read_full(input, &mut given);
+    let mut wanted = io::large_buffer();
+    let m = io::read_full(expected, &mut wanted);
+    if !is_read(input, n) {
+        return false;
+    }
+    if !is_read(expected, m) {
+        return false;
+    }
+    let mut printed = io::large_buffer();
+    let k = print(&given[..n], &mut printed);
+    listing_text::same(&printed[..k], &wanted[..m])
+}
+
+fn run(i: usize) -> Pair
+    requires { ⌜ i < 1000 ⌝ }
+{
+    let input = open_input(i);
+    if input < 0 {
+        return Pair::Missing;
+    }
+    let expected = open_output(i);
+    if expected < 0 {
+        return Pair::Differs;
+    }
+    let same = agrees(input, expected);
+    libc::close(input);
+    libc::close(expected);
+    if same {
+        return Pair::Same;
+    }
+    Pair::Differs
+}
+
+// Writes a number and a text: whether both were written.
+fn say(n: usize, what: &[u8]) -> bool {
+    if !io::print_decimal(1, n as u64) {
+        return false;
+    }
+    io::write_all(1, what)
+}
+
+fn report(i: usize) {
+    say(i, b" differs\n");
+}
+
+fn both(pairs: usize, differ: usize) -> bool {
+    if !say(pairs, b" cases, ") {
+        return false;
+    }
+    say(differ, b" differ\n")
+}
+
+fn summary(pairs: usize, differ: usize) {
+    if !both(pairs, differ) {
+        io::write_all(2, b"listing_cases: standard output cannot be written\n");
+    }
+}
+
+fn main() {
+    let mut differ: usize = 0;
+    let mut i: usize = 0;
+    while i < 1000 {
+        match run(i) {
+            Pair::Same => {}
+            Pair::Differs => {
+                report(i);
+                differ += 1;
+            }
+            Pair::Missing => break,
+        }
+        i += 1;
+    }
+    summary(i, differ);
+}

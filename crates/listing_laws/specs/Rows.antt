@@ -1,0 +1,50 @@
+-- WHAT THE ROWS OF A LISTING SAY: each is of one call of the list, and the third demand holds of that call. Definitions only.
+use Prim.Native.Nat.{ℕ}
+use mathlib.Core.Path.{_≡_}
+use mathlib.Core.List.{List, _∷_, _++_}
+use Rattle.outcome.specs.declared.Outcome.{Outcome}
+use Rattle.machine.specs.declared.Machine.{Machine}
+use Rattle.tape.specs.Model.Moves.{held}
+use Rattle.tape.specs.Model.Questions.{countOf}
+use Rattle.sim_refines.specs.Counts.{Counts}
+use Rattle.timeline_rule.specs.Model.Timeline.{answered, Call}
+use Rattle.timeline_rule.specs.Model.Kind.{TimelineOf, callOn}
+use Rattle.sim_slots.specs.Model.Kind.{plainKind}
+use Rattle.timeline_laws.specs.Statement.{afterOn, heldOn, FreshList}
+use Rattle.sim_timeline_laws.specs.Meaning.{plainEngine}
+use Rattle.listing_reader.specs.Listing.{Sofar, tableIn, listing, asked}
+use Rattle.listing_rows.specs.Rows.{Row, row, rowOf, rowsOf, rowsOn, output}
+use Rattle.listing.specs.Output.{answerTo, blankCells, blankStore}
+use Rattle.listing_laws.specs.Facts.Accepted.{asked-begins}
+
+-- the row of a call that is made on a timeline
+abbrev pub rowAt : Machine → (table : List ℕ) → TimelineOf plainKind → Call → Row
+rowAt m s v c = rowOf (callOn plainKind m s v c .0) (callOn plainKind m s v c .1 .engine .sim) (callOn plainKind m s v c .1 .engine .c0)
+
+module _ (s : List ℕ) (x : Sofar) (e : listing s ≡ asked x) where
+  abbrev m : Machine
+  m = x .machine
+
+  abbrev t : List ℕ
+  t = tableIn x
+
+  abbrev v : TimelineOf plainKind
+  v = asked-begins s x e .timeline
+
+  -- of a listing without a bad line
+  pub record RowsSay : Type 0 where
+    -- the output is the names line, and a row for each call
+    pub rows : answerTo s ≡ output (rowsOf m t v (x .calls))
+    -- the third demand, of these calls on this timeline: where the engine stands, what each call answers, which are refused, never
+    pub third : FreshList plainEngine m t (x .word) (asked-begins s x e .engine) v (x .calls)
+    -- in the place of each call stands the row of its result
+    pub each : (before rest : List Call) (c : Call) → before ++ (c ∷ rest) ≡ x .calls
+        → rowsOf m t v (x .calls)
+        ≡ rowsOf m t v before ++ (rowAt m t (afterOn plainEngine m t v before) c ∷ rowsOf m t (callOn plainKind m t (afterOn plainEngine m t v before) c .1) rest)
+    -- which holds the numbers of the configuration that the engine then holds
+    pub holds : (u : TimelineOf plainKind) (o : Outcome)
+        → rowOf (answered o) (u .engine .sim) (u .engine .c0)
+        ≡ row o (heldOn plainEngine m t u .steps) (heldOn plainEngine m t u .state) (heldOn plainEngine m t u .tape0 .head)
+        (heldOn plainEngine m t u .tape0 .low) (heldOn plainEngine m t u .tape0 .high) (countOf (held (u .engine .sim .t0) (u .engine .c0)))
+    -- the score counts its non-blank cells
+    pub score : (u : TimelineOf plainKind) → Counts (heldOn plainEngine m t u .tape0 .cell) (countOf (held (u .engine .sim .t0) (u .engine .c0)))

@@ -1,0 +1,4 @@
+pub mod Listing
+pub mod Contents
+pub mod Invariants
+pub mod Facts

@@ -1,0 +1,5 @@
+pub mod Chain
+pub mod NumberCases
+pub mod PieceCases
+pub mod PrintCases
+pub mod ReadBack

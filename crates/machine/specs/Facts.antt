@@ -1,0 +1,5 @@
+pub mod Check
+pub mod CheckCases
+pub mod PackingCases
+pub mod Word
+pub mod Packed

@@ -1,0 +1,5 @@
+pub mod Tests
+pub mod Scan
+pub mod ScanDown
+pub mod Fill
+pub mod Position

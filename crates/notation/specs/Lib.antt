@@ -1,0 +1,6 @@
+pub mod Choice
+pub mod Scan
+pub mod ScanDown
+pub mod Fill
+pub mod Position
+pub mod Facts

@@ -1,4 +1,0 @@
-pub mod Engines
-pub mod Answers
-pub mod EngineFacts
-pub mod Parts

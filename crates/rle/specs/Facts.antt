@@ -1,0 +1,9 @@
+pub mod EngineCases
+pub mod Run
+pub mod MacroStep
+pub mod RunCases
+pub mod VerdictCases
+pub mod FitsCases
+pub mod OperationCases
+pub mod QuestionCases
+pub mod RecordCases

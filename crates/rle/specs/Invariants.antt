@@ -1,0 +1,72 @@
+-- What the functions of a run and of the questions may assume. Definitions only.
+use mathlib.Core.Path.{_≡_}
+use mathlib.Core.Bool.{true}
+use mathlib.Core.List.{List}
+use Prim.Native.Nat.{ℕ, _+_, _≤_}
+use lib.ListN.{length}
+use Rattle.symbol.specs.declared.State.{State}
+use Rattle.symbol.specs.declared.Dir.{Dir}
+use Rattle.outcome.specs.declared.Outcome.{Outcome}
+use Rattle.machine.specs.declared.Machine.{Machine}
+use Rattle.machine.specs.Layout.{strideOf}
+use Rattle.rle_stack.specs.Model.{placesOf, cellsOf}
+use Rattle.rle_stack.specs.Invariants.{SideOk}
+use Rattle.rle.specs.declared.ChainSim.{ChainSim}
+use Rattle.run_rules.specs.declared.StopRule.the-variants as Rule
+use Rattle.run_rules.specs.Model.Task.{Task, task}
+use Rattle.rle_macro.specs.Model.MacroStep.{headFor}
+use Rattle.rle_counts.specs.Model.Counts.{tallied}
+use Rattle.rle.specs.Model.Engine.{Conf, conf, leftOf, rightOf, tallyOf, simWith, end, runOf}
+
+-- the machine's numbers, as an entry's number is made of them
+pub record TableOk (m : Machine) (stride : ℕ) : Type 0 where
+  pub symbols-in : m .symbols ≤ 256
+  pub stride-is : stride ≡ strideOf m
+  pub stride-in : stride ≤ 16777216
+
+-- both sides' live runs have places, and their cells are few enough to be counted
+pub record SidesOk (σ : Conf) : Type 0 where
+  pub left : SideOk (placesOf (σ .ls) (σ .ll)) (σ .sim .steps + 1048576) (leftOf σ)
+  pub right : SideOk (placesOf (σ .rs) (σ .rl)) (σ .sim .steps + 1048576) (rightOf σ)
+
+-- with so much fuel no count and no position passes its bound
+pub record CountsOk (v : ChainSim) (fuel : ℕ) : Type 0 where
+  pub steps-in : v .steps + fuel ≤ 4611686018427387904
+  pub fewer : v .macros ≤ v .steps
+  pub above : 9223372036854775808 ≤ v .tape .head + v .steps
+  pub below : v .tape .head ≤ 9223372036854775808 + v .steps
+
+pub record RunOk (m : Machine) (stride : ℕ) (σ : Conf) (fuel : ℕ) : Type 0 where
+  pub table : TableOk m stride
+  pub sides : SidesOk σ
+  pub counts : CountsOk (σ .sim) fuel
+
+-- the value after a macro step of n steps that left the sides so
+abbrev pub landedBy : Dir → (next : State) → ChainSim → (left cur right n : ℕ) → ChainSim
+landedBy d q v l c r n = simWith q (tallied (tallyOf v) n (headFor d (v .tape .head) n)) l c r
+
+-- the lent slices are as long as they were
+pub record SameSizes (σ τ : Conf) : Type 0 where
+  pub ls : length (τ .ls) ≡ length (σ .ls)
+  pub ll : length (τ .ll) ≡ length (σ .ll)
+  pub rs : length (τ .rs) ≡ length (σ .rs)
+  pub rl : length (τ .rl) ≡ length (σ .rl)
+
+-- a run from σ₀ with `fuel` has come to σ with `left`: what is still to be run has the same answer
+pub record Going (k : Task) (stride lp rp : ℕ) (σ₀ : Conf) (fuel : ℕ) (σ : Conf) (left : ℕ) : Type 0 where
+  pub ok : RunOk (k .machine) stride σ left
+  pub lefts : lp ≡ placesOf (σ .ls) (σ .ll)
+  pub rights : rp ≡ placesOf (σ .rs) (σ .rl)
+  pub sizes : SameSizes σ₀ σ
+  pub same : runOf k left σ ≡ runOf k fuel σ₀
+
+-- how a run without fuel ends on the value v, whatever its places hold
+pub record Judged (m : Machine) (s : List ℕ) (v : ChainSim) (o : Outcome) : Type 0 where
+  pub same : (ls ll rs rl : List ℕ) → end (conf v ls ll rs rl) o ≡ runOf (task m s true Rule.Never) 0 (conf v ls ll rs rl)
+
+-- a question
+pub record AskOk (σ : Conf) : Type 0 where
+  pub sides : SidesOk σ
+  pub counts : CountsOk (σ .sim) 0
+  pub left-far : 9223372036854775808 + cellsOf (leftOf σ) ≤ σ .sim .tape .head + σ .sim .steps + 1048576
+  pub right-far : σ .sim .tape .head + cellsOf (rightOf σ) ≤ 9223372036854775808 + σ .sim .steps + 1048576

@@ -1,0 +1,4 @@
+pub mod Engine
+pub mod Operations
+pub mod Questions
+pub mod Records

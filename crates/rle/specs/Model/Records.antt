@@ -1,0 +1,45 @@
+-- The tape questions `left` and `right`: what they answer, and what they leave in the lent slice of records. Definitions
+-- only.
+use mathlib.Core.List.{List}
+use Prim.Native.Nat.{ℕ}
+use lib.ListN.{length}
+use Rattle.machine.specs.declared.Machine.{Machine}
+use Rattle.machine.specs.declared.Checked.{Checked}
+use Rattle.machine.specs.declared.Checked.the-variants.{Accepted, Refused}
+use Rattle.rle_stack.specs.Model.{Side}
+use Rattle.rle_records.specs.declared.Run.{Run}
+use Rattle.rle_records.specs.declared.Listed.{Listed}
+use Rattle.rle_records.specs.declared.Listed.the-variants as List′
+use Rattle.rle_records.specs.Model.{recordsOf, roomFor}
+use Rattle.rle.specs.Model.Engine.{Conf, leftOf, rightOf}
+use Rattle.rle.specs.Fits.{engineCheck}
+
+-- after a check: its refusal, else the rest
+abbrev pub listedOn : Checked → Listed → Listed
+listedOn (Refused why) rest = List′.Refused why
+listedOn Accepted rest = rest
+
+-- "8, 11, 12 .. then 18 for too short a record slice", else how many runs there are
+unfoldable pub sideAnswer : Machine → List ℕ → (count room : ℕ) → Conf → Listed
+sideAnswer m s count room σ = listedOn (engineCheck m s σ) (roomFor count room)
+
+-- the slice afterwards: the side's runs in its first places, the rest as it was; after a refusal all as it was
+abbrev pub sideInto : Listed → Side → List Run → List Run
+sideInto (List′.Filled count) x out = recordsOf x out
+sideInto (List′.Refused why) x out = out
+
+-- ---- the left side
+
+abbrev pub leftAnswer : Machine → List ℕ → (room : ℕ) → Conf → Listed
+leftAnswer m s room σ = sideAnswer m s (leftOf σ .count) room σ
+
+abbrev pub leftInto : Machine → List ℕ → Conf → List Run → List Run
+leftInto m s σ out = sideInto (leftAnswer m s (length out) σ) (leftOf σ) out
+
+-- ---- the right side
+
+abbrev pub rightAnswer : Machine → List ℕ → (room : ℕ) → Conf → Listed
+rightAnswer m s room σ = sideAnswer m s (rightOf σ .count) room σ
+
+abbrev pub rightInto : Machine → List ℕ → Conf → List Run → List Run
+rightInto m s σ out = sideInto (rightAnswer m s (length out) σ) (rightOf σ) out

@@ -1,0 +1,3 @@
+pub mod CountCases
+pub mod SumCases
+pub mod WordCases

@@ -1,6 +1,0 @@
-pub mod Family
-pub mod AdvanceFacts
-pub mod FitFacts
-pub mod SlotFacts
-pub mod Parts
-pub mod Instance

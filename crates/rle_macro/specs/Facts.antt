@@ -1,0 +1,3 @@
+pub mod MacroStepCases
+pub mod MacroStep
+pub mod QuestionCases

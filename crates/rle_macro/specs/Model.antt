@@ -1,0 +1,2 @@
+pub mod MacroStep
+pub mod Questions

@@ -1,0 +1,4 @@
+pub mod Advance
+pub mod Slots
+pub mod Kind
+pub mod Restored

@@ -1,0 +1,3 @@
+pub mod SideCases
+pub mod Sides
+pub mod QuestionCases

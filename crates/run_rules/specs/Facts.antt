@@ -1,0 +1,2 @@
+pub mod RunCases
+pub mod AnswerCases

@@ -1,0 +1,3 @@
+pub mod Task
+pub mod Run
+pub mod Answers

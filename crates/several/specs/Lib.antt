@@ -1,2 +1,0 @@
-pub mod Several
-pub mod SeveralCases

@@ -1,0 +1,9 @@
+pub mod EngineCases
+pub mod TurnCases
+pub mod OrdinaryStep
+pub mod BurstSteps
+pub mod WideBurstSteps
+pub mod BurstCases
+pub mod OperationCases
+pub mod AnswerCases
+pub mod QuestionCases

@@ -1,0 +1,5 @@
+pub mod Engine
+pub mod Operations
+pub mod Questions
+pub mod Turns
+pub mod Bursts

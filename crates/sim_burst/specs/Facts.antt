@@ -1,0 +1,3 @@
+pub mod BurstCases
+pub mod Burst
+pub mod Words

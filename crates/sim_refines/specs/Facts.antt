@@ -1,0 +1,15 @@
+pub mod Tape
+pub mod Step
+pub mod Look
+pub mod Refinement
+pub mod Run
+pub mod MissingTapes
+pub mod PastLength
+pub mod LiveCells
+pub mod Beside
+pub mod NeverRead
+pub mod Fresh
+pub mod Operations
+pub mod Rule
+pub mod Counts
+pub mod Questions

@@ -1,0 +1,3 @@
+pub mod Model
+pub mod Invariants
+pub mod Facts

@@ -1,0 +1,3 @@
+pub mod Advance
+pub mod Slots
+pub mod Kind

@@ -1,0 +1,10 @@
+pub mod Examples
+pub mod Extent
+pub mod Step
+pub mod Advance
+pub mod Meaning
+pub mod Fits
+pub mod PastLength
+pub mod Fresh
+pub mod Parts
+pub mod Instance

@@ -1,4 +1,0 @@
-pub mod Sides
-pub mod SideCases
-pub mod SideFacts
-pub mod QuestionCases

@@ -1,0 +1,2 @@
+pub mod EntryCases
+pub mod WordCases

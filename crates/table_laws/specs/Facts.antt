@@ -1,0 +1,4 @@
+pub mod Entries
+pub mod CheckExact
+pub mod Reading
+pub mod RoundTrip

@@ -1,0 +1,4 @@
+pub mod TableMachine
+pub mod Tables
+pub mod Beside
+pub mod Facts

@@ -1,0 +1,8 @@
+pub mod Growth
+pub mod Fits
+pub mod Cells
+pub mod CellPlaces
+pub mod MoveCases
+pub mod Moves
+pub mod QuestionCases
+pub mod Answers

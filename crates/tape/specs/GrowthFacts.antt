@@ -1,2 +1,0 @@
--- The laws of growth. Assumes nothing.
-pub use Rattle.cells.specs.GrowthFacts.{extra-room, extra-most, extra-within}

@@ -1,0 +1,51 @@
+use Prim.Native.Nat.{_-_}
+use mathlib.Core.Path.{_≡_, refl}
+use Rattle.notation.specs.Scan.{allIn}
+use Rattle.notation.specs.Facts.Scan.{all-hit, all-next, all-end}
+use Rattle.notation.specs.Facts.Tests.{tests}
+use Rattle.tape_cells.specs.Model.{blankAt}
+use borrow.Author.Needs.{needs}
+use Rattle.tape_cells.proofs.inner.all_blank.Statement.{statement}
+use Rattle.tape_cells.proofs.inner.all_blank.Tie as tie
+
+abbrev Inv-loop : tie.InvT-loop
+Inv-loop cells from to i₀ i =
+    allIn (blankAt cells) (to - i) i ≡ allIn (blankAt cells) (to - from) from
+
+abbrev μ-loop : tie.MeasureT-loop
+μ-loop cells from to i₀ i = to - i
+
+loop-holds : tie.Need-loop-holds Inv-loop μ-loop
+loop-holds c = refl
+
+shared-slice-read-if1 : tie.Need-shared-slice-read-if1 Inv-loop μ-loop
+shared-slice-read-if1 c = search needs
+
+returns : tie.Need-returns Inv-loop μ-loop
+returns c = search (all-hit, tests)
+
+add-i : tie.Need-add-i Inv-loop μ-loop
+add-i c = search needs
+
+loop-less : tie.Need-loop-less Inv-loop μ-loop
+loop-less c = search needs
+
+loop-again : tie.Need-loop-again Inv-loop μ-loop
+loop-again c = search (all-next, tests)
+
+returns-2 : tie.Need-returns-2 Inv-loop μ-loop
+returns-2 c = search all-end
+
+pub all-blank-spec : {M : Type 1} → statement M
+all-blank-spec =
+    tie.close
+    (tie.spec
+    Inv-loop
+    μ-loop
+    loop-holds
+    shared-slice-read-if1
+    returns
+    add-i
+    loop-less
+    loop-again
+    returns-2)

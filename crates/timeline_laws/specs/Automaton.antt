@@ -1,0 +1,39 @@
+-- The table machine as the timeline's proofs see it, and its run from a configuration. Definitions only.
+use mathlib.Core.Path.{_≡_}
+use Prim.Native.Nat.{ℕ, zero, suc, _-_}
+
+-- n times f
+unfoldable pub iterate : {A : Type 0} → (A → A) → ℕ → A → A
+iterate f zero a = a
+iterate f (suc n) a = f (iterate f n a)
+
+-- `step` leaves a halted configuration as it is, so `iterate step n c` is the configuration after n steps or at the halt
+pub record Automaton : Type 1 where
+  pub Config : Type 0
+  pub Out : Type 0
+  pub steps : Config → ℕ
+  pub step : Config → Config
+  pub Halted : Config → Type 0
+  pub Verdict : Config → Out → Type 0
+  -- the answers that tell of lack of space, and those that say never
+  pub Full : Out → Type 0
+  pub Never : Out → Type 0
+  -- the step count that an answer gives
+  pub counted : Out → ℕ
+  -- what a run can be in: the tapes that the machine lacks are blank
+  pub Real : Config → Type 0
+  -- laws
+  pub real-step : (c : Config) → Real c → Real (step c)
+  pub halted? : (c : Config) → Dec (Halted c)
+  pub stays : (c : Config) → Halted c → step c ≡ c
+  pub adds : (c : Config) → ¬ Halted c → steps (step c) ≡ suc (steps c)
+  pub verdict-not-full : (c : Config) (o : Out) → Verdict c o → ¬ Full o
+  pub never-halts : (c : Config) (o : Out) → Real c → Verdict c o → Never o → (n : ℕ) → ¬ Halted (iterate step n c)
+
+-- the configuration at step n, run without limits from c on; c itself where n is not past its step count
+unfoldable pub run : (M : Automaton) → M .Config → ℕ → M .Config
+run M c n = iterate (M .step) (n - M .steps c) c
+
+-- t, or the step at which the machine halts where that is less: the step count of the configuration at step t (`reach-runs` and `reach-halts` in Facts/Steps)
+abbrev pub reach : (M : Automaton) → M .Config → ℕ → ℕ
+reach M c t = M .steps (run M c t)

@@ -1,0 +1,9 @@
+pub mod DueCases
+pub mod Verdict
+pub mod Loop
+pub mod TurnCases
+pub mod CheckCases
+pub mod GoCases
+pub mod CallCases
+pub mod NewCases
+pub mod WhichCases

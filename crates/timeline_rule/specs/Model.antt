@@ -1,0 +1,4 @@
+pub mod Engine
+pub mod Timeline
+pub mod Due
+pub mod Kind

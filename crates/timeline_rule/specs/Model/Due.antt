@@ -1,0 +1,64 @@
+-- The step at which the next slot is due, as the code computes it, and thinning by its two results. Definitions only.
+use mathlib.Core.Path.{_≡_}
+use mathlib.Core.Bool.{Bool}
+use mathlib.Core.List.{List}
+use Prim.Native.Nat.{ℕ, zero, suc, _+_, _-_, _*_, _/_, _≤_, min, max}
+use lib.Dec.{leb, ltb, eqb}
+use lib.ListN.{length}
+use Rattle.notation.specs.Choice.{pick}
+use Rattle.store_bytes.specs.Model.{moveSlot, thinBy}
+use Rattle.timeline_rule.specs.declared.Times.{Times}
+use Rattle.timeline_rule.specs.Model.Engine.{limit}
+use Rattle.timeline_rule.specs.Model.Timeline.{due, halved}
+
+-- computed with no sum over 2^62 but the last: a forged value (512 slots, interval 2^63) has `due` over 2^64
+unfoldable pub dueOf : (first count every : ℕ) → ℕ
+dueOf first count every = pick (leb count ((limit - first) / every)) (first + count * every) (limit + 1)
+
+abbrev pub safeDue : Times → ℕ
+safeDue v = dueOf (v .first) (v .count) (v .every)
+
+abbrev pub isDue : Times → (steps : ℕ) → Bool
+isDue v p = eqb p (due v)
+
+-- where an advance from step p stops: at the target, or at the next slot where that comes first
+abbrev pub stopFor : (target : ℕ) → Times → (p : ℕ) → ℕ
+stopFor t v p = max (min t (due v)) p
+
+-- the target of a forward call, or 2^62 + 1 where it is over 2^62: all such are refused alike
+unfoldable pub forwardTo : (p n : ℕ) → ℕ
+forwardTo p n = pick (leb p limit) (pick (leb n (limit - p)) (p + n) (limit + 1)) (limit + 1)
+
+-- and that of the call meant by two numbers
+unfoldable pub targetTo : (which p n : ℕ) → ℕ
+targetTo zero p n = n
+targetTo (suc zero) p n = forwardTo p n
+targetTo (suc (suc k)) p n = p - n
+
+-- ---- one slot more, thinned where there are more than m: the value, and the store
+
+unfoldable pub thinTimes : Times → Times
+thinTimes v = pick (ltb (v .most) (v .count)) (halved v) v
+
+unfoldable pub thinStore : (size : ℕ) → Times → List ℕ → List ℕ
+thinStore size v t = pick (ltb (v .most) (v .count)) (thinBy (moveSlot size) ((v .count - 1) / 2) t) t
+
+pub record Thinned (v r : Times) (size : ℕ) (t t₁ : List ℕ) : Type 0 where
+  pub value : r ≡ thinTimes v
+  pub store : t₁ ≡ thinStore size v t
+
+-- what the code asks: numbers of which no sum wraps, and slots inside the store
+pub record TimesFit (v : Times) : Type 0 where
+  pub first-in : v .first ≤ limit
+  pub every-in : 1 ≤ v .every
+
+pub record ThinOk (v : Times) (t : List ℕ) (size : ℕ) : Type 0 where
+  pub few : v .count ≤ 513
+  pub some : 1 ≤ v .count
+  pub inside : v .count * size ≤ length t
+  pub doubles : 2 * v .every ≤ 9223372036854775808
+
+pub record RecordOk (v : Times) (t : List ℕ) (size : ℕ) : Type 0 where
+  pub few : v .count ≤ 512
+  pub inside : (v .count + 1) * size ≤ length t
+  pub doubles : 2 * v .every ≤ 9223372036854775808

@@ -1,0 +1,83 @@
+-- A kind of engine, by the models of its operations, with slots of bytes; and what the contracts of a timeline over it cite. Definitions only.
+use Prim.Native.Nat.{ℕ}
+use mathlib.Core.Bool.{Bool, true, false}
+use mathlib.Core.Option.{Option}
+use mathlib.Core.List.{List}
+use Rattle.outcome.specs.declared.Outcome.{Outcome}
+use Rattle.outcome.specs.declared.Outcome.the-variants.{Halted, OutOfFuel, NeverHalts, Stopped, Full}
+use Rattle.machine.specs.declared.Machine.{Machine}
+use Rattle.machine.specs.declared.Checked.{Checked}
+use Rattle.store_bytes.specs.Model.{slotCount, slotOf, putSlot, moveSlot}
+use Rattle.timeline_rule.specs.Model.Engine.{Ops}
+use Rattle.timeline_rule.specs.Model.Timeline.{Reply, refused, answered, TimelineWith, Call, call, new}
+
+-- how an advance ends: as its run did, but out of fuel by the never test's verdict there
+abbrev pub verdictOr : (ran verdict : Outcome) → Outcome
+verdictOr (OutOfFuel n) v = v
+verdictOr (Halted n q) v = Halted n q
+verdictOr (NeverHalts n p) v = NeverHalts n p
+verdictOr (Stopped n) v = Stopped n
+verdictOr (Full n) v = Full n
+
+-- whether it was out of fuel
+abbrev pub spent : Outcome → Bool
+spent (OutOfFuel n) = true
+spent (Halted n q) = false
+spent (NeverHalts n p) = false
+spent (Stopped n) = false
+spent (Full n) = false
+
+pub record Kind : Type 1 where
+  -- an engine's value with its lent buffers, and the buffers that a fresh engine is lent
+  pub State : Type 0
+  pub Lent : Type 0
+  -- a fresh engine, on a machine, its table and a word
+  pub create : Machine → (table word : List ℕ) → Lent → Reply State
+  -- the step count
+  pub now : State → ℕ
+  -- the table check, 8, 11, 12
+  pub check : Machine → (table : List ℕ) → State → Checked
+  -- "Each advance runs without the never test, then tests it with fuel 0."
+  pub advance : Machine → (table : List ℕ) → ℕ → State → Outcome × State
+  -- "A slot is 128 bytes more than the cells buffers, or than 9 × the run places."
+  pub slotSize : Machine → State → ℕ
+  -- an engine into a slot, given the slot's old bytes
+  pub pack : Machine → State → List ℕ → List ℕ
+  -- a slot's bytes, which must hold a fitting engine of the given step, into the buffers of an engine
+  pub unpack : Machine → List ℕ → ℕ → State → Option State
+
+-- the timeline's operations, with slots of that size
+abbrev pub opsOf : (X : Kind) → Machine → (table : List ℕ) → (size : ℕ) → Ops Outcome
+opsOf X m s size = record {
+  State = X .State;
+  Store = List ℕ;
+  now = X .now;
+  check = X .check m s;
+  advance = X .advance m s;
+  slots = slotCount size;
+  save = λ i e b. putSlot size i (X .pack m e (slotOf size i b)) b;
+  move = moveSlot size;
+  restore = λ i p e b. X .unpack m (slotOf size i b) p e;
+}
+
+-- ---- new timeline, seek, forward and back: the slot's size is that of the buffers at hand
+
+abbrev pub TimelineOf : Kind → Type 0
+TimelineOf X = TimelineWith (X .State) (List ℕ)
+
+abbrev pub opsFor : (X : Kind) → Machine → (table : List ℕ) → X .State → Ops Outcome
+opsFor X m s e = opsOf X m s (X .slotSize m e)
+
+unfoldable pub newOn : (X : Kind) → Machine → (table : List ℕ) → (most every : ℕ) → X .State → List ℕ → Reply (TimelineOf X)
+newOn X m s most every e store = new (opsFor X m s e) most every e store
+
+-- a new timeline, and the store as it is left
+abbrev pub storeAfter : (X : Kind) → Reply (TimelineOf X) → List ℕ → List ℕ
+storeAfter X (refused why) t = t
+storeAfter X (answered w) t = w .store
+
+unfoldable pub newWith : (X : Kind) → Machine → (table : List ℕ) → (most every : ℕ) → X .State → List ℕ → Reply (TimelineOf X) × List ℕ
+newWith X m s most every e store = (newOn X m s most every e store, storeAfter X (newOn X m s most every e store) store)
+
+unfoldable pub callOn : (X : Kind) → Machine → (table : List ℕ) → TimelineOf X → Call → Reply Outcome × TimelineOf X
+callOn X m s v c = call (opsFor X m s (v .engine)) v c
