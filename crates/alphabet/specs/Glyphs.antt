@@ -1,4 +1,4 @@
--- Which glyphs a word may have, over the lists alone: "A glyph is the first equal one among the first 256; it must be blank or flagged input, a missing flag counting as unset." Definitions only.
+-- The glyphs allowed in a word, defined on the lists alone: "A glyph is the first equal one among the first 256; it must be blank or flagged input, a missing flag counting as unset." Definitions only.
 use mathlib.Core.Path.{_≡_}
 use mathlib.Core.List.{List, [], _∷_}
 use Prim.Native.Nat.{ℕ, _<_}
@@ -13,7 +13,7 @@ pub record First (glyphs : List ℕ) (glyph i : ℕ) : Type 0 where
   pub equal : getD glyphs i 0 ≡ glyph
   pub before : (j : ℕ) → j < i → ¬ (getD glyphs j 0 ≡ glyph)
 
--- no equal one among the first 256
+-- none of the first 256 glyphs is equal to it
 abbrev pub Absent : (glyphs : List ℕ) (glyph : ℕ) → Type 0
 Absent glyphs glyph = (j : ℕ) → j < length glyphs → j < 256 → ¬ (getD glyphs j 0 ≡ glyph)
 

@@ -39,7 +39,7 @@ abbrev pub allowedOn : (flags : List ℕ) → Named → Bool
 allowedOn flags Missing = false
 allowedOn flags (Found s) = pick (eqb (s .0) 0) true (isInput flags s)
 
--- the byte written; none is for a glyph that is missing
+-- the byte written; a word with a missing glyph is refused, and nothing is written
 abbrev pub byteOn : Named → ℕ
 byteOn Missing = 0
 byteOn (Found s) = s .0
@@ -61,7 +61,7 @@ unfoldable pub encodeCheck : (glyphs flags word : List ℕ) (room : ℕ) → Che
 encodeCheck glyphs flags word room =
     checkedOn (glyphsCheck glyphs flags word) (demand (leb (length word) room) Why.OutputSize Accepted)
 
--- what the output holds afterwards: place i the symbol of the word's glyph at i, the places past the word what they held; after a refusal all what it held
+-- the output afterwards: place i holds the symbol of the word's glyph at i, and the places past the word are unchanged; after a refusal all is unchanged
 unfoldable pub encodeInto : (glyphs flags word out : List ℕ) → List ℕ
 encodeInto glyphs flags word out =
     filledOn (encodeCheck glyphs flags word (length out)) out

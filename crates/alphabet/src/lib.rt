@@ -1,4 +1,4 @@
-// The encoder: a word of glyphs into tape symbols.
+// The encoder, which turns a word of glyphs into tape symbols.
 use machine::Checked;
 use outcome::Refusal;
 use symbol::Symbol;
@@ -8,7 +8,7 @@ ghost use lib.ListN.{length};
 ghost use Rattle.notation.specs.Fill.{fillFrom};
 ghost use Rattle.alphabet.specs.Model.{symbolFor, isInput, allowedOn, byteOn, byteAt, glyphsCheck, encodeCheck, encodeInto};
 
-// The symbol that a glyph stands for.
+// The symbol of a glyph, if it has one.
 pub enum Named {
     Missing,
     Found(Symbol),
@@ -29,7 +29,7 @@ pub fn symbol_for(glyphs: &[u32], glyph: u32) -> Named
     Named::Missing
 }
 
-// How many of the glyphs are looked at: no more than there are symbols.
+// The number of glyphs that are searched: at most 256, the number of possible symbols.
 fn looked_at(count: usize) -> usize
     ensures { λ r. ⌜ r ≡ min count 256 ⌝ }
 {
@@ -50,8 +50,8 @@ pub fn is_input(flags: &[u8], symbol: Symbol) -> bool
     false
 }
 
-// The symbols of a word, into the first places of `out`: 17 for a glyph that is neither the blank nor flagged
-// input, with the first place; then 18 for an output shorter than the word.
+// Writes the symbols of a word into the first places of `out`. Refusal 17, with the first place, for a glyph that is
+// neither the blank nor flagged input; then refusal 18 for an output shorter than the word.
 pub fn encode(glyphs: &[u32], flags: &[u8], word: &[u32], out: &mut [u8]) -> Checked
     ensures { λ r. ⌜ (r ≡ encodeCheck (now (glyphs .entry)) (now (flags .entry)) (now (word .entry)) (length (now (out .entry)))) × (now (out .exit) ≡ encodeInto (now (glyphs .entry)) (now (flags .entry)) (now (word .entry)) (now (out .entry))) ⌝ }
 {
@@ -70,7 +70,7 @@ pub fn encode(glyphs: &[u32], flags: &[u8], word: &[u32], out: &mut [u8]) -> Che
     }
 }
 
-// The first glyph of the word that is not allowed decides.
+// Refusal 17 with the place of the first glyph that is not allowed, if there is one.
 fn check_glyphs(glyphs: &[u32], flags: &[u8], word: &[u32]) -> Checked
     ensures { λ r. ⌜ r ≡ glyphsCheck (now (glyphs .entry)) (now (flags .entry)) (now (word .entry)) ⌝ }
 {

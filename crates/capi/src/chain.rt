@@ -1,4 +1,4 @@
-// The run-length engine: fresh, and a run.
+// The run-length engine: a fresh engine, and a run.
 use capi_numbers::answers;
 use capi_numbers::engines;
 use rle::ChainSim;

@@ -1,4 +1,4 @@
-// Questions on the run-length engine's tape; answers as those on the plain engine's.
+// Questions about the run-length engine's tape. The answers have the form of those about the plain engine's.
 use capi_numbers::answers;
 use capi_numbers::engines;
 ghost use mathlib.Core.Path.{_≡_};
@@ -34,7 +34,7 @@ pub extern "C" fn tm_chain_get<'a>(
     answers::put_got(out, answer)
 }
 
-// Whether a cell is not blank, in out[0]; the lowest and the highest such position, raised by 2^63, in out[1] and out[2].
+// Whether a cell is not blank, in out[0]; the lowest and highest such positions, raised by 2^63, in out[1] and out[2].
 #[no_mangle]
 pub extern "C" fn tm_chain_non_blank<'a>(
     tapes: u64,

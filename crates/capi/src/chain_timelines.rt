@@ -1,4 +1,4 @@
-// A timeline over the run-length engine: a new one, and its calls. Its store of slots is lent as the runs are.
+// A timeline over the run-length engine: a new one, and its calls. Its store of slots is lent, as the run places are.
 use capi_numbers::answers;
 use capi_numbers::engines;
 use rle_timeline::Begun;

@@ -1,4 +1,4 @@
-// The engines, their timelines and the encoder behind functions with C linkage, on numbers and slices. Each returns 0, or
+// The engines, their timelines and the encoder as functions with C linkage, on numbers and slices. Each returns 0, or
 // the number of its refusal.
 pub mod chain;
 pub mod chain_questions;

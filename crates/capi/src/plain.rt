@@ -1,4 +1,4 @@
-// The plain engine: fresh, one step, a run over the table or over its packed words.
+// The plain engine: a fresh engine, one step, and a run over the table or over its packed words.
 use capi_numbers::answers;
 use capi_numbers::engines;
 use sim::Fresh;

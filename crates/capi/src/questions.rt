@@ -1,4 +1,4 @@
-// Questions on one tape of the plain engine.
+// Questions about one tape of the plain engine.
 use capi_numbers::answers;
 use capi_numbers::engines;
 ghost use mathlib.Core.Path.{_≡_};
@@ -33,7 +33,7 @@ pub extern "C" fn tm_sim_get<'a>(
     answers::put_got(out, answer)
 }
 
-// Whether a cell is not blank, in out[0]; the lowest and the highest such position, raised by 2^63, in out[1] and out[2].
+// Whether a cell is not blank, in out[0]; the lowest and highest such positions, raised by 2^63, in out[1] and out[2].
 #[no_mangle]
 pub extern "C" fn tm_sim_non_blank<'a>(
     tapes: u64,
@@ -107,7 +107,7 @@ pub extern "C" fn tm_sim_window<'a>(
     answers::put_checked(out, answer)
 }
 
-// Whether there is a cell that is not blank from a position on that way (0 L, 1 R, else the position alone), in
+// Whether there is a cell that is not blank from a position on in a direction (0 L, 1 R, else the position alone), in
 // out[0]; the nearest such position, raised by 2^63, in out[1].
 #[no_mangle]
 pub extern "C" fn tm_sim_find<'a>(

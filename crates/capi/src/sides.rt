@@ -1,5 +1,5 @@
-// The runs of a side of the run-length engine's tape, as records. These two hold the slice of records, and are proved by
-// hand; they decide nothing.
+// The runs of a side of the run-length engine's tape, as records. These two functions take the slice of records and are
+// proved by hand; they make no decision.
 use capi_numbers::engines;
 use capi_numbers::parts;
 use rle_records::Run;
@@ -36,7 +36,7 @@ pub extern "C" fn tm_chain_left<'a, 'b, 'c>(
     parts::put_listed(out, listed)
 }
 
-// The same of the right side.
+// The same for the right side.
 #[no_mangle]
 pub extern "C" fn tm_chain_right<'a, 'b, 'c>(
     tapes: u64,

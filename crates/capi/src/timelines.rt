@@ -1,4 +1,4 @@
-// A timeline over the plain engine: a new one, and its calls. Its store of slots is lent as the cells are.
+// A timeline over the plain engine: a new one, and its calls. Its store of slots is lent, as the cells are.
 use capi_numbers::answers;
 use capi_numbers::engines;
 use sim_timeline::Begun;

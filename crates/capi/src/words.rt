@@ -1,4 +1,4 @@
-// Packed words: the word of an entry, and every part of any word. No call refuses.
+// Packed words: the word of an entry, and the parts of any word. No call refuses.
 use capi_numbers::parts;
 use machine::packed::Packed;
 ghost use mathlib.Core.Path.{_≡_};
@@ -6,7 +6,7 @@ ghost use lib.ListN.{set};
 ghost use Rattle.machine.specs.Model.Packing.{packWord, wordAction, wordEntry};
 ghost use Rattle.capi_numbers.specs.Model.Parts.{actionFrom, entryOut, entryOf, partsOut};
 
-// The word of an entry, undefined for 0 and else of this write, move and next state, in out[0].
+// The word of an entry, in out[0]: undefined where `defined` is 0, else with this write, move and next state.
 #[no_mangle]
 pub extern "C" fn tm_packed_new(
     defined: u8,
@@ -31,7 +31,7 @@ pub extern "C" fn tm_packed(word: u64, out: &mut [u64; 8]) -> u8
     parts::put_parts(out, Packed(word))
 }
 
-// The step of a word, defined or not: its next state, writes and moves, in out[0] to out[6].
+// The action of a word, defined or not: its next state, writes and moves, in out[0] to out[6].
 #[no_mangle]
 pub extern "C" fn tm_packed_action(word: u64, out: &mut [u64; 8]) -> u8
     ensures { λ r. ⌜ (r ≡ 0) × (now (out .exit) ≡ actionFrom 0 (wordAction word) (now (out .entry))) ⌝ }
@@ -41,7 +41,7 @@ pub extern "C" fn tm_packed_action(word: u64, out: &mut [u64; 8]) -> u8
     parts::put_action(out, action)
 }
 
-// The entry of a word, as the lookup's.
+// The entry of a word, in the form of the lookup's.
 #[no_mangle]
 pub extern "C" fn tm_packed_entry(word: u64, out: &mut [u64; 8]) -> u8
     ensures { λ r. ⌜ (r ≡ 0) × (now (out .exit) ≡ entryOut (wordEntry word) (now (out .entry))) ⌝ }

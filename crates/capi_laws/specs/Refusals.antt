@@ -1,5 +1,5 @@
--- What a function exported with C linkage leaves where it refuses: "A refusal leaves everything lent or passed as it was." Definitions only.
--- Each part is about the definition that the contract of its function cites, for every value lent or passed. What is lent for reading alone no call can write.
+-- The effect of a refused call of a function exported with C linkage: "A refusal leaves everything lent or passed as it was." Definitions only.
+-- Each part is about the definition that the contract of its function cites, for every value lent or passed. No call can write what is lent only for reading.
 use mathlib.Core.Path.{_≡_}
 use mathlib.Core.List.{List}
 use Prim.Native.Nat.{ℕ}
@@ -58,19 +58,19 @@ pub record OutKept (why : Refusal) (before after : List ℕ) : Type 0 where
   pub named : (i : ℕ) → placeOf why ≡ At i → after ≡ set before 0 i
   pub unnamed : placeOf why ≡ Unsaid → after ≡ before
 
--- `left` is all that a call leaves; `asItWas o` is that refusal, with o in `out` and everything else as it was lent
+-- `left` is all that a call leaves; `asItWas o` is the refusal, with o in `out` and everything else as it was lent
 pub record Unchanged {X : Type 0} (why : Refusal) (out : List ℕ) (asItWas : List ℕ → X) (left : X) : Type 0 where
   pub after : List ℕ
   pub out-kept : OutKept why out after
   pub kept : left ≡ asItWas after
 
--- `refusal` is that of the operation called, by the definition that its contract cites. The result is 0 exactly where the operation accepts, and else the number
--- of its refusal, with which everything lent is as it was.
+-- `refusal` is that of the operation called, by the definition that its contract cites. The result is 0 exactly where the operation accepts. Otherwise it is the
+-- number of the refusal, and everything lent is as it was.
 pub record Refuses {X : Type 0} (refusal : Checked) (result : X → ℕ) (out : List ℕ) (asItWas : ℕ → List ℕ → X) (left : X) : Type 0 where
   pub accepted : refusal ≡ Accepted → result left ≡ 0
   pub unchanged : (why : Refusal) → refusal ≡ Refused why → Unchanged why out (asItWas (refusalNumber why)) left
 
--- ---- by what the operation answers, each with all that the call is lent for writing: `out`, and one slice, an engine or a timeline
+-- ---- one claim for each type of answer, with all that the call is lent for writing: `out`, and one slice, an engine or a timeline
 
 abbrev pub Alone : Checked → (out : List ℕ) (left : ℕ × List ℕ) → Type 0
 Alone refusal out left = Refuses refusal (λ (x : ℕ × List ℕ). x .0) out (λ n o. (n, o)) left
@@ -113,7 +113,7 @@ module _ (state : ℕ) (engine out c0 c1 c2 : List ℕ) where
   abbrev pub Runs : Plains.Given → Type 0
   Runs g = Cells (ofAnswer (g .answer)) (ranCall g engine out)
 
--- or with its run places
+-- a run-length engine, with its run places
 module _ (state cur : ℕ) (engine out ls ll rs rl : List ℕ) where
   abbrev pub Places : Checked → ChainCall → Type 0
   Places refusal left = Refuses refusal (λ (x : ChainCall). x .code) out (λ n o. chainCall n state cur engine o ls ll rs rl) left
@@ -124,7 +124,7 @@ module _ (state cur : ℕ) (engine out ls ll rs rl : List ℕ) where
   abbrev pub ChainRuns : Chains.Given → Type 0
   ChainRuns g = Places (ofAnswer (g .answer)) (chainRanCall g engine out)
 
--- a timeline's numbers and store, and the engine with them
+-- a timeline's numbers and store, and its engine
 abbrev pub Begins : (X : Kind) (times out store : List ℕ) → Times.Reply (TimelineOf X) × List ℕ → Type 0
 Begins X times out store r =
     Refuses (ofReply (r .0)) (λ (x : TimelineNew). x .code) out (λ n o. timelineNew n times o store) (timelineNewCall X r times out)
@@ -172,7 +172,7 @@ pub record ExportsRefuse : Type 0 where
       → Fills (engineCheck m s σ) out cells (ChainAsks.windowInto m s z σ cells)
   pub chain-left : (m : Machine) (s : List ℕ) (σ : Chain.Conf) (runs : List Run) (out : List ℕ) → Lists (leftAnswer m s (length runs) σ) out runs (leftInto m s σ runs)
   pub chain-right : (m : Machine) (s : List ℕ) (σ : Chain.Conf) (runs : List Run) (out : List ℕ) → Lists (rightAnswer m s (length runs) σ) out runs (rightInto m s σ runs)
-  -- ---- a timeline over each
+  -- ---- the timelines over both engines
   pub sim-timeline-new : (m : Machine) (s : List ℕ) (most every : ℕ) (σ : Plain.Conf) (times out store : List ℕ)
       → Begins plainKind times out store (newWith plainKind m s most every σ store)
   pub sim-timeline-call : (m : Machine) (s : List ℕ) (state : ℕ) (engine times out c0 c1 c2 store : List ℕ) (c : Times.Call)

@@ -1,4 +1,4 @@
-// Answers as a result, 0 or the number of a refusal, and values.
+// Answers as numbers: a result, 0 or the number of a refusal, and values.
 use machine::Checked;
 use outcome::Place;
 use outcome::Refusal;

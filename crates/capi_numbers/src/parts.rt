@@ -82,7 +82,7 @@ pub fn put_looked(xs: &mut [u64; 8], looked: Looked) -> u8
     }
 }
 
-// The entry of a table of one tape: undefined for 0.
+// The entry of a one-tape table: undefined where `defined` is 0.
 pub fn entry_of(defined: u8, write: u8, dir: u8, next: u16) -> Entry
     ensures { λ r. ⌜ r ≡ entryOf defined write dir next ⌝ }
 {
@@ -93,7 +93,7 @@ pub fn entry_of(defined: u8, write: u8, dir: u8, next: u16) -> Entry
     Entry::Defined(Action::single(Symbol(write), way, State(next)))
 }
 
-// The parts of a word.
+// The parts of a packed word.
 pub fn put_parts(xs: &mut [u64; 8], word: Packed) -> u8
     ensures { λ r. ⌜ (r ≡ 0) × (now (xs .exit) ≡ partsOut (word .0) (now (xs .entry))) ⌝ }
 {

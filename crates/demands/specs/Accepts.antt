@@ -1,4 +1,4 @@
--- What document 01 accepts, in its words: a word, buffers and run places, an engine value, packed words. Definitions only.
+-- The inputs that document 01 accepts, in its words: words, buffers and run places, engine values, packed words. Definitions only.
 use mathlib.Core.Path.{_≡_}
 use mathlib.Core.List.{List}
 use Prim.Native.Nat.{ℕ, _+_, _*_, _≤_, _<_, _^_}
@@ -29,7 +29,7 @@ pub record FreshCells (m : Machine) (w c0 c1 c2 : List ℕ) : Type 0 where
   pub cells1 : 2 ≤ m .tapes → (32 ≤ length c1) × (length c1 ≤ 2 ^ 30)
   pub cells2 : 3 ≤ m .tapes → (32 ≤ length c2) × (length c2 ≤ 2 ^ 30)
 
--- a table, buffers and an engine value: "11 for the upper sizes; 12 an engine value that doesn't fit", of the tapes that the machine has
+-- a table, buffers and an engine value: "11 for the upper sizes; 12 an engine value that doesn't fit", both only for the tapes that the machine has
 pub record PlainTaken (m : Machine) (s : List ℕ) (σ : Plain.Conf) : Type 0 where
   pub table : WellFormed m s
   pub cells0 : length (σ .c0) ≤ 2 ^ 30
@@ -37,7 +37,7 @@ pub record PlainTaken (m : Machine) (s : List ℕ) (σ : Plain.Conf) : Type 0 wh
   pub cells2 : 3 ≤ m .tapes → length (σ .c2) ≤ 2 ^ 30
   pub value : EngineFits m (bareOf m σ)
 
--- "7 packed words not the table's (fast run; more than one tape also counts)": place i holds the packed word of the entry that place i of the table is laid out as
+-- "7 packed words not the table's (fast run; more than one tape also counts)": place i holds the packed word of the entry at place i of the table
 pub record PackedOf (m : Machine) (s words : List ℕ) : Type 0 where
   pub single : m .tapes ≡ 1
   pub number : length words ≡ m .states * m .symbols
@@ -46,7 +46,7 @@ pub record PackedOf (m : Machine) (s words : List ℕ) : Type 0 where
 -- ---- the run-length engine
 
 -- "8 more than one tape (chain only); .. 11 .. fewer right run places than the word's right stack has runs, or a run side over 1,048,576": the right stack is that
--- of the tape at the start, whose left stack has no runs
+-- of the start tape, whose left stack is empty
 pub record FreshPlaces (m : Machine) (w ls ll rs rl : List ℕ) : Type 0 where
   pub single : m .tapes ≡ 1
   pub lefts : placesOf ls ll ≤ 1048576
@@ -65,7 +65,7 @@ pub record ChainTaken (m : Machine) (s : List ℕ) (σ : Chain.Conf) : Type 0 wh
 
 -- ---- packing a table
 
--- what the packing of a table answers and leaves in its output: the packed words in their places, the places past them as they were
+-- packing a table: it is accepted, each packed word is in its place of the output, and the places past them are as they were
 pub record Packs (m : Machine) (s out : List ℕ) : Type 0 where
   pub answers : packCheck m s (length out) ≡ Accepted
   pub same-length : length (packInto m s out) ≡ length out

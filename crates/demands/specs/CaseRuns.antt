@@ -1,4 +1,4 @@
--- How document 01's cases are asked of the two engines: by the models that the contracts of `new` and `run` cite. Definitions only.
+-- The runs of document 01's cases on the two engines, by the models that the contracts of `new` and `run` cite. Definitions only.
 use mathlib.Core.List.{List, [], _∷_}
 use Prim.Native.Nat.{ℕ}
 use lib.ListN.{replicate}
@@ -47,7 +47,7 @@ plain m s w fuel =
     let a : Made = newAnswer m s w cells cells cells in
     runFresh m s fuel a (a .answer)
 
--- ---- the run-length engine: a fresh one with so many places on the left, and 8 on the right
+-- ---- the run-length engine: a fresh one with n places on the left and 8 on the right
 
 abbrev pub places : ℕ → List ℕ
 places n = replicate n 7
@@ -61,7 +61,7 @@ fromFresh n m s w turned made =
     let a : Chains.Made = Chains.newAnswer m s w (places n) (places n) (places 8) (places 8) in
     onFresh (a .answer) turned (λ v. made (Chain.conf v (places n) (places n) (a .rs) (a .rl)))
 
--- runs of it, one after the other: the last answer, and how many macro steps it has made by then
+-- runs one after the other: the last answer, and the number of macro steps that the engine has made by then
 abbrev pub runs : Machine → List ℕ → (fuel : ℕ) (later : List ℕ) → Chain.Conf → Says × ℕ
 runs m s fuel [] σ =
     let g : Chains.Given = Chains.runAnswer m s Never fuel σ in
@@ -71,11 +71,11 @@ runs m s fuel (next ∷ later) σ = runs m s next later (Chains.runAnswer m s Ne
 abbrev pub chainWith : (lefts : ℕ) → Machine → (table word : List ℕ) → (fuel : ℕ) (later : List ℕ) → Says × ℕ
 chainWith n m s w fuel later = fromFresh n m s w (λ why. (refusedBy why, 0)) (runs m s fuel later)
 
--- one run's answer
+-- the answer of one run
 abbrev pub chain : Machine → (table word : List ℕ) → (fuel : ℕ) → Says
 chain m s w fuel = chainWith 8 m s w fuel [] .0
 
--- its two stacks
+-- the two stacks of a fresh engine, or the refusal
 pub data Stacks : Type 0 where
   none : Refusal → Stacks
   stacks : (left right : Stack) → Stacks

@@ -7,7 +7,7 @@ use Rattle.machine.specs.declared.Machine.{Machine}
 abbrev pub machine : (tapes symbols states : ℕ) → Machine
 machine t k n = record { tapes = t; symbols = k; states = n; start = 0 }
 
--- one tape: the entry "write, move, next", with L 0, R 1, N 2; the two tapes that are not there have N
+-- the entry "write, move, next" of a one-tape table, with L 0, R 1, N 2; the two absent tapes have N
 abbrev pub entry1 : (write move next : ℕ) → List ℕ
 entry1 write move next = 1 ∷ next ∷ 0 ∷ write ∷ 0 ∷ 0 ∷ (move + 3 * 2 + 9 * 2) ∷ 0 ∷ []
 
@@ -30,10 +30,10 @@ stayer = entry1 0 2 0 ++ none
 abbrev pub writer : List ℕ
 writer = entry1 1 2 0 ++ none
 
--- "Two tapes both moving R on blanks, same state": k 2, so four entries, of which the first is met
+-- "Two tapes both moving R on blanks, same state": k is 2, so the table has four entries; a run reads only the first
 abbrev pub pair : List ℕ
 pair = (1 ∷ 0 ∷ 0 ∷ 0 ∷ 0 ∷ 0 ∷ (1 + 3 * 1 + 9 * 2) ∷ 0 ∷ []) ++ (none ++ (none ++ none))
 
--- "1 kept moving R, blank undefined", the state kept too
+-- "1 kept moving R, blank undefined"; the state is kept too
 abbrev pub keeper : List ℕ
 keeper = none ++ entry1 1 1 0

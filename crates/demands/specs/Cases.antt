@@ -1,4 +1,4 @@
--- THE STARRED CASES of document 01: "The starred cases below are proved together as one table about the definitions", those that the contracts cite.
+-- THE STARRED CASES of document 01: "The starred cases below are proved together as one table about the definitions". The contracts cite these definitions.
 use mathlib.Core.Path.{_≡_, refl}
 use mathlib.Core.List.{List, [], _∷_}
 use Prim.Native.Nat.{ℕ, _+_, _^_}
@@ -29,7 +29,7 @@ use Rattle.rle_refines.specs.Meaning.{empty, over}
 use Rattle.demands.specs.CaseTables.{machine, listing, walker, stayer, writer, pair, keeper}
 use Rattle.demands.specs.CaseRuns.{ended, refused, plain, chain, chainWith, stacks, stacksOf}
 
--- what document 01 says, beside what is asked: an answer, a refusal by its number; an answer with the number of macro steps; a fresh engine's stacks; or a packed word
+-- a value of document 01, beside the model's: an answer (a refusal by its number), one with the number of macro steps, a fresh engine's stacks, or a packed word
 pub record Case : Type 1 where
   pub of : Type 0
   pub says : of
@@ -55,14 +55,14 @@ starred =
     ∷ case (ended (NeverHalts 0 (ChainToInfinity (stateOf 0) R))) (chain (one 1) walker [] (2 ^ 62))
     ∷ case (refused 13) (plain (one 1) walker [] (2 ^ 62 + 1))
     ∷ case (refused 13) (chain (one 1) walker [] (2 ^ 62 + 1))
-    -- the same with no place on the left: never comes before space
+    -- the same with no run place on the left: the never test comes before the test for space
     ∷ case (ended (NeverHalts 0 (ChainToInfinity (stateOf 0) R)), 0) (chainWith 0 (one 1) walker [] 10 [])
     -- "Blank rewritten, N, same state: StayLoop at 0." "Blank to 1, N, 1 undefined: halted at 1."
     ∷ case (ended (NeverHalts 0 (StayLoop (stateOf 0)))) (plain (one 1) stayer [] 10)
     ∷ case (ended (NeverHalts 0 (StayLoop (stateOf 0)))) (chain (one 1) stayer [] 10)
     ∷ case (ended (Halted 1 (stateOf 0))) (plain (one 1) writer [] 10)
     ∷ case (ended (Halted 1 (stateOf 0))) (chain (one 1) writer [] 10)
-    -- "Two tapes both moving R on blanks, same state, fuel 10: out of fuel at 10."; the run-length engine refuses two tapes, 8
+    -- "Two tapes both moving R on blanks, same state, fuel 10: out of fuel at 10."; the run-length engine refuses two tapes with 8
     ∷ case (ended (OutOfFuel 10)) (plain (machine 2 2 1) pair [] 10)
     ∷ case (refused 8) (chain (machine 2 2 1) pair [] 10)
     -- "Word 1 1 0: right stack one run, symbol 1, length 1. 0 0 0: both empty."
@@ -76,7 +76,7 @@ starred =
     ∷ case 8590000385 (packWord (Defined (singleOf (symbolOf 1) R (stateOf 1))) 2)
     ∷ []
 
--- every case comes out as document 01 says
+-- the two values of every case are equal
 infixr 5 _also_
 pub data AllRight : List Case → Type 1 where
   done : AllRight []

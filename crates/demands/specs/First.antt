@@ -1,6 +1,6 @@
 -- THE FIRST DEMAND: "Every operation takes every table, word, buffer, engine value, fuel and target, returns, and wraps no counter. A refusal carries its number
 -- from document 01 and changes no state, tape, run stack or store. Lack of space stops a run before the step that needs it, earlier steps kept."
--- That every operation takes everything, returns and wraps nothing is what the check of the crates proves: no public operation has a `requires`. The rest is here.
+-- The check of the crates proves that every operation takes everything, returns and wraps nothing: no public operation has a `requires`. The rest is here.
 use Rattle.demands.specs.FirstTables.{TableOperations, table-operations}
 use Rattle.demands.specs.FirstPlain.{PlainOperations, plain-operations}
 use Rattle.demands.specs.FirstChain.{ChainOperations, chain-operations}
@@ -14,11 +14,11 @@ pub record FirstDemand : Type 0 where
   -- the same, and "Lack of space stops a run before the step that needs it, earlier steps kept.": the plain engine's new, step, run, fast run, tape questions
   -- and check
   pub plain : PlainOperations
-  -- the same of the run-length engine: new, run, the tape questions, left and right, check
+  -- the same for the run-length engine: new, run, the tape questions, left and right, check
   pub chain : ChainOperations
-  -- the same of the timelines over both: new, seek, forward and back
+  -- the same for the timelines over both engines: new, seek, forward and back
   pub timelines : BothTimelines
-  -- the first of the two sentences of the listing
+  -- the first of the two sentences, for the listing
   pub listing : ListingOperation
 
 pub first-demand : FirstDemand

@@ -1,4 +1,4 @@
--- THE FIRST DEMAND of the run-length engine. Each part is about the definitions that the contracts of its operations cite.
+-- THE FIRST DEMAND for the run-length engine. Each part is about the definitions that the contracts of its operations cite.
 use mathlib.Core.Path.{_≡_}
 use mathlib.Core.Logic.{_↔_}
 use mathlib.Core.Bool.{true, false}
@@ -41,7 +41,7 @@ use Rattle.demands.specs.Facts.FirstChainSpace.{chain-full, chain-onward
 pub record ChainOperations : Type 0 where
   -- ---- "A refusal carries its number from document 01 and changes no state, tape, run stack or store."
 
-  -- a fresh engine: the answer, with the right side's places; the left side's are lent for reading alone
+  -- a fresh engine: the answer, with the right side's places; the left side's are lent only for reading
   pub new : (m : Machine) (s w ls ll rs rl : List ℕ)
       → TurnsAway (1 ∷ 2 ∷ 3 ∷ 4 ∷ 5 ∷ 6 ∷ 8 ∷ 9 ∷ 10 ∷ 11 ∷ []) (chainNewTests m s w ls ll rs rl) (λ (x : Made). ofChain (x .answer)) (λ why. made (New.Refused why) rs rl)
       (newAnswer m s w ls ll rs rl)
@@ -68,33 +68,33 @@ pub record ChainOperations : Type 0 where
   pub right : (m : Machine) (s : List ℕ) (σ : Conf) (out : List Run)
       → TurnsAway (1 ∷ 2 ∷ 3 ∷ 4 ∷ 5 ∷ 6 ∷ 8 ∷ 11 ∷ 12 ∷ 18 ∷ []) (chainListTests m s σ (σ .sim .tape .right) (length out)) (λ (x : Listed × List Run). ofListed (x .0))
       (λ why. (Listed.Refused why, out)) (rightAnswer m s (length out) σ, rightInto m s σ out)
-  -- ---- "11 .. fewer right run places than the word's right stack has runs, or a run side over 1,048,576": what freshSizes of the tests asks
+  -- ---- "11 .. fewer right run places than the word's right stack has runs, or a run side over 1,048,576": the test freshSizes
 
-  -- a word with symbols below k leaves two stacks on the table machine's start tape; the stack rule leaves no other two
+  -- a word with symbols below k gives two stacks of the table machine's start tape; by the stack rule there are no other two
   pub new-stack : (m : Machine) (w : List ℕ) → ((i : ℕ) → i < length w → getD w i 0 < m .symbols)
       → (right : Stack) × Stacked (m .symbols) (start (m .start) w .tape0) empty right
-  -- and the test passes exactly where neither side has over 1,048,576 places, and the right one no fewer than the right stack has runs
+  -- the test passes exactly where neither side has over 1,048,576 places and the right side has a place for each run of the right stack
   pub new-sizes : (m : Machine) (w : List ℕ) (left right : Stack) → Stacked (m .symbols) (start (m .start) w .tape0) left right
       → (lefts rights : ℕ) → (freshSizes w lefts rights ≡ true) ↔ ((lefts ≤ 1048576) × (rights ≤ 1048576) × (height right ≤ rights))
-  -- ---- "12 an engine value that doesn't fit": what chainFits of the tests asks
+  -- ---- "12 an engine value that doesn't fit": the test chainFits
 
   -- "Fits: state below n, steps to 2^62, symbols below k. .. Chain: the stack rule, each side's sum, and its furthest cell's distance from 0, at most steps + 2^20,
   -- lowest ≤ head ≤ highest, all within steps of 0, macro steps at most steps." (ChainFits)
   pub fits : (m : Machine) (σ : Conf) → (chainFits m σ ≡ true) ↔ ChainFits m σ
-  -- and then a side's furthest cell lies within steps + 2^20 of 0, on either side of 0
+  -- then the furthest cell of each side lies within steps + 2^20 of 0, on either side of 0
   pub near : (m : Machine) (σ : Conf) → ChainFits m σ → Near (σ .sim .steps + 2 ^ 20) (leftEnd σ) × Near (σ .sim .steps + 2 ^ 20) (rightEnd σ)
   -- ---- "Lack of space stops a run before the step that needs it, earlier steps kept."
 
-  -- a run that ends for lack of space has made so many steps of the table machine, and the next one is full (EndsFull)
+  -- a run that answers Full n has made the steps of the table machine up to step n, and the next step is full (EndsFull)
   pub full : (m : Machine) (s : List ℕ) → Bytes s → (rule : StopRule) (fuel : ℕ) (σ τ : Conf) (n : ℕ) → runAnswer m s rule fuel σ ≡ given τ (Ans.Done (Full n))
       → EndsFull m (tableOf m s) (configOf σ) (configOf τ) fuel n (ChainFull m s τ)
   -- "Full exactly when the step's push needs a new run on a side whose live runs fill its lent places" (ChainFull): with fuel, an entry, no proved loop and no
-  -- stop ahead the run says so, and leaves the engine and every place as they were, exactly there
+  -- match of the stop rule, the run answers full, with the engine and every place as they were, exactly there
   pub full-exact : (m : Machine) (s : List ℕ) → Bytes s → (rule : StopRule) (fuel : ℕ) (σ : Conf) → runCheck m s fuel σ ≡ Accepted → 0 < fuel
       → GoesOn m (tableOf m s) (configOf σ) → matches rule (σ .sim .state) ≡ false
       → (runAnswer m s rule fuel σ ≡ given σ (Ans.Done (Full (σ .sim .steps)))) ↔ ChainFull m s σ
-  -- no run goes past a full step: where a steps can be made and the next is full, more fuel ends there, and the a steps are kept: all is the same but the macro
-  -- steps and what lies past the live runs (Alike)
+  -- no run goes past a full step: where a run makes a steps and the next step is full, a run with more fuel ends there and keeps the a steps. The two engines
+  -- differ only in the macro steps and past the live runs (Alike)
   pub full-onward : (m : Machine) (s : List ℕ) → Bytes s → (rule : StopRule) (a b : ℕ) (σ τ : Conf) (n : ℕ) → runAnswer m s rule a σ ≡ given τ (Ans.Done (OutOfFuel n))
       → runCheck m s (a + b) σ ≡ Accepted → 0 < b → matches rule (τ .sim .state) ≡ false → ChainFull m s τ
       → (ω : Conf) × (runAnswer m s rule (a + b) σ ≡ given ω (Ans.Done (Full n))) × Alike τ ω

@@ -1,5 +1,5 @@
--- What the first demand says of an operation: "A refusal leaves everything lent or passed as it was. Only the first that applies is given; where none applies,
--- nothing is refused." And the words in which its refusals are listed. Definitions only.
+-- The first demand's claim about an operation: "A refusal leaves everything lent or passed as it was. Only the first that applies is given; where none applies,
+-- nothing is refused." The lists of refusals are defined here too. Definitions only.
 use mathlib.Core.Path.{_≡_}
 use mathlib.Core.Bool.{Bool}
 use mathlib.Core.Option.{Option, none, some}
@@ -36,7 +36,7 @@ use Rattle.listing.specs.declared.Listed.the-variants as Did
 
 -- ---- a list of refusals
 
--- what an operation asks for, and the refusal where it is not so
+-- a test that an operation makes, and the refusal where it fails
 pub record Test : Type 0 where
   pub holds : Bool
   pub why : Refusal
@@ -49,12 +49,12 @@ unfoldable pub firstOf : List Test → Checked
 firstOf [] = Accepted
 firstOf (t ∷ rest) = pick (t .holds) (firstOf rest) (Refused (t .why))
 
--- document 01's numbers of a list's refusals
+-- the numbers in document 01 of a list's refusals
 unfoldable pub numbersOf : List Test → List ℕ
 numbersOf [] = []
 numbersOf (t ∷ rest) = refusalNumber (t .why) ∷ numbersOf rest
 
--- the number of an answer: document 01's of its refusal, and 0 where it is none
+-- the number of an answer: its refusal's number in document 01, or 0 where it is no refusal
 abbrev pub numberOf : Checked → ℕ
 numberOf Accepted = 0
 numberOf (Refused why) = refusalNumber why
@@ -64,7 +64,7 @@ unfoldable pub firstNumber : List Test → ℕ
 firstNumber [] = 0
 firstNumber (t ∷ rest) = pick (t .holds) (firstNumber rest) (refusalNumber (t .why))
 
--- "(lowest entry number given)", "(first place given)": of the n numbers from 0 on the lowest of which the test fails; 0 where there is none
+-- "(lowest entry number given)", "(first place given)": the lowest of the numbers 0 to n - 1 for which the test fails; 0 where there is none
 abbrev pub numberOr0 : Option ℕ → ℕ
 numberOr0 none = 0
 numberOr0 (some i) = i
@@ -74,17 +74,17 @@ lowest test n = numberOr0 (firstFail test n 0)
 
 -- ---- an operation
 
--- `left` is what the operation leaves: its answer, with every value handed back and everything that was lent for writing. `refusal` reads off the answer whether
--- it is a refusal. `asItWas why` is the answer that it is refused by `why`, and everything else as it came in.
+-- `left` is the result of the operation: its answer, with every value handed back and everything that was lent for writing. `refusal` reads from it whether the
+-- answer is a refusal. `asItWas why` is the refusal `why`, with everything else as it came in.
 pub record TurnsAway {X : Type 0} (numbers : List ℕ) (tests : List Test) (refusal : X → Checked) (asItWas : Refusal → X) (left : X) : Type 0 where
   -- the refusals have document 01's numbers, in its order
   pub numbered : numbersOf tests ≡ numbers
-  -- the answer is refused by the first test that fails, and is no refusal where none does
+  -- the refusal is that of the first test that fails; where none fails, the answer is no refusal
   pub first : refusal left ≡ firstOf tests
-  -- whatever the refusal, everything is as it came in
+  -- after any refusal everything is as it came in
   pub unchanged : (why : Refusal) → refusal left ≡ Refused why → left ≡ asItWas why
 
--- ---- the refusal in an answer: its number is `numberOf`'s, and the answer's other case holds what was asked for
+-- ---- the refusal in an answer: `numberOf` gives its number, and the answer's other case holds the result
 
 abbrev pub ofFresh : Fresh → Checked
 ofFresh (New.Made v) = Accepted

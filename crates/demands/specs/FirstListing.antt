@@ -1,4 +1,4 @@
--- THE FIRST DEMAND of the listing, from the bytes of an input to the bytes that `seekrun` prints. The part is about the definition that the contract of
+-- THE FIRST DEMAND for the listing, from the bytes of an input to the bytes that `seekrun` prints. The part is about the definition that the contract of
 -- `listing::list` cites.
 use mathlib.Core.Path.{_≡_}
 use mathlib.Core.Logic.{_↔_}
@@ -19,7 +19,7 @@ pub record ListingOperation : Type 0 where
   -- the listing: the answer, with the lent output
   pub list : (input out : List ℕ)
       → TurnsAway (18 ∷ []) (listTests (length out)) (λ (x : Listed × List ℕ). ofPrinted (x .0)) (λ why. (Did.Refused why, out)) (listOf input out)
-  -- so it is refused exactly where the output is under 8,743 bytes, by 18 and with nothing written; whatever the input, a longer one is answered
+  -- it is refused exactly where the output is under 8,743 bytes, with 18 and nothing written; an output of 8,743 bytes or more is accepted for any input
   pub short : (input out : List ℕ) → (listOf input out ≡ (Did.Refused Why.OutputSize, out)) ↔ (length out < 8743)
   pub long : (input out : List ℕ) → 8743 ≤ length out
       → listOf input out ≡ (Did.Printed (length (answerTo input)), answerTo input ++ drop (length (answerTo input)) out)

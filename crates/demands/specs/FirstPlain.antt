@@ -1,4 +1,4 @@
--- THE FIRST DEMAND of the plain engine. Each part is about the definitions that the contracts of its operations cite.
+-- THE FIRST DEMAND for the plain engine. Each part is about the definitions that the contracts of its operations cite.
 use mathlib.Core.Path.{_≡_}
 use mathlib.Core.Logic.{_↔_}
 use mathlib.Core.Bool.{true}
@@ -66,27 +66,27 @@ pub record PlainOperations : Type 0 where
       (questionCheck m s i σ, windowInto m s i z σ out)
   pub find-non-blank : (m : Machine) (s : List ℕ) (i : ℕ) (z : ℤ) (d : Dir) (σ : Conf)
       → TurnsAway (1 ∷ 2 ∷ 3 ∷ 4 ∷ 5 ∷ 6 ∷ 11 ∷ 12 ∷ []) (plainAskTests m s σ i) ofLocated Located.Refused (findAnswer m s i z d σ)
-  -- ---- "12 an engine value that doesn't fit": what plainFits of the tests asks
+  -- ---- "12 an engine value that doesn't fit": the test plainFits
 
   -- "Fits: state below n, steps to 2^62, symbols below k. Plain, each tape: length from 32 to the buffer's, head and origin below it, lowest ≤ head ≤ highest, all
-  -- inside." (EngineFits, of the tapes that the machine has)
+  -- inside." (EngineFits, for the tapes that the machine has)
   pub fits : (m : Machine) (σ : Conf) → (simFits m (σ .sim) (σ .c0) (σ .c1) (σ .c2) ≡ true) ↔ EngineFits m (bareOf m σ)
   -- ---- "Lack of space stops a run before the step that needs it, earlier steps kept."
 
-  -- a run that ends for lack of space has made so many steps of the table machine, and the next one is full (EndsFull); so too the fast run
+  -- a run that answers Full n has made the steps of the table machine up to step n, and the next step is full (EndsFull); the same for the fast run
   pub full : (m : Machine) (s : List ℕ) → Bytes s → (rule : StopRule) (fuel : ℕ) (σ τ : Conf) (n : ℕ) → runAnswer m s rule fuel σ ≡ given τ (Ans.Done (Full n))
       → EndsFull m (tableOf m s) (configOf m σ) (configOf m τ) fuel n (PlainFull m s τ)
   pub fast-full : (m : Machine) (s words : List ℕ) → Bytes s → (rule : StopRule) (fuel : ℕ) (σ τ : Conf) (n : ℕ) → fastAnswer m s words rule fuel σ ≡ given τ (Ans.Done (Full n))
       → EndsFull m (tableOf m s) (configOf m σ) (configOf m τ) fuel n (PlainFull m s τ)
-  -- with fuel, an entry and no proved loop: the run says so, and leaves the engine and every cell as they were, exactly where the next step is full
+  -- with fuel, an entry and no proved loop, the run answers full, with the engine and every cell as they were, exactly where the next step is full
   pub full-exact : (m : Machine) (s : List ℕ) → Bytes s → (rule : StopRule) (fuel : ℕ) (σ : Conf) → runCheck m s fuel σ ≡ Accepted → 0 < fuel
       → GoesOn m (tableOf m s) (configOf m σ) → (runAnswer m s rule fuel σ ≡ given σ (Ans.Done (Full (σ .sim .steps)))) ↔ PlainFull m s σ
-  -- no run goes past a full step: where a steps can be made and the next is full, more fuel ends there, and the a steps are kept
+  -- no run goes past a full step: where a run makes a steps and the next step is full, a run with more fuel ends there and keeps the a steps
   pub full-onward : (m : Machine) (s : List ℕ) → Bytes s → (rule : StopRule) (a b : ℕ) (σ τ : Conf) (n : ℕ) → runAnswer m s rule a σ ≡ given τ (Ans.Done (OutOfFuel n))
       → runCheck m s (a + b) σ ≡ Accepted → 0 < b → PlainFull m s τ → runAnswer m s rule (a + b) σ ≡ given τ (Ans.Done (Full n))
   -- a full step changes nothing
   pub step-full : (m : Machine) (s : List ℕ) → Bytes s → (σ τ : Conf) → stepAnswer m s σ ≡ stepGiven τ (StepAns.Done Step.Full) → (τ ≡ σ) × PlainFull m s σ
-  -- "full exactly when that passes the buffer, on any tape": where it is accepted, the step says so exactly where it is full; a proved loop is not looked for
+  -- "full exactly when that passes the buffer, on any tape": an accepted step answers full exactly where it is full; it does not test for a proved loop
   pub step-full-exact : (m : Machine) (s : List ℕ) → Bytes s → (σ : Conf) → runCheck m s 1 σ ≡ Accepted
       → (stepAnswer m s σ ≡ stepGiven σ (StepAns.Done Step.Full)) ↔ PlainFull m s σ
 

@@ -1,4 +1,4 @@
--- What a value of each kind of engine means to a timeline over it, and which engine a slot's bytes show. Definitions only.
+-- The meaning of an engine value for a timeline over it, for each kind of engine, and the engine that the bytes of a slot encode. Definitions only.
 use mathlib.Core.List.{List}
 use Prim.Native.Nat.{ℕ, _+_, _*_}
 use lib.ListN.{length, take, drop, getD}
@@ -20,8 +20,8 @@ use Rattle.rle_slots.specs.Model.Slots.{numbersIn}
 use Rattle.rle_slots.specs.Model.Kind.{chainKind}
 use Rattle.demands.specs.FirstSpace.{PlainFull, ChainFull}
 
--- The configuration that a value holds, when it fits, and when its next step is full; how many bytes a slot has, and the engine that they show, with as many
--- cells or run places as are lent to the given value.
+-- The configuration that a value holds; whether the value fits; whether its next step is full; the number of bytes of a slot; and the engine that they encode, with
+-- as many cells or run places as are lent with the given value.
 pub record Meaning (X : Kind) : Type 1 where
   pub config : Machine → X .State → Config
   pub Fits : Machine → X .State → Type 0
@@ -33,8 +33,8 @@ pub record Meaning (X : Kind) : Type 1 where
 abbrev pub bytesAt : (at n : ℕ) → List ℕ → List ℕ
 bytesAt at n b = take n (drop at b)
 
--- ---- the plain engine: the state at byte 0, the steps at 8, the numbers of the tapes at 16, 36 and 56, their cells from 128 on, each tape's as many as its
--- buffer has. A tape that the machine lacks has no bytes, and 0 for its five numbers.
+-- ---- the plain engine: the state at byte 0, the steps at 8, the numbers of the tapes at 16, 36 and 56, their cells from 128 on, for each tape as many as its
+-- buffer has. A tape that the machine lacks has no cells there, and its five numbers are 0.
 
 -- a tape's five numbers, of 4 bytes each, from p on
 abbrev pub tapeShown : (slot : List ℕ) → (p : ℕ) → Tape
@@ -65,8 +65,8 @@ module _ (m : Machine) where
 abbrev pub plainMeaning : Meaning plainKind
 plainMeaning = record { config = configOf; Fits = EngineFits; NextFull = PlainFull; slotSize = plainSlot; shown = plainShown }
 
--- ---- the run-length engine: the state at byte 0, the symbol under the head at 2, seven numbers of 8 bytes from 8 on; from 128 on the symbols of the left side
--- and of the right side, then their lengths, of 8 bytes each; each side's as many as it has places.
+-- ---- the run-length engine: the state at byte 0, the symbol under the head at 2, seven numbers of 8 bytes from 8 on; from 128 on the symbols of the left side and
+-- of the right side, then their lengths, of 8 bytes each; for each side as many as it has places.
 
 abbrev pub lefts : Chain.Conf → ℕ
 lefts σ = placesOf (σ .ls) (σ .ll)

@@ -1,4 +1,4 @@
--- What the demands say of a run that ends for lack of space, and each engine's rule of it. Definitions only.
+-- The demands' claim about a run that ends for lack of space, and each engine's rule for a full step. Definitions only.
 use mathlib.Core.Path.{_≡_}
 use mathlib.Core.List.{List}
 use Prim.Native.Nat.{ℕ, _+_, _*_, _<_}
@@ -19,24 +19,24 @@ use Rattle.rle.specs.Model.Engine as Chain
 use Rattle.rle_refines.specs.Meaning.{configOf as chainConfig}
 use Rattle.rle_refines.specs.Full.{FullAt}
 
--- the table machine's verdict there is out of fuel: an entry, and no proved loop
+-- the table machine's verdict at the configuration is out of fuel: there is an entry, and no proved loop
 abbrev pub GoesOn : Machine → Table → Config → Type 0
 GoesOn m d c = Verdict (m .tapes) d c (outOfFuelAt c)
 
--- "Lack of space stops a run before the step that needs it, earlier steps kept": a run or a timeline's call that went on from the configuration `before` to the
--- step t, left `after` and answered Full n
+-- "Lack of space stops a run before the step that needs it, earlier steps kept": a run or a timeline's call that goes from the configuration `before` towards step
+-- t, leaves `after` and answers Full n
 pub record StopsFull (d : Table) (before after : Config) (t n : ℕ) (NextIsFull : Type 0) : Type 0 where
   pub made : ℕ
-  -- the next step was on the way
+  -- step t is not reached
   pub within : before .steps + made < t
-  -- n steps are counted, and the configuration is the table machine's after exactly those
+  -- n is the number of steps counted, and `after` is the table machine's configuration after the steps made
   pub counted : n ≡ before .steps + made
   pub steps : after .steps ≡ n
   pub stands : after ≡ run d made before
   -- the next step is full by the engine's rule
   pub next : NextIsFull
 
--- a run with so much fuel, which tests for a proved loop before it looks for space: it would go on, but for the space
+-- a run with this fuel. It tests for a proved loop before it tests for space, so it stops where there is an entry and no proved loop
 pub record EndsFull (m : Machine) (d : Table) (before after : Config) (fuel n : ℕ) (NextIsFull : Type 0) : Type 0 where
   pub stops : StopsFull d before after (before .steps + fuel) n NextIsFull
   pub going : GoesOn m d after

@@ -1,4 +1,4 @@
--- What each operation turns away, in document 01's order. Definitions only.
+-- The tests of each operation, in document 01's order. Definitions only.
 use mathlib.Core.List.{List, [], _∷_, _++_}
 use Prim.Native.Nat.{ℕ, _*_}
 use lib.Dec.{eqb, ltb, leb}
@@ -47,7 +47,7 @@ wordTests k w =
     ∷ or (allIn (symbolIn k w) (length w) 0) (Why.WordSymbol (lowest (symbolIn k w) (length w)))
     ∷ []
 
--- "Encoder: 17 glyph not allowed (first place), 18 output shorter than the word." (what allowedAt asks: FirstTables.encode-glyph)
+-- "Encoder: 17 glyph not allowed (first place), 18 output shorter than the word." (FirstTables.encode-glyph says what allowedAt tests)
 abbrev pub encodeTests : (glyphs flags word : List ℕ) (room : ℕ) → List Test
 encodeTests glyphs flags word room =
     or (allIn (allowedAt glyphs flags word) (length word) 0) (Why.Glyph (lowest (allowedAt glyphs flags word) (length word)))
@@ -92,7 +92,7 @@ module _ (m : Machine) (s : List ℕ) (σ : Plain.Conf) where
 abbrev pub oneTape : Machine → Test
 oneTape m = or (eqb (m .tapes) 1) Why.SeveralTapes
 
--- "11 .. fewer right run places than the word's right stack has runs, or a run side over 1,048,576" (what freshSizes asks: FirstChain.new-sizes)
+-- "11 .. fewer right run places than the word's right stack has runs, or a run side over 1,048,576" (FirstChain.new-sizes says what freshSizes tests)
 abbrev pub chainNewTests : Machine → (s w ls ll rs rl : List ℕ) → List Test
 chainNewTests m s w ls ll rs rl =
     tableTests m s
@@ -114,7 +114,7 @@ module _ (m : Machine) (s : List ℕ) (σ : Chain.Conf) where
   abbrev pub chainRunTests : (fuel : ℕ) → List Test
   chainRunTests fuel = chainAskTests ++ or (fuelFits (σ .sim .steps) fuel) Why.StepLimit ∷ []
 
--- ---- the listing: "18 for too short an output", as document 01 has it of packing; the longest listing has a names line of 39 bytes and 64 rows of 136
+-- ---- the listing: "18 for too short an output", as document 01 says for packing; the longest listing has a names line of 39 bytes and 64 rows of 136
 
 abbrev pub listTests : (room : ℕ) → List Test
 listTests room = or (leb 8743 room) Why.OutputSize ∷ []

@@ -1,4 +1,4 @@
--- What a timeline turns away, of any kind of engine, in document 01's order; and what the first demand says of it. Definitions only.
+-- The tests of a timeline over any kind of engine, in document 01's order, and the first demand's claims about it. Definitions only.
 use mathlib.Core.Path.{_≡_}
 use mathlib.Core.Logic.{_↔_}
 use mathlib.Core.Bool.{Bool, true, false}
@@ -37,14 +37,14 @@ abbrev pub isThere : {A : Type 0} → Option A → Bool
 isThere none = false
 isThere (some a) = true
 
--- "16 the slot to restore holds no fitting engine of its step": asked where the call goes back. What the test says of the slot's bytes is the part `slot-fits` below.
+-- "16 the slot to restore holds no fitting engine of its step": tested where the call goes back; `slot-fits` below states the test by the slot's bytes
 abbrev pub slotHolds : (X : Kind) → Machine → TimelineOf X → (target : ℕ) → Bool
 slotHolds X m w t =
     pick (ltb t (X .now (w .engine)))
     (isThere (X .unpack m (slotOf (X .slotSize m (w .engine)) (slotFor t (w .times)) (w .store)) (slotStep t (w .times)) (w .engine)))
     true
 
--- ---- what the plain engine turns away in every call: the table check, 11, 12; the run-length engine's list is that of its questions (chainAskTests)
+-- ---- the plain engine's tests in every call: the table check, 11, 12; the run-length engine's are those of its questions (chainAskTests)
 
 abbrev pub plainEngineTests : Machine → List ℕ → Conf → List Test
 plainEngineTests m s σ = tableTests m s ++ plainSizes m s σ ∷ plainFits m s σ ∷ []
@@ -71,7 +71,7 @@ module _ (X : Kind) (engineTests : Machine → (table : List ℕ) → X .State �
       ∷ or (slotHolds X m w (max (target (X .now (w .engine)) c) (w .times .first))) Why.Slot
       ∷ []
 
--- ---- where a call goes, and the slot that it goes back to
+-- ---- the target of a call, and the slot that it restores
 
 -- "A target below the start counts as the start."
 abbrev pub aimOf : (X : Kind) → TimelineOf X → Call → ℕ
@@ -82,26 +82,26 @@ abbrev pub slotNumber : (target : ℕ) → Times → ℕ
 slotNumber t v = min ((t - v .first) / v .every) (v .count - 1)
 
 module _ (X : Kind) (M : Meaning X) (m : Machine) (w : TimelineOf X) (t : ℕ) where
-  -- slot i is the i-th part of the store, from 0 on
+  -- slot i is part i of the store, counted from 0
   abbrev pub slotBytes : List ℕ
   slotBytes = bytesAt (slotNumber t (w .times) * M .slotSize m (w .engine)) (M .slotSize m (w .engine)) (w .store)
 
-  -- the engine that its bytes show
+  -- the engine that its bytes encode
   abbrev pub slotEngine : X .State
   slotEngine = M .shown m slotBytes (w .engine)
 
-  -- it is "a fitting engine of its step": start + i × interval of slot i
+  -- it is "a fitting engine of its step"; the step of slot i is start + i × interval
   pub record SlotFits : Type 0 where
     pub of-its-step : X .now slotEngine ≡ w .times .first + slotNumber t (w .times) * w .times .every
     pub fits : M .Fits m slotEngine
 
-  -- the engine that a call to t goes on from: its own, or the slot's where the call goes back
+  -- the engine from which a call to t goes on: its own, or the slot's where the call goes back
   abbrev pub wentFrom : X .State
   wentFrom = pick (ltb t (X .now (w .engine))) slotEngine (w .engine)
 
--- THE FIRST DEMAND of a timeline over a kind of engine, whose own refusals have these numbers
+-- THE FIRST DEMAND for a timeline over a kind of engine whose own refusals have these numbers
 pub record TimelineOperations (X : Kind) (M : Meaning X) (numbers : List ℕ) (engineTests : Machine → (table : List ℕ) → X .State → List Test) : Type 0 where
-  -- "A refusal carries its number from document 01 and changes no state, tape, run stack or store.": a new timeline: the answer, with the store
+  -- "A refusal carries its number from document 01 and changes no state, tape, run stack or store." A new timeline: the answer, with the store
   pub new : (m : Machine) (s : List ℕ) (most every : ℕ) (e : X .State) (store : List ℕ)
       → TurnsAway (numbers ++ 14 ∷ 15 ∷ []) (timelineNewTests X engineTests m s most every e store) (λ (x : Reply (TimelineOf X) × List ℕ). ofReply (x .0)) (λ why. (refused why, store))
       (newWith X m s most every e store)
@@ -109,9 +109,9 @@ pub record TimelineOperations (X : Kind) (M : Meaning X) (numbers : List ℕ) (e
   pub call : (m : Machine) (s : List ℕ) (w : TimelineOf X) (c : Call)
       → TurnsAway (numbers ++ 14 ∷ 15 ∷ 13 ∷ 16 ∷ []) (timelineCallTests X engineTests m s w c) (λ (x : Reply Outcome × TimelineOf X). ofReply (x .0)) (λ why. (refused why, w))
       (callOn X m s w c)
-  -- "16 the slot to restore holds no fitting engine of its step": what slotHolds of the tests asks, of a call to t; one that does not go back asks nothing
+  -- "16 the slot to restore holds no fitting engine of its step": the test slotHolds for a call to t; a call that does not go back passes it
   pub slot-fits : (m : Machine) (w : TimelineOf X) (t : ℕ) → (slotHolds X m w t ≡ true) ↔ (t < X .now (w .engine) → SlotFits X M m w t)
-  -- "Lack of space stops a run before the step that needs it, earlier steps kept.": from the engine that the call went on from, every step before was made, and the
-  -- next is full. "Each advance runs without the never test", so that the full step may be one of a proved loop.
+  -- "Lack of space stops a run before the step that needs it, earlier steps kept.": every step from the engine `wentFrom` on was made, and the next step is full.
+  -- "Each advance runs without the never test", so a full step can be part of a proved loop.
   pub full : (m : Machine) (s : List ℕ) → Bytes s → (w w′ : TimelineOf X) (c : Call) (n : ℕ) → callOn X m s w c ≡ (answered (Full n), w′)
       → StopsFull (tableOf m s) (M .config m (wentFrom X M m w (aimOf X w c))) (M .config m (w′ .engine)) (aimOf X w c) n (M .NextFull m s (w′ .engine))

@@ -1,4 +1,4 @@
--- THE FIRST DEMAND of the timelines over the plain engine and over the run-length engine.
+-- THE FIRST DEMAND for the timelines over the plain engine and over the run-length engine.
 use mathlib.Core.Path.{refl}
 use mathlib.Core.List.{[], _∷_}
 use Rattle.sim_slots.specs.Model.Kind.{plainKind}

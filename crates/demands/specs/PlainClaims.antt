@@ -1,4 +1,4 @@
--- What SecondPlain says of the tape questions: the tape of a number. Definitions only.
+-- The tape with a given number, for the tape questions of SecondPlain. Definitions only.
 use Prim.Native.Nat.{ℕ}
 use lib.Dec.{eqb}
 use Rattle.notation.specs.Choice.{pick}

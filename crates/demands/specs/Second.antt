@@ -18,9 +18,9 @@ use Rattle.demands.specs.SecondChain.{ChainEngine, chain-engine}
 pub record SecondDemand : Type 0 where
   -- "For every table, word and engine value that document 01 accepts, with step totals up to 2^62 and while space lasts, answers and tapes equal the Rust's in
   -- differential runs, save its named departures, and both engines are proved equal to document 01's table machine."
-  -- the plain engine: what it accepts; fresh, runs, steps, never, the fast run, what lies past the lengths of its tapes, the questions
+  -- the plain engine: inputs accepted, fresh engines, runs, steps, never, the fast run, the bytes past the lengths of its tapes, the questions
   pub plain : PlainEngine
-  -- the run-length engine: the same of what it accepts, fresh, runs and never; macro steps, how fuel was cut, space, empty sides; the questions, its runs as records
+  -- the run-length engine: inputs accepted, fresh engines, runs, never, macro steps, how fuel was cut, space, empty sides, the questions, its runs as records
   pub chain : ChainEngine
   -- "Packing a one-tape entry and unpacking it gives the entry."
   pub packing : (m : Machine) (s : List ℕ) → WellFormed m s → m .tapes ≡ 1 → (e : Entry) → EntryOf m e → wordEntry (packWord e (m .symbols)) ≡ e

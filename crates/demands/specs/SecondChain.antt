@@ -1,4 +1,4 @@
--- THE SECOND DEMAND of the run-length engine. Each part is about the definitions that the contracts of its operations cite.
+-- THE SECOND DEMAND for the run-length engine. Each part is about the definitions that the contracts of its operations cite.
 use mathlib.Core.Path.{_≡_, refl}
 use mathlib.Core.Logic.{_↔_}
 use mathlib.Core.Bool.{Bool, false}
@@ -57,8 +57,8 @@ use Rattle.demands.specs.Facts.Windows.{chain-window-past}
 
 pub record ChainEngine : Type 0 where
   -- ---- "For every table, word and engine value that document 01 accepts, with step totals up to 2^62 and while space lasts, answers and tapes equal the Rust's in
-  -- differential runs, save its named departures, and both engines are proved equal to document 01's table machine.": these are the tables, words and engine
-  -- values. What document 01 accepts (Accepts), the engine answers; the other parts say that the answer is the table machine's
+  -- differential runs, save its named departures, and both engines are proved equal to document 01's table machine.": these tables, words and engine values. The
+  -- engine answers every input that document 01 accepts (Accepts); the other parts say that the answer is the table machine's
 
   -- a fresh engine; every word has a right stack
   pub accepts-new : (m : Machine) (s w ls ll rs rl : List ℕ) → WellFormed m s → WordOf m w → FreshPlaces m w ls ll rs rl
@@ -67,7 +67,7 @@ pub record ChainEngine : Type 0 where
   -- a run
   pub accepts-run : (m : Machine) (s : List ℕ) (σ : Conf) → ChainTaken m s σ → (rule : StopRule) (fuel : ℕ) → σ .sim .steps + fuel ≤ 2 ^ 62
       → (τ : Conf) × (o : Outcome) × (runAnswer m s rule fuel σ ≡ given τ (Ans.Done o))
-  -- the questions; `window` fills its slice (windows), and a slice of records has a place for each run
+  -- the questions; `window` fills its slice (windows), and a slice of records must have a place for each run
   pub accepts-get : (m : Machine) (s : List ℕ) (σ : Conf) → ChainTaken m s σ → (z : ℤ) → (x : Symbol) × (getAnswer m s z σ ≡ Got.Found x)
   pub accepts-span : (m : Machine) (s : List ℕ) (σ : Conf) → ChainTaken m s σ → (x : Span) × (extentAnswer m s σ ≡ Extent.Found x)
   pub accepts-count : (m : Machine) (s : List ℕ) (σ : Conf) → ChainTaken m s σ → (n : ℕ) × (countAnswer m s σ ≡ Counted.Found n)
@@ -85,43 +85,43 @@ pub record ChainEngine : Type 0 where
   -- "The stop rule is tested before the macro step, after fuel and before space."
   pub runs : (m : Machine) (s : List ℕ) → Bytes s → (rule : StopRule) (fuel : ℕ) (σ τ : Conf) (o : Outcome)
       → runAnswer m s rule fuel σ ≡ given τ (Ans.Done o) → RunHolds m s rule fuel σ τ o
-  -- "(none, or a `from` state, one not below n never matching)": by such a state a run answers as by none
+  -- "(none, or a `from` state, one not below n never matching)": with such a state a run answers as with none
   pub rules : (m : Machine) (s : List ℕ) → Bytes s → (p : State) (fuel : ℕ) (σ : Conf) → m .states ≤ p .0
       → runAnswer m s (Rule.From p) fuel σ ≡ runAnswer m s Rule.Never fuel σ
   -- where the answer is never, the table machine halts at no step
   pub never : (m : Machine) (s : List ℕ) → Bytes s → (rule : StopRule) (fuel : ℕ) (σ τ : Conf) (n : ℕ) (p : NonHaltProof)
       → runAnswer m s rule fuel σ ≡ given τ (Ans.Done (NeverHalts n p)) → (j : ℕ) → ¬ (Halted (tableOf m s) (run (tableOf m s) j (configOf σ)))
-  -- a macro step of n repeats is n steps of the table machine, head, lowest and highest included; n as document 01 says; one more macro step (MacroStep)
+  -- a macro step of n repeats is n steps of the table machine, head, lowest and highest included; n is as document 01 says; it counts as one (MacroStep)
   pub macro-steps : (m : Machine) (s : List ℕ) → Bytes s → (fuel : ℕ) (σ : Conf) → runCheck m s fuel σ ≡ Accepted → (proves : Bool) (rule : StopRule) (j : Macro)
       → planOf (task m s proves rule) fuel σ ≡ Go j → MacroStep (task m s proves rule) fuel σ j
-  -- "`macro_steps` adds one a macro step": a run adds the number of macro steps that it is made of (Macros). There is one such number between two configurations
+  -- "`macro_steps` adds one a macro step": a run adds the number of its macro steps (Macros). Between two configurations there is only one such number
   pub macros : (m : Machine) (s : List ℕ) → Bytes s → (rule : StopRule) (fuel : ℕ) (σ τ : Conf) (o : Outcome) → runAnswer m s rule fuel σ ≡ given τ (Ans.Done o)
       → (n : ℕ) × (τ .sim .macros ≡ σ .sim .macros + n) × Macros m (tableOf m s) fuel (configOf σ) n (configOf τ)
   pub macros-one : (m : Machine) (d : Table) (fuel n n′ : ℕ) (c e : Config) → Macros m d fuel c n e → Macros m d fuel c n′ e → n ≡ n′
-  -- "so it depends on how fuel was cut": fuel a and then b, or a + b at once, is the same answer, and the same engine but for the macro steps and what
-  -- lies past the live runs (Alike)
+  -- "so it depends on how fuel was cut": fuel a and then b gives the same answer as a + b at once, and the same engine except for the macro steps and the places
+  -- past the live runs (Alike)
   pub cuts : (m : Machine) (s : List ℕ) → Bytes s → (rule : StopRule) (a b : ℕ) (σ τ υ ω : Conf) (n : ℕ) (o p : Outcome)
       → runAnswer m s rule a σ ≡ given τ (Ans.Done (OutOfFuel n)) → runAnswer m s rule b τ ≡ given υ (Ans.Done o) → runAnswer m s rule (a + b) σ ≡ given ω (Ans.Done p)
       → (o ≡ p) × Alike υ ω
-  -- space: "Full exactly when the step's push needs a new run on a side whose live runs fill its lent places" (FullAt). Without the never test and a stop rule, as
-  -- the timeline runs, full exactly where one of the next `fuel` steps is; for `run` itself see FirstChain, parts full, full-exact, full-onward
+  -- space: "Full exactly when the step's push needs a new run on a side whose live runs fill its lent places" (FullAt). A run without the never test and a stop
+  -- rule, as the timeline makes it, is full exactly where one of the next `fuel` steps is; for `run` itself see FirstChain, parts full, full-exact, full-onward
   pub space : (m : Machine) (s : List ℕ) → Bytes s → (fuel : ℕ) (σ : Conf) → runCheck m s fuel σ ≡ Accepted
       → ((n : ℕ) × (runOf (task m s false Rule.Never) fuel σ .outcome ≡ Full n)) ↔ FullWithin (task m s false Rule.Never) fuel σ
-  -- a side has no runs exactly where every cell strictly beyond the head that way is blank
+  -- a side has no runs exactly where every cell strictly beyond the head on that side is blank
   pub empty-left : (m : Machine) (s : List ℕ) (σ : Conf) → engineCheck m s σ ≡ Accepted
       → (σ .sim .tape .left ≡ 0) ↔ ((z : ℤ) → z <ℤ tapeOf σ .head → tapeOf σ .cell z ≡ 0)
   pub empty-right : (m : Machine) (s : List ℕ) (σ : Conf) → engineCheck m s σ ≡ Accepted
       → (σ .sim .tape .right ≡ 0) ↔ ((z : ℤ) → tapeOf σ .head <ℤ z → tapeOf σ .cell z ≡ 0)
-  -- the live runs of the two sides are the stacks of the tape held; the stack rule leaves no other two
+  -- the live runs of the two sides are the stacks of the tape held; by the stack rule there are no other two
   pub stacks : (m : Machine) (s : List ℕ) (σ : Conf) → engineCheck m s σ ≡ Accepted → Stacked (m .symbols) (tapeOf σ) (stackOf (leftOf σ)) (stackOf (rightOf σ))
-  -- "`left()` and `right()` fill a lent slice of records: the runs of one side, topmost last, symbol and length together": so many as are answered, and the places
-  -- past these stay (Lists)
+  -- "`left()` and `right()` fill a lent slice of records: the runs of one side, topmost last, symbol and length together": the answer is their number, and the
+  -- places past them are as they were (Lists)
   pub lefts : (m : Machine) (s : List ℕ) (σ : Conf) (out : List Run) (n : ℕ) → leftAnswer m s (length out) σ ≡ Filled n
       → Lists (stackOf (leftOf σ)) n out (leftInto m s σ out)
   pub rights : (m : Machine) (s : List ℕ) (σ : Conf) (out : List Run) (n : ℕ) → rightAnswer m s (length out) σ ≡ Filled n
       → Lists (stackOf (rightOf σ)) n out (rightInto m s σ out)
-  -- "`get`, `non_blank`, `count_non_blank`, `window` .. answer over all of i64; a cell outside is blank": the questions answer what the table machine's tape
-  -- holds. At a position of 64 bits the cell; of the non-blank cells the smallest range (Spans) and the number (Counts)
+  -- "`get`, `non_blank`, `count_non_blank`, `window` .. answer over all of i64; a cell outside is blank": the questions read the table machine's tape. They give
+  -- the cell at a position of 64 bits, the smallest range of the non-blank cells (Spans), and their number (Counts)
   pub gets : (m : Machine) (s : List ℕ) (σ : Conf) (z : ℤ) → dn z ≤ 2 ^ 63 → (x : Symbol) → getAnswer m s z σ ≡ Got.Found x → x .0 ≡ tapeOf σ .cell z
   pub spans : (m : Machine) (s : List ℕ) (σ : Conf) (x : Span) → extentAnswer m s σ ≡ Extent.Found x → Spans (tapeOf σ .cell) x
   pub counts : (m : Machine) (s : List ℕ) (σ : Conf) (n : ℕ) → countAnswer m s σ ≡ Counted.Found n → Counts (tapeOf σ .cell) n

@@ -1,4 +1,4 @@
--- THE SECOND DEMAND of the plain engine. Each part is about the definitions that the contracts of its operations cite.
+-- THE SECOND DEMAND for the plain engine. Each part is about the definitions that the contracts of its operations cite.
 use mathlib.Core.Path.{_≡_, refl}
 use mathlib.Core.Bool.{true}
 use mathlib.Core.List.{List}
@@ -57,8 +57,8 @@ use Rattle.demands.specs.Facts.Windows.{plain-window-past}
 
 pub record PlainEngine : Type 0 where
   -- ---- "For every table, word and engine value that document 01 accepts, with step totals up to 2^62 and while space lasts, answers and tapes equal the Rust's in
-  -- differential runs, save its named departures, and both engines are proved equal to document 01's table machine.": these are the tables, words and engine
-  -- values. What document 01 accepts (Accepts), the engine answers; the other parts say that the answer is the table machine's
+  -- differential runs, save its named departures, and both engines are proved equal to document 01's table machine.": these tables, words and engine values. The
+  -- engine answers every input that document 01 accepts (Accepts); the other parts say that the answer is the table machine's
 
   -- a fresh engine
   pub accepts-new : (m : Machine) (s w c0 c1 c2 : List ℕ) → WellFormed m s → WordOf m w → FreshCells m w c0 c1 c2
@@ -70,7 +70,7 @@ pub record PlainEngine : Type 0 where
       → (rule : StopRule) → (τ : Conf) × (o : Outcome) × (fastAnswer m s words rule fuel σ ≡ given τ (Ans.Done o))
   pub accepts-step : (m : Machine) (s : List ℕ) (σ : Conf) → PlainTaken m s σ → σ .sim .steps + 1 ≤ 2 ^ 62
       → (τ : Conf) × (x : Status) × (stepAnswer m s σ ≡ stepGiven τ (StepAns.Done x))
-  -- the five questions, of a tape that the machine has; `window` fills its slice (windows)
+  -- the five questions about a tape that the machine has; `window` fills its slice (windows)
   pub accepts-get : (m : Machine) (s : List ℕ) (σ : Conf) → PlainTaken m s σ → (i : ℕ) → i < m .tapes → (z : ℤ) → (x : Symbol) × (getAnswer m s i z σ ≡ Got.Found x)
   pub accepts-span : (m : Machine) (s : List ℕ) (σ : Conf) → PlainTaken m s σ → (i : ℕ) → i < m .tapes → (x : Span) × (extentAnswer m s i σ ≡ Extent.Found x)
   pub accepts-count : (m : Machine) (s : List ℕ) (σ : Conf) → PlainTaken m s σ → (i : ℕ) → i < m .tapes → (n : ℕ) × (countAnswer m s i σ ≡ Counted.Found n)
@@ -86,7 +86,7 @@ pub record PlainEngine : Type 0 where
   -- "`run`: halted, never, fuel, space, in that order, before each step. .. A run with a stop rule .. stops after the matching step."
   pub runs : (m : Machine) (s : List ℕ) → Bytes s → (rule : StopRule) (fuel : ℕ) (σ τ : Conf) (o : Outcome)
       → runAnswer m s rule fuel σ ≡ given τ (Ans.Done o) → RunHolds m s rule fuel σ τ o
-  -- "(none, or a `from` state, one not below n never matching)": by such a state a run answers as by none
+  -- "(none, or a `from` state, one not below n never matching)": with such a state a run answers as with none
   pub rules : (m : Machine) (s : List ℕ) → Bytes s → (p : State) (fuel : ℕ) (σ : Conf) → m .states ≤ p .0
       → runAnswer m s (Rule.From p) fuel σ ≡ runAnswer m s Rule.Never fuel σ
   -- "`step` makes one step without the middle two and answers running, halted or full.": one step of the table machine, or none where it has halted or lacks space
@@ -95,16 +95,16 @@ pub record PlainEngine : Type 0 where
   -- where the answer is never, the table machine halts at no step
   pub never : (m : Machine) (s : List ℕ) → Bytes s → (rule : StopRule) (fuel : ℕ) (σ τ : Conf) (n : ℕ) (p : NonHaltProof)
       → runAnswer m s rule fuel σ ≡ given τ (Ans.Done (NeverHalts n p)) → (j : ℕ) → ¬ (Halted (tableOf m s) (run (tableOf m s) j (configOf m σ)))
-  -- "The fast run reads packed words and answers as `run` does.": over the table's packed words, refusals too; over other words it makes no run
+  -- "The fast run reads packed words and answers as `run` does.": with the table's packed words, refusals too; every accepted fast run is that run
   pub fast : (m : Machine) (s words : List ℕ) (rule : StopRule) (fuel : ℕ) (σ : Conf) → wordsRight m s words ≡ true
       → fastAnswer m s words rule fuel σ ≡ runAnswer m s rule fuel σ
   pub fast-runs : (m : Machine) (s words : List ℕ) (rule : StopRule) (fuel : ℕ) (σ τ : Conf) (o : Outcome)
       → fastAnswer m s words rule fuel σ ≡ given τ (Ans.Done o) → runAnswer m s rule fuel σ ≡ given τ (Ans.Done o)
-  -- nor does a state not below n match in the fast run
+  -- a state not below n matches nothing in the fast run either
   pub fast-rules : (m : Machine) (s words : List ℕ) → Bytes s → (p : State) (fuel : ℕ) (σ : Conf) → m .states ≤ p .0
       → fastAnswer m s words (Rule.From p) fuel σ ≡ fastAnswer m s words Rule.Never fuel σ
-  -- "Bytes of the lent buffer past the length are never read": engines of one value with buffers of the same lengths and the same cells up to the length of
-  -- each tape that the machine has (SameLive) get the same answer, refusals too, and are such engines again (SameGiven): a run, a fast run, a step, the questions
+  -- "Bytes of the lent buffer past the length are never read": engines with one value, buffers of the same lengths and the same cells up to the length of each tape
+  -- that the machine has (SameLive) get the same answer, refusals too, and are such engines again (SameGiven): runs, fast runs, steps, questions
   pub run-live : (m : Machine) (s : List ℕ) (rule : StopRule) (fuel : ℕ) (σ τ : Conf) → SameLive m σ τ → SameGiven m (runAnswer m s rule fuel σ) (runAnswer m s rule fuel τ)
   pub fast-live : (m : Machine) (s words : List ℕ) (rule : StopRule) (fuel : ℕ) (σ τ : Conf) → SameLive m σ τ
       → SameGiven m (fastAnswer m s words rule fuel σ) (fastAnswer m s words rule fuel τ)
@@ -114,16 +114,16 @@ pub record PlainEngine : Type 0 where
   pub count-live : (m : Machine) (s : List ℕ) (i : ℕ) (σ τ : Conf) → SameLive m σ τ → countAnswer m s i σ ≡ countAnswer m s i τ
   pub window-live : (m : Machine) (s : List ℕ) (i : ℕ) (σ τ : Conf) → SameLive m σ τ → (z : ℤ) (out : List ℕ) → windowInto m s i z σ out ≡ windowInto m s i z τ out
   pub find-live : (m : Machine) (s : List ℕ) (i : ℕ) (σ τ : Conf) → SameLive m σ τ → (z : ℤ) (d : Dir) → findAnswer m s i z d σ ≡ findAnswer m s i z d τ
-  -- "those past a call's final length stay": past the length that each tape has afterwards a fresh engine, a run, a fast run, a step and a timeline's call leave
-  -- each buffer as it was (PastKept), whatever they answer
+  -- "those past a call's final length stay": a fresh engine, a run, a fast run, a step and a timeline's call leave each buffer as it was past the final length of
+  -- its tape (PastKept), whatever they answer
   pub fresh-past : (m : Machine) (s w c0 c1 c2 : List ℕ) (v : Simulator) (d0 d1 d2 : List ℕ) → newAnswer m s w c0 c1 c2 ≡ made (New.Made v) d0 d1 d2
       → PastKept c0 c1 c2 (conf v d0 d1 d2)
   pub run-past : (m : Machine) (s : List ℕ) (rule : StopRule) (fuel : ℕ) (σ : Conf) → PastKept (σ .c0) (σ .c1) (σ .c2) (runAnswer m s rule fuel σ .at)
   pub fast-past : (m : Machine) (s words : List ℕ) (rule : StopRule) (fuel : ℕ) (σ : Conf) → PastKept (σ .c0) (σ .c1) (σ .c2) (fastAnswer m s words rule fuel σ .at)
   pub step-past : (m : Machine) (s : List ℕ) (σ : Conf) → PastKept (σ .c0) (σ .c1) (σ .c2) (stepAnswer m s σ .at)
   pub call-past : (m : Machine) (s : List ℕ) (w : TimelineOf plainKind) (c : Call) → PastKept (w .engine .c0) (w .engine .c1) (w .engine .c2) (callOn plainKind m s w c .1 .engine)
-  -- "`get`, `non_blank`, `count_non_blank`, `window` and `find_non_blank` answer over all of i64; a cell outside is blank": the questions answer what tape i of
-  -- the configuration held has. At a position the cell; of the non-blank cells the smallest range (Spans) and the number (Counts)
+  -- "`get`, `non_blank`, `count_non_blank`, `window` and `find_non_blank` answer over all of i64; a cell outside is blank": the questions read tape i of the
+  -- configuration held. They give the cell at a position, the smallest range of the non-blank cells (Spans), and their number (Counts)
   pub gets : (m : Machine) (s : List ℕ) (i : ℕ) (σ : Conf) (z : ℤ) (x : Symbol) → getAnswer m s i z σ ≡ Got.Found x → x .0 ≡ tapeOn i (configOf m σ) .cell z
   pub spans : (m : Machine) (s : List ℕ) (i : ℕ) (σ : Conf) (x : Span) → extentAnswer m s i σ ≡ Extent.Found x → Spans (tapeOn i (configOf m σ) .cell) x
   pub counts : (m : Machine) (s : List ℕ) (i : ℕ) (σ : Conf) (n : ℕ) → countAnswer m s i σ ≡ Counted.Found n → Counts (tapeOn i (configOf m σ) .cell) n

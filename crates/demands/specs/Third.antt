@@ -4,8 +4,8 @@
 -- target is over 2^62. So from any such p, forward a and then forward b end in the same configuration and answer as one forward a + b, where p + a + b is
 -- within that limit and none of the three calls ends for lack of space. Where an answer is never, the table machine, run without limits, halts at no later
 -- step."
--- `Demand` (timeline/Statement) is the claim, and `WholeList` there says what is claimed of a list, of lists with calls that end for lack of space too.
--- The calls and the new timeline are `callOn` and `newOn` (times/Kind), which the contracts of `new`, `seek`, `forward` and `back` cite for `plainKind` and
+-- `Demand` (timeline_laws/Statement) is the claim. `WholeList` there is the claim about one list, also for lists with calls that end for lack of space.
+-- The calls and the new timeline are `callOn` and `newOn` (timeline_rule/Model/Kind), which the contracts of `new`, `seek`, `forward` and `back` cite for `plainKind` and
 -- `chainKind`.
 use Rattle.timeline_laws.specs.Meaning.{EngineMeaning}
 use Rattle.timeline_laws.specs.Statement.{Demand, DemandFrom}
@@ -27,9 +27,9 @@ pub third-demand : (k : Kinds) → Demand (engineOf k)
 third-demand plain = demand plainEngine plain-instances plain-begins
 third-demand chain = demand chainEngine chain-instances chain-begins
 
--- The same claim of a new timeline over any engine value that it accepts. The configuration that the value holds is in the place of the start, and its step
--- count in the place of 0: "A new timeline saves slot 0 at its starting step." "A target below the start counts as the start." Of both, `slots`: "reading a
--- recorded slot must give the engine saved."
+-- The same claim about a new timeline over any engine value that it accepts. The configuration that the value holds replaces the start, and its step count replaces
+-- 0: "A new timeline saves slot 0 at its starting step." "A target below the start counts as the start." The part `slots` of both claims says: "reading a recorded
+-- slot must give the engine saved."
 pub third-demand-from : (k : Kinds) → DemandFrom (engineOf k)
 third-demand-from plain = demand-from plainEngine plain-instances
 third-demand-from chain = demand-from chainEngine chain-instances

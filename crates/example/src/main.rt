@@ -11,8 +11,8 @@ ghost use Prim.Native.Nat.{_<_};
 
 mod print;
 
-// Defines an entry: number q * symbols + a says what state q does on reading a. The 24 are the moves N of the two tapes
-// that the machine lacks.
+// Defines an entry. Entry q * symbols + a says what state q does when it reads a. The 24 is the moves N of the two
+// tapes that the machine lacks.
 fn define(table: &mut [u8; 48], entry: usize, write: u8, dir: Dir, next: u8)
     requires { ⌜ entry < 6 ⌝ }
 {
@@ -23,8 +23,9 @@ fn define(table: &mut [u8; 48], entry: usize, write: u8, dir: Dir, next: u8)
     table[at + 6] = dir.number() + 24;
 }
 
-// The cells stand in buffers lent to each call, one for each tape; those of tapes that the machine lacks may have any
-// size. The engine goes in by value and comes back with its answer, so the second run goes on where the first ended.
+// The cells lie in buffers lent to each call, one for each tape. The buffer of a tape that the machine lacks may have
+// any size. The engine goes in by value and comes back with the answer, so the second run continues where the first
+// ended.
 fn run_twice(m: Machine, table: &[u8; 48]) {
     let mut c0 = [0u8; 64];
     let mut c1 = [0u8; 1];
@@ -40,8 +41,8 @@ fn run_twice(m: Machine, table: &[u8; 48]) {
     }
 }
 
-// A timeline keeps up to 8 checkpoints, 16 steps apart at first, in a store of 8 + 1 slots. A slot is 128 bytes more
-// than the cells buffer.
+// A timeline keeps up to 8 checkpoints, 16 steps apart at first, in a store of 8 + 1 slots. A slot is 128 bytes larger
+// than the buffer of cells.
 fn travel(m: Machine, table: &[u8; 48]) {
     let mut c0 = [0u8; 64];
     let mut c1 = [0u8; 1];
@@ -76,7 +77,7 @@ fn moves(
 }
 
 // The run-length engine keeps runs on each side of the head, symbols beside lengths. It tests its stop rule before a
-// step; the plain engine would stop after it, at 2.
+// step; the plain engine tests it after the step, and would stop at 2.
 fn stop_on_state_1(m: Machine, table: &[u8; 48]) {
     let mut ls = [0u8; 16];
     let mut ll = [0u64; 16];

@@ -11,7 +11,7 @@ fn say(what: &[u8], number: u64) {
     io::write_all(1, b"\n");
 }
 
-// Every operation takes every input: what it turns away gets a number, and nothing lent has changed.
+// Every operation takes every input. A refusal has a number, and a refused call changes nothing that was lent.
 pub(crate) fn refused(why: Refusal) {
     say(b"refused ", why.number() as u64);
 }
@@ -30,14 +30,14 @@ pub(crate) fn told(call: &[u8], answer: Answer) {
     }
 }
 
-// The engine came back with its answer, and is handed on for the next call.
+// Prints the answer, and returns the engine for the next call.
 pub(crate) fn ran(call: &[u8], answered: sim::Answered) -> Simulator {
     let answer = answered.answer;
     told(call, answer);
     answered.sim
 }
 
-// Likewise the timeline.
+// Prints the answer, and returns the timeline for the next call.
 pub(crate) fn moved(call: &[u8], answered: sim_timeline::Answered) -> Timeline {
     let answer = answered.answer;
     told(call, answer);

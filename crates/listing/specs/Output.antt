@@ -23,15 +23,15 @@ use Rattle.listing.specs.declared.Listed.the-variants as Did
 abbrev pub lentOf : (c0 c1 c2 : List ℕ) → Lent
 lentOf c0 c1 c2 = record { c0 = c0; c1 = c1; c2 = c2 }
 
--- the machine has one tape: no cells for the others
+-- the machine has one tape, so the others have no cells
 unfoldable pub blankCells : Lent
 blankCells = lentOf (replicate 4096 0) [] []
 
--- m + 1 slots of 128 bytes more than the cells: 9 × 4,224
+-- m + 1 slots, each 128 bytes larger than the cells: 9 × 4,224
 unfoldable pub blankStore : List ℕ
 blankStore = replicate 38016 0
 
--- what a reply leads to
+-- `out` of a refusal, or `go` of an answer
 abbrev pub onReply : {A B : Type 0} → Reply A → (Refusal → B) → (A → B) → B
 onReply (refused why) out go = out why
 onReply (answered a) out go = go a
@@ -44,11 +44,11 @@ turned why = refusedLine (refusalNumber why)
 unfoldable pub answerOn : Machine → (table store : List ℕ) → List Call → Conf → List ℕ
 answerOn m s store calls e = onReply (newOn plainKind m s 8 16 e store) turned (λ w. output (rowsOf m s w calls))
 
--- the same over the fresh engine
+-- the same over a fresh engine
 unfoldable pub answerWith : Machine → (table word : List ℕ) → Lent → (store : List ℕ) → List Call → List ℕ
 answerWith m s word lent store calls = onReply (createOf m s word lent) turned (answerOn m s store calls)
 
--- what is asked, answered
+-- the answer to an input without a bad line
 unfoldable pub answerOf : Sofar → List ℕ
 answerOf x = answerWith (x .machine) (tableIn x) (x .word) blankCells blankStore (x .calls)
 
@@ -60,7 +60,7 @@ answerFor (Read.asked x) = answerOf x
 unfoldable pub answerTo : (input : List ℕ) → List ℕ
 answerTo input = answerFor (listing input)
 
--- ---- the whole function, with its lent output: 18 where that is too short for a names line of 39 bytes and 64 rows of 136
+-- ---- the whole function, with its lent output: refusal 18 where that is too short for a names line of 39 bytes and 64 rows of 136
 
 unfoldable pub listOf : (input out : List ℕ) → Listed × List ℕ
 listOf input out =

@@ -11,7 +11,7 @@ ghost use Rattle.listing_lines.specs.Model.{callsOf};
 ghost use Rattle.listing_text.specs.Model.{Wrote};
 ghost use Rattle.listing.specs.Output.{lentOf, answerOn, answerWith, blankCells, blankStore};
 
-// A new timeline, and the names line and the rows.
+// Makes a timeline, and prints the names line and the rows.
 fn on_timeline(
     out: &mut [u8],
     sim: Simulator,
@@ -51,7 +51,7 @@ fn on_timeline(
     }
 }
 
-// The fresh engine on its buffers.
+// Makes the fresh engine, and prints the answer of a timeline over it.
 fn on_engine(
     out: &mut [u8],
     m: Machine,
@@ -78,7 +78,7 @@ fn on_engine(
     }
 }
 
-// 4,096 cells for the one tape, and a store of 9 slots of 4,224 bytes.
+// Lends 4,096 cells for the one tape, and a store of 9 slots of 4,224 bytes.
 pub(crate) fn in_buffers(
     out: &mut [u8],
     m: Machine,

@@ -1,4 +1,4 @@
-// The listing: the calls that an input asks, made on the plain engine's timeline, and their rows.
+// The listing: makes the calls of an input on the plain engine's timeline, and prints their rows.
 use outcome::Refusal;
 ghost use mathlib.Core.Path.{_≡_};
 ghost use lib.ListN.{length};
@@ -7,13 +7,13 @@ ghost use Rattle.listing.specs.Output.{listOf, PrintedIn};
 mod asked;
 mod printed;
 
-// How many bytes of the output were printed, or why none were.
+// The number of bytes printed into the output, or the refusal.
 pub enum Listed {
     Printed(usize),
     Refused(Refusal),
 }
 
-// Prints what the input's listing answers. The output needs room for the longest one.
+// Prints the answer to the input's listing. The output must have space for the longest answer.
 pub fn list(input: &[u8], output: &mut [u8]) -> Listed
     ensures { λ r. ⌜ ((r, now (output .exit)) ≡ listOf (now (input .entry)) (now (output .entry))) × PrintedIn r (length (now (output .exit))) ⌝ }
 {

@@ -1,4 +1,4 @@
-// The input read, and what it asks answered.
+// Reads the input, and prints the answer to it.
 use super::asked;
 use listing_reader::Parsed;
 use listing_reader::Reader;
@@ -9,7 +9,7 @@ ghost use Rattle.listing_text.specs.Model.{Wrote};
 ghost use Rattle.listing_reader.specs.Invariants.{sofar, ReaderOk};
 ghost use Rattle.listing.specs.Output.{answerOf, answerTo};
 
-// What is asked, on the part of the table that the machine has.
+// Prints the answer to an input without a bad line, on the machine's part of the table.
 fn answer(x: Reader, out: &mut [u8], table: &[u8], word: &[u8], calls: &[u64]) -> usize
     requires { ⌜ (8743 ≤ length (now out)) × ReaderOk x × (length (now table) ≡ 4096) × (length (now word) ≡ 81) × (length (now calls) ≡ 128) ⌝ }
     ensures { λ r. ⌜ Wrote (now (out .entry)) 0 (answerOf (sofar x (now (table .entry)) (now (word .entry)) (now (calls .entry)))) (now (out .exit)) r ⌝ }
@@ -20,7 +20,7 @@ fn answer(x: Reader, out: &mut [u8], table: &[u8], word: &[u8], calls: &[u64]) -
     asked::in_buffers(out, m, &table[..size], &word[..n], calls, x.calls)
 }
 
-// A bad line's number, or the answer.
+// Prints `refused` and a bad line's number, or the answer.
 pub(crate) fn print(input: &[u8], out: &mut [u8]) -> usize
     requires { ⌜ 8743 ≤ length (now out) ⌝ }
     ensures { λ r. ⌜ Wrote (now (out .entry)) 0 (answerTo (now (input .entry))) (now (out .exit)) r ⌝ }

@@ -1,11 +1,11 @@
-// Runs the listing on each pair of data/: NNN.in is an input, NNN.out what must be printed for it. Writes a line for each
-// pair that differs, and at the end how many pairs there are and how many of them differ. A file that cannot be read
-// counts as one that differs. Where the last line cannot be written, one line goes to standard error.
+// Runs the listing on each pair of data/: NNN.in is an input, and NNN.out is the output that it must print. Writes a
+// line for each pair that differs, and at the end the number of pairs and the number that differ. A file that cannot be
+// read counts as one that differs. Where the last line cannot be written, it writes one line to standard error.
 use listing::Listed;
 ghost use Prim.Native.Nat.{_<_};
 ghost use Rattle.io.specs.Counts.{Counts};
 
-// What was found at a pair's number.
+// The result for one number.
 enum Pair {
     Same,
     Differs,
@@ -37,7 +37,7 @@ fn open_output(i: usize) -> i32
     os::open_read(&[hundreds, tens, ones, b'.', b'o', b'u', b't'])
 }
 
-// Whether all that `seekrun` reads of a file was read: n bytes fill its buffer, or the next read says that the file ends.
+// Whether as much of a file was read as `seekrun` reads: n bytes fill its buffer, or the file ends after them.
 fn is_read(fd: i32, n: usize) -> bool {
     if n == 65536 {
         return true;
@@ -46,7 +46,7 @@ fn is_read(fd: i32, n: usize) -> bool {
     libc::read(fd, &mut one) == 0
 }
 
-// Runs the listing: how many bytes it put at the start of output. None where it refuses the output's size.
+// Runs the listing. Returns how many bytes it wrote at the start of output, 0 where it refuses the output's size.
 fn print(input: &[u8], output: &mut [u8]) -> usize
     ensures { λ r. ⌜ Counts r (now (output .exit)) ⌝ }
 {
@@ -56,7 +56,7 @@ fn print(input: &[u8], output: &mut [u8]) -> usize
     }
 }
 
-// Whether both files can be read, and the listing prints for the first what the other holds.
+// Whether both files can be read, and the listing prints for the first file what the second contains.
 fn agrees(input: i32, expected: i32) -> bool {
     let mut given = io::large_buffer();
     let n = io::read_full(input, &mut given);
@@ -93,7 +93,7 @@ fn run(i: usize) -> Pair
     Pair::Differs
 }
 
-// Writes a number and a text: whether both were written.
+// Writes a number and a text. Returns whether both were written.
 fn say(n: usize, what: &[u8]) -> bool {
     if !io::print_decimal(1, n as u64) {
         return false;

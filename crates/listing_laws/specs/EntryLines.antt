@@ -25,15 +25,15 @@ letterOf L = bytes "L"
 letterOf R = bytes "R"
 letterOf N = bytes "N"
 
--- under `tapes symbols states start`
+-- the line under `tapes symbols states start`
 unfoldable pub machineText : Machine → List ℕ
 machineText m = joined (show (m .tapes) ∷ show (m .symbols) ∷ show (m .states) ∷ show (m .start) ∷ [])
 
--- under `state read write move next`
+-- a line under `state read write move next`
 unfoldable pub entryText : (state read write : ℕ) (move : Dir) (next : ℕ) → List ℕ
 entryText q a w d r = joined (show q ∷ show a ∷ show w ∷ letterOf d ∷ show r ∷ [])
 
--- the line is `q a w d r`, its numbers in their ranges
+-- the line is `q a w d r`, with its numbers in their ranges
 pub record Gives (m : Machine) (l : List ℕ) (q a w : ℕ) (d : Dir) (r : ℕ) : Type 0 where
   pub state-in : q < m .states
   pub read-in : a < m .symbols
@@ -41,7 +41,7 @@ pub record Gives (m : Machine) (l : List ℕ) (q a w : ℕ) (d : Dir) (r : ℕ) 
   pub next-in : r < m .states
   pub text : l ≡ entryText q a w d r
 
--- what the lines of an accepted listing s say of its machine m and of its table t
+-- what the lines of an accepted listing s say about its machine m and its table t
 pub record GivesTable (s : List ℕ) (m : Machine) (t : List ℕ) : Type 0 where
   -- the entry lines are those between the third line and the line `word`
   pub entries : List (List ℕ)
@@ -50,10 +50,10 @@ pub record GivesTable (s : List ℕ) (m : Machine) (t : List ℕ) : Type 0 where
   -- "Entry lines come in any order; there may be none": each has this form
   pub each : (i : ℕ) → i < length entries
       → (q : ℕ) × (a : ℕ) × (w : ℕ) × (d : Dir) × (r : ℕ) × Gives m (getD entries i []) q a w d r
-  -- the line `q a w d r` makes the entry for state q and symbol a exactly that action
+  -- the line `q a w d r` defines the entry for state q and symbol a as exactly that action
   pub given : (i q a w : ℕ) (d : Dir) (r : ℕ) → i < length entries → Gives m (getD entries i []) q a w d r
       → tableOf m t q a 0 0 ≡ Defined (singleOf (symbolOf w) d (stateOf r))
-  -- a state and a symbol for which no line gives an entry have none
+  -- where no line gives an entry for a state and a symbol, the table has none
   pub ungiven : (q a : ℕ) → q < m .states → a < m .symbols
       → ((i w : ℕ) (d : Dir) (r : ℕ) → i < length entries → ¬ Gives m (getD entries i []) q a w d r)
       → tableOf m t q a 0 0 ≡ Undefined

@@ -1,4 +1,4 @@
--- WHAT THE ROWS OF A LISTING SAY: each is of one call of the list, and the third demand holds of that call. Definitions only.
+-- WHAT THE ROWS OF A LISTING SAY: each row belongs to one call of the list, and the third demand is true for that call. Definitions only.
 use Prim.Native.Nat.{ℕ}
 use mathlib.Core.Path.{_≡_}
 use mathlib.Core.List.{List, _∷_, _++_}
@@ -31,20 +31,20 @@ module _ (s : List ℕ) (x : Sofar) (e : listing s ≡ asked x) where
   abbrev v : TimelineOf plainKind
   v = asked-begins s x e .timeline
 
-  -- of a listing without a bad line
+  -- for a listing without a bad line
   pub record RowsSay : Type 0 where
     -- the output is the names line, and a row for each call
     pub rows : answerTo s ≡ output (rowsOf m t v (x .calls))
-    -- the third demand, of these calls on this timeline: where the engine stands, what each call answers, which are refused, never
+    -- the third demand for these calls on this timeline: where the engine is, the answer of each call, which calls are refused, and never
     pub third : FreshList plainEngine m t (x .word) (asked-begins s x e .engine) v (x .calls)
-    -- in the place of each call stands the row of its result
+    -- the row of each call's result is in the call's place
     pub each : (before rest : List Call) (c : Call) → before ++ (c ∷ rest) ≡ x .calls
         → rowsOf m t v (x .calls)
         ≡ rowsOf m t v before ++ (rowAt m t (afterOn plainEngine m t v before) c ∷ rowsOf m t (callOn plainKind m t (afterOn plainEngine m t v before) c .1) rest)
-    -- which holds the numbers of the configuration that the engine then holds
+    -- a row contains the numbers of the configuration that the engine then has
     pub holds : (u : TimelineOf plainKind) (o : Outcome)
         → rowOf (answered o) (u .engine .sim) (u .engine .c0)
         ≡ row o (heldOn plainEngine m t u .steps) (heldOn plainEngine m t u .state) (heldOn plainEngine m t u .tape0 .head)
         (heldOn plainEngine m t u .tape0 .low) (heldOn plainEngine m t u .tape0 .high) (countOf (held (u .engine .sim .t0) (u .engine .c0)))
-    -- the score counts its non-blank cells
+    -- the score is the number of its non-blank cells
     pub score : (u : TimelineOf plainKind) → Counts (heldOn plainEngine m t u .tape0 .cell) (countOf (held (u .engine .sim .t0) (u .engine .c0)))

@@ -38,7 +38,7 @@ headingLine = bytes "call number"
 
 -- ---- the lines that hold numbers: what each says, or none where it is bad
 
--- what a form leads to; where the line is bad, `out`
+-- `go` of what a line says, or `out` where the line is bad
 unfoldable pub onSome : {A B : Type 0} → Option B → A → (B → A) → A
 onSome (some b) out go = go b
 onSome none out go = out
@@ -61,7 +61,7 @@ machineLine l =
     pick (machineOk t k n s) (some (record { tapes = t; symbols = k; states = n; start = s })) none)
     none
 
--- a move's letter, by its number: "L 0, R 1, N 2"
+-- the number of a move's letter: "L 0, R 1, N 2"
 unfoldable pub move : List ℕ → Num
 move f =
     pick (sameList f (bytes "L")) (Value 0)
@@ -79,7 +79,7 @@ entryLine m l =
     some (record { state = q; read = a; write = w; dir = d; next = q′ }))
     none
 
--- w, and the symbols of the fields that follow it
+-- w, followed by the symbols of the fields
 unfoldable pub symbolsOf : (k : ℕ) (w : List ℕ) → List (List ℕ) → Option (List ℕ)
 symbolsOf k w [] = some w
 symbolsOf k w (f ∷ fs) = onNum (below k f) none λ a. symbolsOf k (w ++ (a ∷ [])) fs
@@ -88,12 +88,12 @@ symbolsOf k w (f ∷ fs) = onNum (below k f) none λ a. symbolsOf k (w ++ (a ∷
 unfoldable pub wordOf : (k : ℕ) → List ℕ → Option (List ℕ)
 wordOf k l = pick (eqb (length l) 0) (some []) (symbolsOf k [] (fields l))
 
--- w, and the symbols of the fields that follow it, up to the first that is bad
+-- w, followed by the symbols of the fields before the first bad one
 unfoldable pub symbolsBefore : (k : ℕ) (w : List ℕ) → List (List ℕ) → List ℕ
 symbolsBefore k w [] = w
 symbolsBefore k w (f ∷ fs) = onNum (below k f) w λ a. symbolsBefore k (w ++ (a ∷ [])) fs
 
--- what a word line says up to its first bad field: the whole word where none is bad
+-- the symbols of a word line before its first bad field; the whole word where none is bad
 unfoldable pub wordBefore : (k : ℕ) → List ℕ → List ℕ
 wordBefore k l = pick (eqb (length l) 0) [] (symbolsBefore k [] (fields l))
 

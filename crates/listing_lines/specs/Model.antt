@@ -1,4 +1,4 @@
--- What the code's answers and lent slices say, and the ranges that its numbers keep, for the contracts. Definitions only.
+-- The meaning of the code's results and lent slices, and the ranges of its numbers, for the contracts. Definitions only.
 use Prim.Native.Nat.{ℕ, zero, suc, _+_, _*_, _≤_, _<_}
 use mathlib.Core.List.{List, [], _∷_, _++_}
 use mathlib.Core.Option.{Option, none, some}
@@ -31,11 +31,11 @@ unfoldable pub countOf : Option (List ℕ) → Count
 countOf (some w) = C.Of (length w)
 countOf none = C.Bad
 
--- the first places hold v, the others what w holds there
+-- w, with v written over its first places
 abbrev pub over : (v w : List ℕ) → List ℕ
 over v w = v ++ drop (length v) w
 
--- a word line read into lent bytes: the count, and every byte afterwards. Where a field is bad, the symbols before it are there
+-- a word line read into the lent bytes w: the count, and all bytes afterwards. Where a field is bad, the symbols before it are written
 unfoldable pub readWord : (k : ℕ) (l w : List ℕ) → Count × List ℕ
 readWord k l w = (countOf (wordOf k l), over (wordBefore k l) w)
 
@@ -43,7 +43,7 @@ unfoldable pub callIn : CallLine → Option Call
 callIn (CL.Of c) = some (callFor (c .kind) (c .number))
 callIn CL.Bad = none
 
--- the numbers by which a call is told: 0 for seek, 1 for forward, 2 for back
+-- a call as numbers; the kind is 0 for seek, 1 for forward, 2 for back
 unfoldable pub callCode : Option Call → CallLine
 callCode (some (seek n)) = CL.Of (record { kind = 0; number = n })
 callCode (some (forward n)) = CL.Of (record { kind = 1; number = n })
@@ -54,20 +54,20 @@ callCode none = CL.Bad
 abbrev pub callAt : List ℕ → ℕ → Call
 callAt c i = callFor (getD c (2 * i) 0) (getD c (2 * i + 1) 0)
 
--- the first n of them
+-- the first n calls
 unfoldable pub callsOf : ℕ → List ℕ → List Call
 callsOf zero c = []
 callsOf (suc n) c = callsOf n c ++ (callAt c n ∷ [])
 
 -- ---- ranges
 
--- a machine whose table has room in 512 places
+-- a machine whose table fits in 512 places
 pub record Small (m : Machine) : Type 0 where
   pub few-symbols : m .symbols ≤ 256
   pub few-states : m .states ≤ 65536
   pub few : m .states * m .symbols ≤ 512
 
--- an entry of the machine
+-- an entry of the machine: each number lies in its range
 pub record RuleOk (m : Machine) (e : Rule) : Type 0 where
   pub state-ok : e .state < m .states
   pub read-ok : e .read < m .symbols

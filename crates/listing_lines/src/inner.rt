@@ -1,4 +1,4 @@
-// Steps that write what a line says into lent slices with room for it.
+// Functions that write the content of a line into lent slices with space for it.
 use super::Count;
 use super::Rule;
 use listing_text::Num;
@@ -14,7 +14,7 @@ ghost use Rattle.table_laws.specs.WellFormed.{entryBytes};
 ghost use Rattle.listing_lines.specs.Forms.{place, given, define, actionOf};
 ghost use Rattle.listing_lines.specs.Model.{readWord, CountOk, Small, RuleOk};
 
-// Defines an entry, unless it was given before; answers whether it was.
+// Defines an entry, unless it was given before. Returns whether it was given before.
 pub fn give(m: Machine, e: Rule, table: &mut [u8]) -> bool
     requires { ⌜ Small m × RuleOk m e × (length (now table) ≡ 4096) ⌝ }
     ensures { λ r. ⌜ (r ≡ given m (now (table .entry)) e) × (now (table .exit) ≡ pick r (now (table .entry)) (define m (now (table .entry)) e)) ⌝ }
@@ -27,7 +27,7 @@ pub fn give(m: Machine, e: Rule, table: &mut [u8]) -> bool
     false
 }
 
-// Where the entry stands: of 512 places of eight bytes.
+// The index of the entry's first byte, in a table of 512 places of eight bytes.
 fn place_of(m: Machine, e: Rule) -> usize
     requires { ⌜ Small m × RuleOk m e ⌝ }
     ensures { λ r. ⌜ (r ≡ place m e) × (r + 8 ≤ 4096) ⌝ }
@@ -35,7 +35,7 @@ fn place_of(m: Machine, e: Rule) -> usize
     (8 * (e.state * m.symbols + e.read)) as usize
 }
 
-// The eight bytes of an entry of one tape; the moves of the two that it lacks are N, 3 × 2 + 9 × 2.
+// Writes the eight bytes of an entry of one tape. The moves of the two tapes that it lacks are N: 3 × 2 + 9 × 2.
 fn store(table: &mut [u8], at: usize, e: Rule)
     requires { ⌜ (at + 8 ≤ length (now table)) × (e .next < 65536) × (e .write < 256) × (e .dir < 3) ⌝ }
     ensures { λ _. ⌜ now (table .exit) ≡ paste (now (table .entry)) at (entryBytes (Defined (actionOf e))) 8 ⌝ }
@@ -48,7 +48,7 @@ fn store(table: &mut [u8], at: usize, e: Rule)
     listing_text::inner::put(table, at, &b);
 }
 
-// Reads the word line's symbols into the first places of `word`, up to the first bad one. The other places are left.
+// Reads the word line's symbols into the first places of `word`, up to the first bad one. The other places stay.
 pub fn read_word(k: u64, l: &[u8], word: &mut [u8]) -> Count
     requires { ⌜ (k ≤ 256) × (length (now l) ≤ 80) × (81 ≤ length (now word)) ⌝ }
     ensures { λ r. ⌜ ((r, now (word .exit)) ≡ readWord k (now (l .entry)) (now (word .entry))) × CountOk r ⌝ }
@@ -76,7 +76,7 @@ fn narrow(a: u64) -> u8
     a as u8
 }
 
-// Call n: its kind at 2n, its number at 2n + 1.
+// Writes call n: its kind at 2n, its number at 2n + 1.
 pub fn put_call(calls: &mut [u64], n: usize, kind: u64, number: u64)
     requires { ⌜ 2 * n + 2 ≤ length (now calls) ⌝ }
     ensures { λ _. ⌜ now (calls .exit) ≡ set (set (now (calls .entry)) (2 * n) kind) (2 * n + 1) number ⌝ }

@@ -1,4 +1,4 @@
-// The lines of a listing: the fixed ones, and those that hold numbers.
+// The lines of a listing: the fixed ones, and those that contain numbers.
 use listing_text::Num;
 use listing_text::fields;
 use machine::Machine;
@@ -28,7 +28,7 @@ pub enum EntryLine {
     Bad,
 }
 
-// How many symbols a word line has.
+// The number of symbols in a word line.
 pub enum Count {
     Of(usize),
     Bad,
@@ -102,7 +102,7 @@ pub fn machine_line(l: &[u8]) -> MachineLine
     MachineLine::Bad
 }
 
-// One tape, and a table of at most 512 entries.
+// Whether a machine has one tape, numbers in their ranges, and a table of at most 512 entries.
 fn machine_ok(t: u64, k: u64, n: u64, s: u64) -> bool
     ensures { λ r. ⌜ r ≡ machineOk t k n s ⌝ }
 {
@@ -162,7 +162,7 @@ pub fn entry_line(m: Machine, l: &[u8]) -> EntryLine
     })
 }
 
-// Field k of a line as a move's letter.
+// The move in field k of a line, as a number: 0 for L, 1 for R, 2 for N.
 fn move_at(l: &[u8], k: usize) -> Num
     ensures { λ r. ⌜ r ≡ move (field (now (l .entry)) k) ⌝ }
 {

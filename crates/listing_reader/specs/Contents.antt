@@ -1,4 +1,4 @@
--- WHAT `read` HANDS BACK: what the listing asks, or its first bad line, and every place of the three arrays. Definitions only.
+-- WHAT `read` HANDS BACK: what the listing asks for, or the number of its first bad line, and all places of the three arrays. Definitions only.
 use Prim.Native.Nat.{ℕ, _-_}
 use mathlib.Core.List.{List, [], _∷_, _++_}
 use lib.Dec.{leb}
@@ -15,9 +15,9 @@ use Rattle.listing_reader.specs.declared.Parsed.the-variants as P
 use Rattle.listing_reader.specs.declared.Contents.{Contents}
 use Rattle.listing_reader.specs.Listing.{Sofar, nothing, line, Listing, refused, asked, onNext, listing}
 
--- ---- up to which place the input is read: to its end, or into its first bad line
+-- ---- how far the input is read: to its end, or into its first bad line
 
--- the word where a line is bad: of a bad word line the symbols before the first bad one are read
+-- the word after a bad line: a bad word line gives its symbols before the first bad one
 unfoldable pub wordLeft : Due → Sofar → List ℕ → List ℕ
 wordLeft Names x l = x .word
 wordLeft Numbers x l = x .word
@@ -27,7 +27,7 @@ wordLeft Word x l = wordBefore (x .machine .symbols) l
 wordLeft Heading x l = x .word
 wordLeft Calls x l = x .word
 
--- of any other bad line nothing is read
+-- what has been read after a bad line: only a bad word line changes it
 unfoldable pub brokenOff : Due → Sofar → List ℕ → Sofar
 brokenOff d x l = record { machine = x .machine; table = x .table; word = wordLeft d x l; calls = x .calls }
 
@@ -43,11 +43,11 @@ lastRead s = readUpTo Names nothing (lines s)
 
 -- ---- in arrays
 
--- n places: the first hold xs, all others 0
+-- n places: the first hold xs, all others hold 0
 unfoldable pub filled : (n : ℕ) → List ℕ → List ℕ
 filled n xs = xs ++ replicate (n - length xs) 0
 
--- a call's two numbers: 0 for seek, 1 for forward, 2 for back; and the number of its line
+-- a call's two numbers: its kind (0 for seek, 1 for forward, 2 for back), and the number in its line
 abbrev pub kindOf : Call → ℕ
 kindOf (seek n) = 0
 kindOf (forward n) = 1
@@ -66,7 +66,7 @@ numbersOf (c ∷ cs) = kindOf c ∷ sizeOf c ∷ numbersOf cs
 unfoldable pub placesOf : Sofar → List ℕ × List ℕ × List ℕ
 placesOf x = (x .table, filled 81 (x .word), filled 128 (numbersOf (x .calls)))
 
--- ---- what is asked: the machine, how many symbols the word has, and how many calls there are
+-- ---- what the input asks for: the machine, the number of symbols in the word, and the number of calls
 
 abbrev pub readerOf : Sofar → Reader
 readerOf x = record { due = Calls; machine = x .machine; word = length (x .word); calls = length (x .calls) }

@@ -1,4 +1,4 @@
--- What the reader's value and its lent slices stand for, and the ranges that they keep, for the contracts. Definitions only.
+-- The meaning of the reader's value and its lent slices, and their ranges, for the contracts. Definitions only.
 use Prim.Native.Nat.{ℕ, _+_, _*_, _≤_}
 use mathlib.Core.Path.{_≡_}
 use mathlib.Core.List.{List}
@@ -14,7 +14,7 @@ use Rattle.listing_reader.specs.declared.Turn.{Turn}
 use Rattle.listing_reader.specs.declared.Turn.the-variants as T
 use Rattle.listing_reader.specs.Listing.{Sofar, Next, on, bad}
 
--- the reader's value with the lent table, word and calls: the first places hold what was read
+-- what was read: the reader's machine, the lent table, and the first places of the lent word and calls
 unfoldable pub sofar : Reader → (t w c : List ℕ) → Sofar
 sofar x t w c =
     record { machine = x .machine; table = t; word = take (x .word) w; calls = callsOf (x .calls) c }
@@ -23,19 +23,19 @@ unfoldable pub nextOf : Turn → (t w c : List ℕ) → Next
 nextOf (T.On y) t w c = on (y .due) (sofar y t w c)
 nextOf T.Bad t w c = bad
 
--- ---- what a line leaves of the lent slices
+-- ---- the lent slices after a line
 
--- an entry line: where it is bad, the table as it was
+-- after a bad entry line the table is unchanged
 abbrev pub TableLeft : Turn → (t t′ : List ℕ) → Type 0
 TableLeft (T.On y) t t′ = Unit {0}
 TableLeft T.Bad t t′ = t′ ≡ t
 
--- call n of a slice of numbers
+-- a slice of numbers with call n written into it; a bad line writes nothing
 abbrev pub callPut : CallLine → (n : ℕ) → List ℕ → List ℕ
 callPut (CL.Of k) n c = set (set c (2 * n) (k .kind)) (2 * n + 1) (k .number)
 callPut CL.Bad n c = c
 
--- a call line where n calls were read
+-- the calls after a call line, where n calls were read before it
 abbrev pub CallsLeft : Turn → (n : ℕ) → (l c c′ : List ℕ) → Type 0
 CallsLeft (T.On y) n l c c′ = c′ ≡ callPut (callCode (callLine l)) n c
 CallsLeft T.Bad n l c c′ = c′ ≡ c

@@ -1,4 +1,4 @@
--- THE LISTING of document 01: from the bytes of the input to what is asked, or to the number of the first bad line. Definitions only.
+-- THE LISTING of document 01: from the bytes of the input to what it asks for, or to the number of its first bad line. Definitions only.
 use Prim.Native.Nat.{ℕ, _+_, _*_}
 use mathlib.Core.List.{List, [], _∷_, _++_}
 use lib.ListN.{length, take, replicate}
@@ -13,14 +13,14 @@ use Rattle.listing_reader.specs.declared.Due.the-variants.{Names, Number
 
 -- ---- line after line
 
--- what the lines so far have said; the table has 512 places of eight bytes
+-- the content of the lines so far; the table has 512 places of eight bytes
 pub record Sofar : Type 0 where
   pub machine : Machine
   pub table : List ℕ
   pub word : List ℕ
   pub calls : List Call
 
--- before the first line; the machine's numbers are those of line 2, and no line before it looks at them
+-- the content before the first line; line 2 gives the machine's numbers, and no line before it uses them
 unfoldable pub nothing : Sofar
 nothing =
     record {
@@ -30,12 +30,12 @@ nothing =
       calls = [];
     }
 
--- a line is good, and which is due after it; or it is bad
+-- a line is good, with the kind of line that is due after it; or it is bad
 pub data Next : Type 0 where
   on : Due → Sofar → Next
   bad : Next
 
--- what a line says where line `d` is due. "Entry lines come in any order; there may be none"; bad are "an entry's second
+-- the result of a line where a line of kind `d` is due. "Entry lines come in any order; there may be none"; bad are "an entry's second
 -- giving" and "a 65th call"
 unfoldable pub line : (d : Due) → Sofar → List ℕ → Next
 line Names x l = pick (sameList l firstLine) (on Numbers x) bad
@@ -58,7 +58,7 @@ line Calls x l =
     on Calls (record { machine = x .machine; table = x .table; word = x .word; calls = x .calls ++ (c ∷ []) }))
     bad
 
--- the part of the table that the machine has: 8 bytes for each of its entries
+-- the machine's part of the table: 8 bytes for each of its entries
 abbrev pub tableIn : Sofar → List ℕ
 tableIn x = take (8 * (x .machine .states * x .machine .symbols)) (x .table)
 
@@ -68,7 +68,7 @@ pub data Listing : Type 0 where
   refused : ℕ → Listing
   asked : Sofar → Listing
 
--- where the input ends: there may be no call lines; "a missing line is bad at its own number"
+-- the result at the end of the input: there may be no call lines; "a missing line is bad at its own number"
 unfoldable pub atEnd : (n : ℕ) → Due → Sofar → Listing
 atEnd n Names x = refused n
 atEnd n Numbers x = refused n

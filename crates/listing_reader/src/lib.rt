@@ -6,7 +6,7 @@ ghost use Rattle.listing_reader.specs.Contents.{contentsOf};
 mod lines;
 mod turns;
 
-// Which line is due.
+// The kind of line that is due.
 pub enum Due {
     Names,
     Numbers,
@@ -17,7 +17,7 @@ pub enum Due {
     Calls,
 }
 
-// What the lines so far have said, beside the lent table, word and calls: `word` symbols and `calls` calls.
+// The content of the lines so far, beside the lent table, word and calls. There are `word` symbols and `calls` calls.
 pub struct Reader {
     pub due: Due,
     pub machine: Machine,
@@ -25,20 +25,21 @@ pub struct Reader {
     pub calls: usize,
 }
 
-// What one line leads to.
+// The result of one line.
 pub(crate) enum Turn {
     On(Reader),
     Bad,
 }
 
-// What the whole input asks, or the number of its first bad line.
+// What the whole input asks for, or the number of its first bad line.
 pub enum Parsed {
     Refused(u64),
     Asked(Reader),
 }
 
-// What was read of a whole input: what it asks, with its table, and with its word and its calls in the first places of
-// theirs. The other places hold 0. After a bad line the arrays hold what was read before it.
+// The content of a whole input: what it asks for, its table, and its word and its calls in the first places of their
+// arrays. The other places hold 0. After a bad line the arrays hold what was read before it, and a bad word line's
+// symbols before the first bad one.
 pub struct Contents {
     pub parsed: Parsed,
     pub table: [u8; 4096],
@@ -46,7 +47,7 @@ pub struct Contents {
     pub calls: [u64; 128],
 }
 
-// Reads a whole listing. The arrays go out by value, so that the caller lends nothing but the input.
+// Reads a whole listing. It returns the arrays by value, so the caller lends only the input.
 pub fn read(input: &[u8]) -> Contents
     ensures { λ r. ⌜ r ≡ contentsOf (now (input .entry)) ⌝ }
 {

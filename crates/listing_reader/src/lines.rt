@@ -1,4 +1,4 @@
-// The whole listing into lent slices that have room for it.
+// Reads the whole listing into lent slices that have space for it.
 use super::Due;
 use super::Parsed;
 use super::Reader;
@@ -13,7 +13,7 @@ ghost use Rattle.listing_reader.specs.Listing.{line, atEnd, listing};
 ghost use Rattle.listing_reader.specs.Contents.{lastRead, placesOf, parsedOf};
 ghost use Rattle.listing_reader.specs.Invariants.{sofar, nextOf, Leaves, ReaderOk, TurnOk, LentOk};
 
-// Reads the input line by line. The slices are lent blank.
+// Reads the input line by line. The lent slices must contain only 0.
 pub(crate) fn parse(input: &[u8], table: &mut [u8], word: &mut [u8], calls: &mut [u64]) -> Parsed
     requires { ⌜ LentOk (length (now table)) (length (now word)) (length (now calls)) × (now table ≡ replicate 4096 0) × (now word ≡ replicate 81 0) × (now calls ≡ replicate 128 0) ⌝ }
     ensures { λ r. ⌜ (r ≡ parsedOf (listing (now (input .entry)))) × ((now (table .exit), now (word .exit), now (calls .exit)) ≡ placesOf (lastRead (now (input .entry)))) ⌝ }
@@ -47,7 +47,7 @@ pub(crate) fn parse(input: &[u8], table: &mut [u8], word: &mut [u8], calls: &mut
     finish(x, n)
 }
 
-// What a line says, by which line is due.
+// Reads one line as the kind of line that is due.
 fn take_line(x: Reader, l: &[u8], table: &mut [u8], word: &mut [u8], calls: &mut [u64]) -> Turn
     requires { ⌜ ReaderOk x × (length (now l) ≤ 80) × LentOk (length (now table)) (length (now word)) (length (now calls)) ⌝ }
     ensures { λ r. ⌜ (nextOf r (now (table .exit)) (now (word .exit)) (now (calls .exit)) ≡ line (x .due) (sofar x (now (table .entry)) (now (word .entry)) (now (calls .entry))) (now (l .entry))) × TurnOk r × Leaves (x .due) r x (now (l .entry)) (now (table .entry)) (now (word .entry)) (now (calls .entry)) (now (table .exit)) (now (word .exit)) (now (calls .exit)) ⌝ }
@@ -78,7 +78,7 @@ fn take_line(x: Reader, l: &[u8], table: &mut [u8], word: &mut [u8], calls: &mut
     }
 }
 
-// Where the line after one that ends at `e` begins: past its newline, or at the end.
+// The index of the next line, after a line that ends at `e`: past its newline, or the end of the input.
 fn after(e: usize, len: usize) -> usize
     ensures { λ r. ⌜ r ≡ min (e + 1) len ⌝ }
 {
@@ -88,7 +88,7 @@ fn after(e: usize, len: usize) -> usize
     len
 }
 
-// Where the input ends: only call lines may be missing.
+// The result at the end of the input: only call lines may be missing.
 fn finish(x: Reader, n: u64) -> Parsed
     ensures { λ r. ⌜ ((t w k : List ℕ) → x .word ≤ length w → r ≡ parsedOf (atEnd n (x .due) (sofar x t w k))) ⌝ }
 {

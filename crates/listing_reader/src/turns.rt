@@ -1,5 +1,5 @@
-// What a line says, one function for each line that may be due. Each writes at most one of the lent slices, so its
-// contract holds for any lists in place of the others.
+// Functions that read a line, one for each kind of line. Each writes at most one of the lent slices, so its contract
+// is true for any lists in place of the others.
 use super::Due;
 use super::Reader;
 use super::Turn;

@@ -1,4 +1,4 @@
--- THE ROWS OF THE OUTPUT of document 01 ("Listing"): what each call of a list answers on the plain engine's timeline, and its bytes. Definitions only.
+-- THE ROWS OF THE OUTPUT of document 01 ("Listing"): the row of each call on the plain engine's timeline, and its bytes. Definitions only.
 use Prim.Native.Nat.{ℕ}
 use mathlib.Core.List.{List, [], _∷_, _++_}
 use lib.IntN.{ℤ}
@@ -25,14 +25,14 @@ pub data Row : Type 0 where
   row : Outcome → (steps state : ℕ) (head low high : ℤ) (score : ℕ) → Row
   turned-away : ℕ → Row
 
--- from what a call answered, the engine after it, and the cells of its tape 0
+-- the row of a call, from its answer, the engine after it, and the cells of tape 0
 unfoldable pub rowOf : Reply Outcome → Simulator → (cells : List ℕ) → Row
 rowOf (refused why) v c = turned-away (refusalNumber why)
 rowOf (answered o) v c =
     row o (v .steps) (v .state .0) (v .t0 .head ⊖ v .t0 .origin) (v .t0 .lowest ⊖ v .t0 .origin) (v .t0 .highest ⊖ v .t0 .origin)
     (countOf (held (v .t0) c))
 
--- a row for each call, and what the last call handed back; each call takes what the call before handed back
+-- a row for each call, and the timeline after the last; each call takes the timeline that the call before it returned
 unfoldable pub rowsOn : Machine → (table : List ℕ) → TimelineOf plainKind → List Call → List Row × TimelineOf plainKind
 rowsOn m s w [] = ([], w)
 rowsOn m s w (c ∷ cs) =
@@ -48,14 +48,14 @@ rowsOf m s w cs = rowsOn m s w cs .0
 abbrev pub lentIn : TimelineOf plainKind → List ℕ × List ℕ × List ℕ × List ℕ
 lentIn w = (w .engine .c0, w .engine .c1, w .engine .c2, w .store)
 
--- a call's answer, as the code has it, without the timeline
+-- the code's answer to a call, as a reply of the model
 abbrev pub replyOf : Answer → Reply Outcome
 replyOf (Ans.Refused why) = refused why
 replyOf (Ans.Done o) = answered o
 
 -- ---- its bytes
 
--- no call on a timeline has a stop rule, so that none answers Stopped
+-- the word for an outcome; no call on a timeline has a stop rule, so no call answers Stopped
 abbrev pub said : Outcome → List ℕ
 said (OutOfFuel n) = bytes "fuel"
 said (Stopped n) = bytes "fuel"

@@ -1,4 +1,4 @@
-// Calls on a timeline, each printed as a row. The caller sees to the room in the output.
+// Calls on a timeline, each printed as a row. The caller must lend enough output.
 use super::printing;
 use listing_text::inner as write;
 use machine::Machine;
@@ -17,7 +17,7 @@ ghost use Rattle.listing_text.specs.Model.{Wrote};
 ghost use Rattle.listing_lines.specs.Model.{callsOf};
 ghost use Rattle.listing_rows.specs.Rows.{rowOf, rowsOf, rowsOn, lentIn, replyOf, refusedLine, rowLine, rowLines};
 
-// `refused` and a number.
+// Prints `refused` and a number.
 pub fn refused(out: &mut [u8], at: usize, n: u64) -> usize
     requires { ⌜ at + 29 ≤ length (now out) ⌝ }
     ensures { λ r. ⌜ Wrote (now (out .entry)) at (refusedLine n) (now (out .exit)) r × (r ≤ at + 29) ⌝ }
@@ -27,7 +27,7 @@ pub fn refused(out: &mut [u8], at: usize, n: u64) -> usize
     write::put(out, r2, b"\n")
 }
 
-// The row of what a call answered.
+// Prints the row of a call's answer.
 fn row(out: &mut [u8], at: usize, answer: Answer, sim: Simulator, cells: &[u8]) -> usize
     requires { ⌜ (at + 136 ≤ length (now out)) × TapeOk (sim .t0) (now cells) ⌝ }
     ensures { λ r. ⌜ Wrote (now (out .entry)) at (rowLine (rowOf (replyOf answer) sim (now (cells .entry)))) (now (out .exit)) r × (r ≤ at + 136) ⌝ }

@@ -1,3 +1,3 @@
-// The rows of a listing: each call of a list on the plain engine's timeline, printed.
+// The rows of a listing: makes each call on the plain engine's timeline, and prints its row.
 pub mod inner;
 mod printing;

@@ -13,7 +13,7 @@ ghost use Rattle.listing_text.specs.Show.{show, showℤ};
 ghost use Rattle.listing_text.specs.Model.{Wrote};
 ghost use Rattle.listing_rows.specs.Rows.{said, rowOf, rowLine};
 
-// The word of an answer.
+// Prints the word of an answer.
 fn answer(out: &mut [u8], at: usize, outcome: Outcome) -> usize
     requires { ⌜ at + 6 ≤ length (now out) ⌝ }
     ensures { λ r. ⌜ Wrote (now (out .entry)) at (said outcome) (now (out .exit)) r × (r ≤ at + 6) ⌝ }
@@ -37,7 +37,7 @@ fn answer(out: &mut [u8], at: usize, outcome: Outcome) -> usize
     }
 }
 
-// A space and a number.
+// Prints a space and a number.
 fn number(out: &mut [u8], at: usize, n: u64) -> usize
     requires { ⌜ at + 21 ≤ length (now out) ⌝ }
     ensures { λ r. ⌜ Wrote (now (out .entry)) at (32 ∷ show n) (now (out .exit)) r × (r ≤ at + 21) ⌝ }
@@ -46,7 +46,7 @@ fn number(out: &mut [u8], at: usize, n: u64) -> usize
     write::print_u64(out, next, n)
 }
 
-// A space and the position of an index.
+// Prints a space and the position of an index.
 fn position(out: &mut [u8], at: usize, index: usize, origin: usize) -> usize
     requires { ⌜ at + 22 ≤ length (now out) ⌝ }
     ensures { λ r. ⌜ Wrote (now (out .entry)) at (32 ∷ showℤ (index ⊖ origin)) (now (out .exit)) r × (r ≤ at + 22) ⌝ }
@@ -55,7 +55,7 @@ fn position(out: &mut [u8], at: usize, index: usize, origin: usize) -> usize
     write::print_position(out, next, index as u64, origin as u64)
 }
 
-// The positions of the head, the lowest and the highest, each after a space.
+// Prints the head's position, the lowest and the highest, each after a space.
 fn positions(out: &mut [u8], at: usize, t: Tape) -> usize
     requires { ⌜ at + 66 ≤ length (now out) ⌝ }
     ensures { λ r. ⌜ Wrote (now (out .entry)) at ((32 ∷ showℤ (t .head ⊖ t .origin)) ++ (32 ∷ showℤ (t .lowest ⊖ t .origin)) ++ (32 ∷ showℤ (t .highest ⊖ t .origin))) (now (out .exit)) r × (r ≤ at + 66) ⌝ }
@@ -65,7 +65,7 @@ fn positions(out: &mut [u8], at: usize, t: Tape) -> usize
     position(out, low, t.highest, t.origin)
 }
 
-// The row of an answer, from the engine and the cells of its tape 0.
+// Prints the row of an answer, from the engine and the cells of its tape 0.
 pub(crate) fn row(
     out: &mut [u8],
     at: usize,

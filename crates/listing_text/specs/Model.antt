@@ -1,4 +1,4 @@
--- What the steps of reading and printing answer, for their contracts. Definitions only.
+-- The results of the functions that read and print, for their contracts. Definitions only.
 use Prim.Native.Nat.{ℕ, suc, _+_, _*_, _-_, _^_, _≤_}
 use mathlib.Core.Path.{_≡_}
 use mathlib.Core.Bool.{Bool}
@@ -12,7 +12,7 @@ use Rattle.listing_text.specs.Pieces.{field}
 use Rattle.listing_text.specs.declared.Num.{Num}
 use Rattle.listing_text.specs.declared.Num.the-variants.{Value, Bad}
 
--- one digit more, within 64 bits
+-- v with one more digit b, within 64 bits
 unfoldable pub addDigit : ℕ → ℕ → Num
 addDigit v b =
     pick (isDigit b) (pick (ltb (v * 10 + (b - 48)) (2 ^ 64)) (Value (v * 10 + (b - 48))) Bad) Bad
@@ -20,12 +20,12 @@ addDigit v b =
 unfoldable pub zeroFirst : List ℕ → Bool
 zeroFirst s = both (leb 2 (length s)) (eqb (getD s 0 0) 48)
 
--- how many bytes stand before the first separator, or before the end
+-- the number of bytes before the first separator, or before the end
 unfoldable pub upTo : (sep : ℕ) → List ℕ → ℕ
 upTo sep [] = 0
 upTo sep (b ∷ s) = pick (eqb b sep) 0 (suc (upTo sep s))
 
--- field k of a line stands from `start` to before `stop`
+-- field k of a line lies from `start` to before `stop`
 pub record IsField (l : List ℕ) (k start stop : ℕ) : Type 0 where
   pub ordered : start ≤ stop
   pub inside : stop ≤ length l

@@ -11,7 +11,7 @@ use Rattle.listing_text.specs.declared.Num.the-variants.{Value, Bad}
 abbrev pub isDigit : ℕ → Bool
 isDigit b = both (leb 48 b) (leb b 57)
 
--- v, and the digits that follow it; bad is "a number .. over 64 bits"
+-- the number that v and the digits after it make; bad is "a number .. over 64 bits"
 unfoldable pub digits : ℕ → List ℕ → Num
 digits v [] = pick (ltb v (2 ^ 64)) (Value v) Bad
 digits v (b ∷ s) = pick (isDigit b) (digits (v * 10 + (b - 48)) s) Bad
@@ -22,7 +22,7 @@ number [] = Bad
 number (b ∷ []) = digits 0 (b ∷ [])
 number (b ∷ c ∷ s) = pick (eqb b 48) Bad (digits 0 (b ∷ c ∷ s))
 
--- what a number leads to; where it is bad, `out`
+-- `go` of a number, or `out` where it is bad
 unfoldable pub onNum : {A : Type 0} → Num → A → (ℕ → A) → A
 onNum (Value v) out go = go v
 onNum Bad out go = out

@@ -6,12 +6,12 @@ use lib.ListN.{getD}
 use lib.Dec.{eqb}
 use Rattle.notation.specs.Choice.{pick, both}
 
--- one byte more at the front of the first piece
+-- one more byte at the front of the first piece
 unfoldable pub onto : ℕ → List (List ℕ) → List (List ℕ)
 onto b [] = (b ∷ []) ∷ []
 onto b (p ∷ ps) = (b ∷ p) ∷ ps
 
--- the pieces between separators; `last` is what no bytes give
+-- the pieces between separators; `last` is the result for no bytes
 unfoldable pub pieces : (sep : ℕ) (last : List (List ℕ)) → List ℕ → List (List ℕ)
 pieces sep last [] = last
 pieces sep last (b ∷ s) = pick (eqb b sep) ([] ∷ pieces sep last s) (onto b (pieces sep last s))
@@ -20,7 +20,7 @@ pieces sep last (b ∷ s) = pick (eqb b sep) ([] ∷ pieces sep last s) (onto b 
 abbrev pub lines : List ℕ → List (List ℕ)
 lines s = pieces 10 [] s
 
--- "Single spaces part fields": n spaces part n + 1 fields, and two spaces together have an empty one between them
+-- "Single spaces part fields": n spaces make n + 1 fields, and two spaces together have an empty field between them
 abbrev pub fields : List ℕ → List (List ℕ)
 fields l = pieces 32 ([] ∷ []) l
 

@@ -1,11 +1,11 @@
--- Numbers and positions printed: decimal digits, a minus before a negative one. Definitions only.
+-- Numbers and positions as text: decimal digits, with a minus before a negative position. Definitions only.
 use Prim.Native.Nat.{ℕ, zero, suc, _+_, _/_, _%_}
 use mathlib.Core.List.{List, [], _∷_}
 use lib.Dec.{ltb}
 use lib.IntN.{ℤ, pos, negsuc}
 use Rattle.notation.specs.Choice.{pick}
 
--- the last f decimal digits of n, or all where it has no more, before what follows
+-- the last f decimal digits of n, or all where it has at most f, and then `after`
 unfoldable pub showOn : (f n : ℕ) (after : List ℕ) → List ℕ
 showOn zero n after = after
 showOn (suc f) n after =

@@ -1,4 +1,4 @@
-// The fields of a line: how many, where each stands, and what it is.
+// The fields of a line: their number, the place of each, and its value.
 use super::Num;
 use super::inner;
 use super::read_number;
@@ -30,7 +30,7 @@ pub fn count_fields(l: &[u8]) -> usize
     n
 }
 
-// How many fields more a byte makes.
+// The number of fields that a byte adds.
 fn step_of(b: u8) -> usize
     ensures { λ r. ⌜ (r ≡ pick (eqb b 32) 1 0) × (r ≤ 1) ⌝ }
 {
@@ -40,7 +40,7 @@ fn step_of(b: u8) -> usize
     0
 }
 
-// Where field k of a line stands; empty at the end where the line has no such field.
+// The place of field k of a line. Where the line has no such field, it is empty and lies at the end.
 pub(crate) fn field_at(l: &[u8], k: usize) -> Span
     ensures { λ r. ⌜ IsField (now (l .entry)) k (r .start) (r .end) ⌝ }
 {

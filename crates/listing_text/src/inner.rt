@@ -1,4 +1,4 @@
-// Steps that ask that all lies inside the slices: finding a separator, and printing into a lent slice.
+// Functions that require that all lies inside the slices: they find a separator, or print into a lent slice.
 ghost use mathlib.Core.Path.{_≡_};
 ghost use mathlib.Core.List.{_∷_};
 ghost use Prim.Native.Nat.{_+_, _%_, _≤_};

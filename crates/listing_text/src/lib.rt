@@ -13,7 +13,7 @@ pub enum Num {
     Bad,
 }
 
-// The number that s is: decimal, no zero before another digit, at most 64 bits.
+// Reads s as a number: decimal, no zero before another digit, at most 64 bits.
 pub fn read_number(s: &[u8]) -> Num
     ensures { λ r. ⌜ r ≡ number (now (s .entry)) ⌝ }
 {
@@ -55,7 +55,7 @@ fn read_digits(s: &[u8]) -> Num
     Num::Value(v)
 }
 
-// One digit more: bad where b is no digit, or where the number passes 64 bits.
+// Adds one digit: bad where b is no digit, or where the number is over 64 bits.
 fn add_digit(v: u64, b: u8) -> Num
     ensures { λ r. ⌜ r ≡ addDigit v b ⌝ }
 {

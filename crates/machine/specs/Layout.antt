@@ -1,4 +1,4 @@
--- The table's layout (document 01, machine.rs): which entry stands where, and what its eight bytes say. Definitions only.
+-- The table's layout (document 01, machine.rs): the place of each entry, and the meaning of its eight bytes. Definitions only.
 use mathlib.Core.List.{List}
 use Prim.Native.Nat.{ℕ, _+_, _*_, _/_, _%_, _^_}
 use lib.Dec.{eqb, ltb}
@@ -39,7 +39,7 @@ actionAt s i =
       dir2 = dirOf (byteAt s i 6 / 9 % 3);
     }
 
--- past the table's end there is no entry
+-- entry i of the table; it is undefined past the table's end
 unfoldable pub entryAt : List ℕ → ℕ → Entry
 entryAt s i =
     pick (both (ltb i (length s / 8)) (eqb (flagAt s i) 1)) (Defined (actionAt s i)) Undefined

@@ -20,7 +20,7 @@ pub(crate) fn check_size(m: Machine, table: &[u8], count: u64) -> Checked
     Checked::Refused(Refusal::TableSize)
 }
 
-// The lowest entry that is bad decides.
+// Refusal 6 with the number of the lowest bad entry, if there is one.
 fn check_entries(m: Machine, table: &[u8], count: u64) -> Checked
     requires { ⌜ length (now table) ≡ 8 * count ⌝ }
     ensures { λ r. ⌜ r ≡ entriesCheck m (now (table .entry)) count ⌝ }

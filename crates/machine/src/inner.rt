@@ -1,4 +1,4 @@
-// Steps of the operations that the crates above call too.
+// Functions on a table's entries, which other crates call too.
 use super::Action;
 use super::Entry;
 use super::packed::Packed;
@@ -15,7 +15,7 @@ ghost use Rattle.symbol.specs.Kinds.{stateOf};
 ghost use Rattle.machine.specs.Layout.{dirOf, actionAt, entryAt};
 ghost use Rattle.machine.specs.Model.Packing.{wordAt};
 
-// The entry of a number; past the table's end there is none.
+// The entry with number `i`; it is undefined past the table's end.
 pub fn entry_at(table: &[u8], i: usize) -> Entry
     ensures { λ r. ⌜ r ≡ entryAt (now (table .entry)) i ⌝ }
 {
@@ -56,7 +56,7 @@ fn state_of(low: u8, high: u8) -> State
     State(low as u16 + 256 * (high as u16))
 }
 
-// L 0, R 1, all else N.
+// The move of a number: 0 is L, 1 is R, every other number is N.
 pub fn dir_of(d: u8) -> Dir
     ensures { λ r. ⌜ r ≡ dirOf d ⌝ }
 {
@@ -69,7 +69,7 @@ pub fn dir_of(d: u8) -> Dir
     Dir::N
 }
 
-// The words of the table's first `count` entries, into the first places of `out`.
+// Writes the packed words of the table's first `count` entries into the first places of `out`.
 pub fn pack_entries(table: &[u8], stride: u64, count: u64, out: &mut [u64])
     requires { ⌜ count ≤ length (now out) ⌝ }
     ensures { λ _. ⌜ now (out .exit) ≡ fillFrom (wordAt (now (table .entry)) stride) count 0 (now (out .entry)) ⌝ }

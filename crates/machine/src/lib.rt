@@ -23,8 +23,8 @@ pub struct Machine {
     pub start: u64,
 }
 
-// What a step does: the next state and, for each tape, the symbol written and the move of the head.
-// A tape that the machine lacks has blank and N.
+// The action of a step: the next state and, for each tape, the symbol written and the move of the head.
+// For a tape that the machine lacks, the symbol is blank and the move is N.
 pub struct Action {
     pub next: State,
     pub write0: Symbol,
@@ -71,7 +71,7 @@ pub enum Looked {
 }
 
 impl Machine {
-    // Refusals 1 to 6, in that order.
+    // Checks the machine's numbers and the table: refusals 1 to 6, in that order.
     pub fn check(self, table: &[u8]) -> Checked
         ensures { λ r. ⌜ r ≡ tableCheck self (now (table .entry)) ⌝ }
     {
@@ -91,7 +91,7 @@ impl Machine {
         checks::check_size(self, table, self.states * stride)
     }
 
-    // The entry for a state and the symbols read, one for each tape; past the table's end there is none.
+    // The entry for a state and the symbols read, one for each tape; it is undefined past the table's end.
     pub fn lookup(self, table: &[u8], q: State, a0: Symbol, a1: Symbol, a2: Symbol) -> Looked
         ensures { λ r. ⌜ r ≡ lookupOf self (now (table .entry)) q a0 a1 a2 ⌝ }
     {
@@ -108,8 +108,8 @@ impl Machine {
         }
     }
 
-    // The packed words of a table of one tape, into the first places of `out`: after the table check
-    // 7 for several tapes, 18 for too short an output.
+    // Writes the packed words of a table of one tape into the first places of `out`. After the table check:
+    // refusal 7 for several tapes, refusal 18 for too short an output.
     pub fn pack(self, table: &[u8], out: &mut [u64]) -> Checked
         ensures { λ r. ⌜ (r ≡ packCheck self (now (table .entry)) (length (now (out .entry)))) × (now (out .exit) ≡ packInto self (now (table .entry)) (now (out .entry))) ⌝ }
     {

@@ -63,7 +63,7 @@ impl Packed {
         (self.0 / 4294967296) as usize
     }
 
-    // The step of the word, defined or not.
+    // The action in the word, whether the word is defined or not.
     pub fn action(self) -> Action
         ensures { λ r. ⌜ r ≡ wordAction (self .0) ⌝ }
     {
@@ -73,7 +73,7 @@ impl Packed {
         Action::single(write, dir, next)
     }
 
-    // The entry of the word: only UNDEFINED is undefined.
+    // The entry of the word. Only the word UNDEFINED gives an undefined entry.
     pub fn entry(self) -> Entry
         ensures { λ r. ⌜ r ≡ wordEntry (self .0) ⌝ }
     {
@@ -84,7 +84,7 @@ impl Packed {
     }
 }
 
-// The word of an action, or UNDEFINED where its row passes 32 bits.
+// The word of an action, or UNDEFINED where its row does not fit in 32 bits.
 fn pack_action(action: Action, stride: u64) -> Packed
     ensures { λ r. ⌜ r .0 ≡ actionWord action stride ⌝ }
 {

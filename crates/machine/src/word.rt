@@ -1,4 +1,4 @@
-// The check of an input word, wherever one is taken.
+// The check of an input word, for every operation that takes one.
 use super::Checked;
 use outcome::Refusal;
 use symbol::position::Found;
@@ -6,7 +6,7 @@ use table_bytes::inner as bytes;
 ghost use mathlib.Core.Path.{_≡_};
 ghost use Rattle.machine.specs.Model.Word.{wordCheck, symbolsCheck};
 
-// 9 for a word over 1,048,576; 10 for a symbol not below `symbols`, with the first place.
+// Refusal 9 for a word over 1,048,576; refusal 10, with the first place, for a symbol not below `symbols`.
 pub fn check_word(symbols: u64, word: &[u8]) -> Checked
     ensures { λ r. ⌜ r ≡ wordCheck symbols (now (word .entry)) ⌝ }
 {

@@ -1,4 +1,4 @@
--- A choice by a test, and one test after another, as functions. Every definition of the project that tests something uses these two. Definitions only.
+-- A choice by a test (`pick`), and the conjunction of two tests (`both`). Every definition of the project that tests something uses these two. Definitions only.
 use mathlib.Core.Bool.{Bool, true, false}
 
 unfoldable pub pick : {A : Type 0} → Bool → A → A → A

@@ -1,4 +1,4 @@
--- The shape of a loop that writes: place j of the list holds f j, for the n places from i on. Definitions only.
+-- The result of a loop that writes f j into place j of a list, for the n places from i on. Definitions only.
 use mathlib.Core.List.{List}
 use Prim.Native.Nat.{ℕ, zero, suc, _+_}
 use lib.ListN.{set}

@@ -1,4 +1,4 @@
--- Positions of a two-way tape are integers: their test, the smaller and the larger of two, and the position of an index. Definitions only.
+-- Positions of a two-way tape, which are integers: the test for equality, the smaller and the larger of two, and the position of an index. Definitions only.
 use mathlib.Core.Bool.{Bool, false}
 use Prim.Native.Nat.{ℕ, zero, suc}
 use lib.Dec.{eqb}

@@ -1,4 +1,4 @@
--- The two shapes of a scan over the n numbers from i on: whether a test holds of all, and the first of which it does not. Definitions only.
+-- The two scans over the n numbers from i on: whether a test holds for all of them, and the first for which it fails. Definitions only.
 use mathlib.Core.Bool.{Bool, true}
 use mathlib.Core.Option.{Option, none, some}
 use Prim.Native.Nat.{ℕ, zero, suc, _+_}

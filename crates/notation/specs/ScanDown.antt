@@ -1,4 +1,4 @@
--- A scan downward, and a count: the highest of the numbers below n of which a test does not hold, and how many those are. Definitions only.
+-- A scan downward, and a count: the highest number below n for which a test fails, and how many such numbers there are. Definitions only.
 use mathlib.Core.Bool.{Bool}
 use mathlib.Core.Option.{Option, none, some}
 use Prim.Native.Nat.{ℕ, zero, suc, _+_}

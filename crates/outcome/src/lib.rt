@@ -1,16 +1,16 @@
-// What an operation answers: how a run ended, and why an operation was refused.
+// The answers of operations: how a run ended, and why an operation was refused.
 use symbol::Dir;
 use symbol::State;
 ghost use mathlib.Core.Path.{_≡_};
 ghost use Rattle.outcome.specs.Numbers.{statusNumber, proofNumber, proofState, outcomeNumber, stepsOf, isHalted, values, valuesOf, refusalNumber, placeOf};
 
-// What one step found.
+// The result of one step.
 pub enum Status {
     // An entry was defined, and the step was made.
     Running,
     // No entry is defined: the machine has halted.
     Halted,
-    // A tape had no space for the step, and nothing of it was made.
+    // A tape had no space for the step, and nothing was changed.
     Full,
 }
 
@@ -26,11 +26,11 @@ impl Status {
     }
 }
 
-// Which of the two patterns showed that the machine never halts.
+// The pattern, one of two, that shows that the machine never halts.
 pub enum NonHaltProof {
-    // The entry keeps the state, and every tape stays and is rewritten as it was read.
+    // The entry keeps the state, and every tape stays and rewrites the symbol read.
     StayLoop { state: State },
-    // The entry for a blank keeps the state and moves `dir`, where all that lies ahead is blank.
+    // The entry for a blank keeps the state and moves in direction `dir`, and all cells ahead are blank.
     ChainToInfinity { state: State, dir: Dir },
 }
 
@@ -65,7 +65,7 @@ pub enum Outcome {
     NeverHalts { steps: u64, proof: NonHaltProof },
     // The stop rule ended the run.
     Stopped { steps: u64 },
-    // The next step lacks space.
+    // There is no space for the next step.
     Full { steps: u64 },
 }
 
@@ -145,19 +145,19 @@ fn made(number: u8, steps: u64, state: u16, pattern: u8, dir: u8) -> Values
     }
 }
 
-// Why an operation was turned away: document 01's refusals, in the order of their numbers 1 to 18.
+// Why an operation was refused: document 01's refusals, in the order of their numbers 1 to 18.
 pub enum Refusal {
-    // The tapes are not 1 to 3.
+    // The number of tapes is not 1 to 3.
     Tapes,
-    // The symbols are not 1 to 256.
+    // The number of symbols is not 1 to 256.
     Symbols,
-    // The states are not 1 to 65,536.
+    // The number of states is not 1 to 65,536.
     States,
     // The start state is not below the number of states.
     Start,
-    // The table has not 8 bytes for each entry.
+    // The table does not have 8 bytes for each entry.
     TableSize,
-    // The entry of this number, the lowest such, is off its layout or out of range.
+    // The entry with this number, the lowest such, breaks the layout or is out of range.
     Entry(u64),
     // The packed words are not the table's, or the table has several tapes.
     PackedWords,
@@ -165,13 +165,13 @@ pub enum Refusal {
     SeveralTapes,
     // The word is longer than 1,048,576.
     WordLength,
-    // The word's symbol at this place, the first such, is none of the machine's.
+    // The word's symbol at this place, the first such, is not a symbol of the machine.
     WordSymbol(u64),
     // A lent buffer is too small or too large.
     BufferSize,
-    // The engine value doesn't fit, or the machine lacks the tape asked for.
+    // The engine value does not fit, or the machine lacks the given tape.
     Misfit,
-    // Steps and fuel, or the target, are over 2^62.
+    // The sum of steps and fuel, or the target, is over 2^62.
     StepLimit,
     // The timeline's settings or its value are out of range.
     Settings,

@@ -1,4 +1,4 @@
-// Questions on the plain engine: how many, and of each its number, the tape, a position, and a length or a move.
+// Questions on the plain engine: their count, and for each its number, the tape, a position, and a length or a move.
 use super::ground;
 use super::lists;
 use super::telling;

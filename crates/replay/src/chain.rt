@@ -1,4 +1,4 @@
-// Cases of the run-length engine: a fresh one on a word, a run ahead, then what the case is about.
+// Cases of the run-length engine: a fresh engine on a word, a run before the case, then the case.
 use super::chain_asks;
 use super::chain_timelines;
 use super::lists;
@@ -94,7 +94,7 @@ fn act_on(
     }
 }
 
-// A run: stop rule and fuel. The row has the answer, the macro steps and the engine.
+// A run, with a stop rule and fuel. The row has the answer, the macro steps and the engine.
 fn run(
     row: &[u64],
     at: usize,

@@ -1,4 +1,4 @@
-// Questions on the run-length engine: how many, and of each its number, a position and a length.
+// Questions on the run-length engine: their count, and for each its number, a position and a length.
 use super::lists;
 use super::telling;
 use machine::Machine;

@@ -10,7 +10,7 @@ use rle_timeline::Answered;
 use rle_timeline::Begun;
 use rle_timeline::Timeline;
 
-// A timeline after some calls, and the place of the row past their answers.
+// A timeline after some calls, and the place in the row after their answers.
 struct Gone {
     timeline: Timeline,
     at: usize,
@@ -93,7 +93,7 @@ fn begin(
     }
 }
 
-// All the calls.
+// Makes all calls.
 fn go(
     row: &[u64],
     first: usize,
@@ -136,7 +136,7 @@ fn call(
     expect_call(row, gone.at, answered, ls, ll, rs, rl)
 }
 
-// A call's answer, and the engine after it.
+// Compares a call's answer, and the engine after it.
 fn expect_call(
     row: &[u64],
     at: usize,

@@ -15,7 +15,7 @@ fn put_glyph(list: &mut [u32; 512], at: usize, x: u64) {
     }
 }
 
-// Glyphs: how many, and these.
+// Reads the number of glyphs, and these glyphs. Returns their number.
 fn read_glyphs(row: &[u64], at: usize, list: &mut [u32; 512]) -> usize {
     let count = lists::count_at(row, at);
     let mut i: usize = 0;

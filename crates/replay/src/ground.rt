@@ -1,10 +1,10 @@
-// What most rows begin with: a machine with its table, and a word.
+// The beginning of most rows: a machine with its table, and a word.
 use super::lists;
 use capi_numbers::engines;
 use machine::Machine;
 ghost use Prim.Native.Nat.{_≤_};
 
-// A machine, how many bytes its table has, and where the row goes on.
+// A machine, how many bytes its table has, and the place where the row continues.
 pub(crate) struct Ground {
     pub machine: Machine,
     pub size: usize,
@@ -28,7 +28,7 @@ fn product(a: u64, b: u64) -> u64
     a * b
 }
 
-// 8 × n × k^t, or 0 where the table has over 512 entries.
+// The size of the table: 8 × n × k^t bytes, or 0 where it has over 512 entries.
 fn size_of(m: Machine) -> usize {
     let mut entries = times(m.states, m.symbols);
     if 1 < m.tapes {
@@ -47,14 +47,14 @@ pub(crate) fn low(x: u64) -> u8 {
     (x % 256) as u8
 }
 
-// The lowest byte of a number, where a table or a list has the place.
+// Writes the lowest byte of a number, if the list has the place.
 fn put_byte(list: &mut [u8; 4096], at: usize, x: u64) {
     if at < 4096 {
         list[at] = low(x);
     }
 }
 
-// A number of an entry, or what it is for a tape that the machine lacks.
+// A number of an entry, or `other` for a tape that the machine lacks.
 fn given(has: bool, row: &[u64], at: usize, other: u64) -> u64 {
     if has {
         return lists::number(row, at);
@@ -62,7 +62,7 @@ fn given(has: bool, row: &[u64], at: usize, other: u64) -> u64 {
     other
 }
 
-// The entry that a row gives at a place: its number, the next state, and the write and the move of each tape.
+// Writes the entry that a row gives at a place: its number, the next state, and the write and the move of each tape.
 fn put_entry(table: &mut [u8; 4096], row: &[u64], at: usize, tapes: u64) {
     let entry = lists::number(row, at);
     if 512 <= entry {
@@ -87,7 +87,7 @@ fn moves_at(row: &[u64], at: usize, tapes: u64) -> u64 {
     d0 % 3 + 3 * (d1 % 3) + 9 * (d2 % 3)
 }
 
-// How many numbers an entry has.
+// How many numbers an entry has in a row.
 fn width(tapes: u64) -> usize {
     if tapes == 1 {
         return 4;
@@ -115,7 +115,7 @@ fn put_entries(
     at
 }
 
-// The machine's four numbers, how many entries are defined, and these.
+// Reads the machine's four numbers, the number of defined entries, and these entries.
 pub(crate) fn read(row: &[u64], table: &mut [u8; 4096]) -> Ground {
     let machine = engines::machine_of(
         lists::number(row, 0),
@@ -132,7 +132,7 @@ pub(crate) fn read(row: &[u64], table: &mut [u8; 4096]) -> Ground {
     }
 }
 
-// Bytes: how many, and these.
+// Reads the number of bytes, and these bytes. Returns their number.
 pub(crate) fn read_bytes(row: &[u64], at: usize, list: &mut [u8; 4096]) -> usize {
     let count = lists::count_at(row, at);
     let mut i: usize = 0;

@@ -1,7 +1,7 @@
-// Lines of text into rows of numbers.
+// Reads lines of text into rows of numbers.
 use super::lists;
 
-// A row that is being read: how many numbers it has, and the number that the line is in the middle of.
+// A row that is being read: how many numbers it has, and the digits and the sign read of the next one.
 struct Reading {
     count: usize,
     value: u64,
@@ -14,7 +14,7 @@ pub(crate) struct Line {
     pub next: usize,
 }
 
-// A number with one digit more; one past 64 bits is 0.
+// A number with one more digit. Past 64 bits it wraps or is 0.
 fn longer(value: u64, digit: u8) -> u64 {
     if value <= 1844674407370955161 {
         return std::num::wrapping_add_u64(10 * value, digit as u64);
@@ -22,7 +22,7 @@ fn longer(value: u64, digit: u8) -> u64 {
     0
 }
 
-// The row with the number that has been read; below 0 it is given by its two's complement.
+// Adds the number that was read to the row, a negative one as its two's complement. Returns how many there are now.
 fn ended(row: &mut [u64; 1024], reading: Reading) -> usize {
     if reading.below {
         return lists::put(
@@ -34,8 +34,8 @@ fn ended(row: &mut [u64; 1024], reading: Reading) -> usize {
     lists::put(row, reading.count, reading.value)
 }
 
-// One byte more of a line. A byte that is no part of a number ends one as a space does, so that such a line has other
-// numbers than were written.
+// Reads one more byte of a line. A byte that is no part of a number ends a number as a space does, so such a line has
+// other numbers than were written.
 fn read_byte(row: &mut [u64; 1024], reading: Reading, byte: u8) -> Reading {
     if byte == b'-' {
         return Reading {
@@ -60,7 +60,7 @@ fn read_byte(row: &mut [u64; 1024], reading: Reading, byte: u8) -> Reading {
     }
 }
 
-// The numbers of the line that begins at a place.
+// Reads the numbers of the line that begins at a place.
 pub(crate) fn read_line(text: &[u8], from: usize, row: &mut [u64; 1024]) -> Line {
     let mut reading = Reading {
         count: 0,

@@ -1,12 +1,12 @@
-// A line of the data as a row of numbers: what a case is made of, then what the Rust answered. A place past a row's end
-// holds 0, so that no call asks for a bound. What the port answers is held to the row number by number: `expect` goes on
-// to the next place, or to OFF, which lies past every row, where the row has another number there.
+// A line of the data as a row of numbers: the case, then the Rust's answers. A place past a row's end holds 0, so no
+// call requires a bound. The port's answers are compared with the row number by number: `expect` returns the next
+// place, or OFF, which lies past every row, where the row has another number.
 use symbol::position;
 
-// How many numbers a row has room for.
+// The number of places of a row.
 const ROOM: usize = 1024;
 
-// Where a case stands that differs.
+// The place that a case has once it differs.
 pub(crate) const OFF: usize = 4096;
 
 // The number at a place of a row.
@@ -17,7 +17,7 @@ pub(crate) fn number(row: &[u64], at: usize) -> u64 {
     0
 }
 
-// The place `count` numbers further on, or OFF where no row goes as far.
+// The place `count` numbers further on, or OFF where `at` or `count` is over ROOM.
 pub(crate) fn past(at: usize, count: usize) -> usize {
     if ROOM < at {
         return OFF;
@@ -28,7 +28,7 @@ pub(crate) fn past(at: usize, count: usize) -> usize {
     at + count
 }
 
-// How many of something a row gives at a place, none of which are more than a row has.
+// The count that a row gives at a place, at most ROOM.
 pub(crate) fn count_at(row: &[u64], at: usize) -> usize {
     let count = number(row, at);
     if count < 1024 {
@@ -37,12 +37,12 @@ pub(crate) fn count_at(row: &[u64], at: usize) -> usize {
     ROOM
 }
 
-// The position that a number of a row stands for: below 0 it is given by its two's complement.
+// The position at a place of a row; a negative position is given by its two's complement.
 pub(crate) fn position_at(row: &[u64], at: usize) -> i64 {
     position::signed(std::num::wrapping_add_u64(number(row, at), 9223372036854775808))
 }
 
-// The place after a number that the row must have at a place.
+// Checks that the row has x at a place. Returns the next place, or OFF where the row differs.
 pub(crate) fn expect(row: &[u64], at: usize, x: u64) -> usize {
     if row.len() <= at {
         return OFF;
@@ -53,7 +53,7 @@ pub(crate) fn expect(row: &[u64], at: usize, x: u64) -> usize {
     past(at, 1)
 }
 
-// The same of a raised position.
+// The same for a position raised by 2^63.
 pub(crate) fn expect_position(row: &[u64], at: usize, raised: u64) -> usize {
     expect(
         row,
@@ -62,7 +62,7 @@ pub(crate) fn expect_position(row: &[u64], at: usize, raised: u64) -> usize {
     )
 }
 
-// Adds a number to a row of `count`, if it has room: how many there are now.
+// Adds a number to a row of `count` numbers, if it has space. Returns how many there are now.
 pub(crate) fn put(row: &mut [u64; 1024], count: usize, x: u64) -> usize {
     if count < 1024 {
         row[count] = x;
@@ -71,7 +71,7 @@ pub(crate) fn put(row: &mut [u64; 1024], count: usize, x: u64) -> usize {
     count
 }
 
-// The first bytes of a slice, all where it has fewer.
+// The first `count` bytes of a slice, or all where it has fewer.
 pub(crate) fn head(list: &[u8], count: usize) -> &[u8] {
     if count <= list.len() {
         return &list[..count];
@@ -130,7 +130,7 @@ pub(crate) fn byte(list: &[u8], at: usize) -> u64 {
     0
 }
 
-// The smaller one.
+// The smaller of two numbers.
 pub(crate) fn least(a: u64, b: usize) -> usize {
     if a < b as u64 {
         return a as usize;

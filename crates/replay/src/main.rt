@@ -1,5 +1,5 @@
-// Replays a fixed list of the Rust's answers: each file of the data holds the cases of one kind, a line for each. Prints
-// for each kind how many cases there are and how many the port answers otherwise.
+// Replays a fixed list of the Rust's answers: each file of the data holds the cases of one kind, a line for each.
+// Prints for each kind how many cases there are, and for how many the port's answers differ.
 mod asks;
 mod chain;
 mod chain_asks;
@@ -18,14 +18,14 @@ mod values;
 
 use machine::Machine;
 
-// What the cases of a file are about.
+// The kind of the cases in a file.
 enum Kind {
     On(Engine),
     Pack,
     Encode,
 }
 
-// Which engine, and what it does in a case.
+// The engine, and what it does in a case.
 enum Engine {
     Plain(plain::Act),
     Chain(chain::Act),
@@ -38,7 +38,7 @@ struct Tally {
     differ: u64,
 }
 
-// The place past a row's last number, where the port answers what the row says.
+// Replays a row. Returns the place past its last number where the port gives the row's answers.
 fn replayed(kind: Kind, row: &[u64]) -> usize {
     match kind {
         Kind::On(engine) => {
@@ -91,7 +91,7 @@ fn on_word(engine: Engine, row: &[u64], at: usize, m: Machine, table: &[u8], wor
     }
 }
 
-// 1 where the port answers otherwise than a row says.
+// 1 where the port's answers differ from the row, else 0.
 fn differs(kind: Kind, row: &[u64]) -> u64 {
     if replayed(kind, row) == row.len() {
         return 0;
@@ -110,7 +110,7 @@ fn next_line(kind: Kind, text: &[u8], tally: Tally) -> Tally {
     }
 }
 
-// All lines of a text, which has no more lines than bytes.
+// Replays all lines of a text. A text has at most as many lines as bytes.
 fn all_lines(kind: Kind, text: &[u8]) -> Tally {
     let mut tally = Tally {
         at: 0,
@@ -126,7 +126,7 @@ fn all_lines(kind: Kind, text: &[u8]) -> Tally {
     tally
 }
 
-// The cases of a file; none where it cannot be read.
+// Replays the cases of a file; none where it cannot be read.
 fn of_file(kind: Kind, name: &[u8]) -> Tally {
     let mut text = io::large_buffer();
     let file = os::open_read(name);
@@ -144,7 +144,7 @@ fn report(name: &[u8], tally: Tally) {
     io::write_all(1, b" differ\n");
 }
 
-// Replays a file and says how it went: the sum of this file and those before.
+// Replays a file and prints its result. Returns the sum of this file and those before.
 fn replay(kind: Kind, name: &[u8], sum: Tally) -> Tally {
     let tally = of_file(kind, name);
     report(name, tally);

@@ -1,4 +1,4 @@
-// What a run is told: its stop rule and its fuel.
+// The order for a run: its stop rule and its fuel.
 use super::lists;
 use capi_numbers::engines;
 use sim::StopRule;

@@ -1,4 +1,4 @@
-// Cases of the plain engine: a fresh one on a word, a run ahead, then what the case is about.
+// Cases of the plain engine: a fresh engine on a word, a run before the case, then the case.
 use super::asks;
 use super::lists;
 use super::orders;
@@ -89,7 +89,7 @@ fn act_on(
     }
 }
 
-// A run: stop rule and fuel.
+// A run, with a stop rule and fuel.
 fn run(
     row: &[u64],
     at: usize,
@@ -106,7 +106,7 @@ fn run(
     expect_ran(row, order.at, ran, m.tapes, c0, c1, c2)
 }
 
-// The same over packed words.
+// The same run over packed words.
 fn fast(
     row: &[u64],
     at: usize,

@@ -1,11 +1,11 @@
-// What a timeline's case begins with: its settings, how many calls there are, and of each call which it is and its number.
+// The beginning of a timeline's case: its settings, the number of calls, and the kind and the number of each call.
 use super::lists;
 
 pub(crate) struct Settings {
     pub most: u64,
     pub every: u64,
     pub calls: usize,
-    // where the first call stands
+    // the place of the first call
     pub first: usize,
     // where the answers begin
     pub answers: usize,
@@ -36,7 +36,7 @@ pub(crate) fn call_at(row: &[u64], at: usize) -> Call {
     }
 }
 
-// Whether the settings are the Rust's; only then has it the same slots.
+// Whether the settings are the Rust's; only then does the Rust have the same slots.
 fn as_rust(settings: Settings) -> bool {
     if settings.most != 512 {
         return false;
@@ -44,7 +44,7 @@ fn as_rust(settings: Settings) -> bool {
     settings.every == 4096
 }
 
-// At the Rust's settings: how many slots there are, how far apart, and the engine's steps.
+// At the Rust's settings, compares the number of slots, their interval, and the engine's steps or macro steps.
 pub(crate) fn expect_times(
     row: &[u64],
     at: usize,

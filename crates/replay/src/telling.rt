@@ -1,4 +1,4 @@
-// What the port answers, held to a row in the order in which the data has it. A refusal is never what the row says.
+// Compares the port's answers with a row, in the order in which the data has them. A refusal always differs.
 use super::lists;
 use capi_numbers::answers;
 use machine::Checked;
@@ -9,7 +9,7 @@ use sim::questions::Extent;
 use sim::questions::Got;
 use sim::questions::Located;
 
-// Symbols, one by one.
+// Compares symbols, one by one.
 pub(crate) fn expect_symbols(row: &[u64], from: usize, symbols: &[u8]) -> usize {
     let mut at = from;
     let mut i: usize = 0;
@@ -20,7 +20,7 @@ pub(crate) fn expect_symbols(row: &[u64], from: usize, symbols: &[u8]) -> usize 
     at
 }
 
-// Numbers, one by one.
+// Compares numbers, one by one.
 pub(crate) fn expect_numbers(row: &[u64], from: usize, numbers: &[u64]) -> usize {
     let mut at = from;
     let mut i: usize = 0;
@@ -31,7 +31,7 @@ pub(crate) fn expect_numbers(row: &[u64], from: usize, numbers: &[u64]) -> usize
     at
 }
 
-// A run's answer: the outcome's number and its values, 0 for one that it lacks.
+// A run's answer: the outcome's number and its values, 0 for a value that it lacks.
 pub(crate) fn expect_answer(row: &[u64], at: usize, answer: Answer) -> usize {
     let mut out: [u64; 8] = [0; 8];
     if answers::put_answer(&mut out, answer) != 0 {

@@ -10,7 +10,7 @@ use sim_timeline::Answered;
 use sim_timeline::Begun;
 use sim_timeline::Timeline;
 
-// A timeline after some calls, and the place of the row past their answers.
+// A timeline after some calls, and the place in the row after their answers.
 struct Gone {
     timeline: Timeline,
     at: usize,
@@ -88,7 +88,7 @@ fn begin(
     }
 }
 
-// All the calls.
+// Makes all calls.
 fn go(
     row: &[u64],
     first: usize,
@@ -129,7 +129,7 @@ fn call(
     expect_call(row, gone.at, answered, m.tapes, c0, c1, c2)
 }
 
-// A call's answer, and the engine after it.
+// Compares a call's answer, and the engine after it.
 fn expect_call(
     row: &[u64],
     at: usize,

@@ -1,10 +1,10 @@
-// Engines, held to a row in the order in which the data has their numbers.
+// Compares engines with a row, in the order in which the data has their numbers.
 use super::lists;
 use rle::ChainSim;
 use sim::Simulator;
 use tape::Tape;
 
-// A run of equal cells that is being counted, and the place of the row before it.
+// A run of equal cells that is being counted, and its place in the row.
 struct Run {
     at: usize,
     symbol: u8,
@@ -19,7 +19,7 @@ fn expect_run(row: &[u64], run: Run) -> usize {
     lists::expect(row, at, run.length)
 }
 
-// One cell more.
+// Adds a cell to the run; a cell with another symbol begins a new run.
 fn grown(row: &[u64], run: Run, cell: u8) -> Run {
     if cell == run.symbol {
         return Run {
@@ -35,7 +35,7 @@ fn grown(row: &[u64], run: Run, cell: u8) -> Run {
     }
 }
 
-// Each run of equal cells: symbol and length.
+// Compares each run of equal cells: symbol and length.
 fn expect_cells(row: &[u64], at: usize, cells: &[u8]) -> usize {
     let mut run = Run {
         at,
@@ -50,7 +50,7 @@ fn expect_cells(row: &[u64], at: usize, cells: &[u8]) -> usize {
     expect_run(row, run)
 }
 
-// An index as a position.
+// Compares an index as a position.
 fn expect_index(row: &[u64], at: usize, index: usize, origin: usize) -> usize {
     lists::expect(
         row,
@@ -59,7 +59,7 @@ fn expect_index(row: &[u64], at: usize, index: usize, origin: usize) -> usize {
     )
 }
 
-// Length, the index of position 0, head, lowest, highest, cells.
+// Compares a tape: length, the index of position 0, head, lowest, highest, cells.
 fn expect_tape(row: &[u64], at: usize, tape: Tape, cells: &[u8]) -> usize {
     let at = lists::expect(row, at, tape.len as u64);
     let at = lists::expect(row, at, tape.origin as u64);
@@ -69,7 +69,7 @@ fn expect_tape(row: &[u64], at: usize, tape: Tape, cells: &[u8]) -> usize {
     expect_cells(row, at, lists::head(cells, tape.len))
 }
 
-// A plain engine: state, steps, and each of its tapes.
+// Compares a plain engine: state, steps, and each of its tapes.
 pub(crate) fn expect_plain(
     row: &[u64],
     at: usize,
@@ -95,7 +95,7 @@ pub(crate) fn expect_plain(
     expect_tape(row, at, t2, c2)
 }
 
-// How many runs a side has, and of each its symbol and its length.
+// Compares a side: how many runs it has, and the symbol and the length of each.
 fn expect_side(row: &[u64], from: usize, runs: usize, symbols: &[u8], lengths: &[u64]) -> usize {
     let mut at = lists::expect(row, from, runs as u64);
     let mut i: usize = 0;
@@ -107,7 +107,8 @@ fn expect_side(row: &[u64], from: usize, runs: usize, symbols: &[u8], lengths: &
     at
 }
 
-// A run-length engine but for its macro steps: state, symbol under the head, steps, head, lowest, highest, both sides.
+// Compares a run-length engine without its macro steps: state, symbol under the head, steps, head, lowest, highest,
+// both sides.
 pub(crate) fn expect_chain(
     row: &[u64],
     at: usize,

@@ -27,7 +27,7 @@ headFits v =
     (both (leb (v .tape .head) (v .highest))
     (both (leb (zeroAt - v .steps) (v .lowest)) (leb (v .highest) (zeroAt + v .steps))))
 
--- a side's "furthest cell's distance from 0, at most steps + 2^20"; the head is within steps of 0
+-- a side's "furthest cell's distance from 0, at most steps + 2^20"; by `headFits` the head is within steps of 0
 unfoldable pub reachFits : ChainSim → (lefts rights : ℕ) → Bool
 reachFits v l r =
     both (leb (zeroAt + l) (v .tape .head + v .steps + slack)) (leb (v .tape .head + r) (zeroAt + v .steps + slack))
@@ -49,16 +49,16 @@ chainFits m σ =
 unfoldable pub placesFit : Conf → Bool
 placesFit σ = both (leb (placesOf (σ .ls) (σ .ll)) slack) (leb (placesOf (σ .rs) (σ .rl)) slack)
 
--- 8, 11, 12
+-- refusals 8, 11, 12
 unfoldable pub valueCheck : Machine → Conf → Checked
 valueCheck m σ =
     demand (eqb (m .tapes) 1) Why.SeveralTapes
     (demand (placesFit σ) Why.BufferSize (demand (chainFits m σ) Why.Misfit Accepted))
 
--- after the table check
+-- the table check, then refusals 8, 11, 12
 unfoldable pub engineCheck : Machine → List ℕ → Conf → Checked
 engineCheck m s σ = checkedOn (tableCheck m s) (valueCheck m σ)
 
--- and 13
+-- then refusal 13
 unfoldable pub runCheck : Machine → List ℕ → ℕ → Conf → Checked
 runCheck m s fuel σ = checkedOn (engineCheck m s σ) (demand (fuelFits (σ .sim .steps) fuel) Why.StepLimit Accepted)

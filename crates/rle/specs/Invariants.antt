@@ -18,7 +18,7 @@ use Rattle.rle_macro.specs.Model.MacroStep.{headFor}
 use Rattle.rle_counts.specs.Model.Counts.{tallied}
 use Rattle.rle.specs.Model.Engine.{Conf, conf, leftOf, rightOf, tallyOf, simWith, end, runOf}
 
--- the machine's numbers, as an entry's number is made of them
+-- the machine's numbers, from which an entry's number is computed
 pub record TableOk (m : Machine) (stride : ℕ) : Type 0 where
   pub symbols-in : m .symbols ≤ 256
   pub stride-is : stride ≡ strideOf m
@@ -29,7 +29,7 @@ pub record SidesOk (σ : Conf) : Type 0 where
   pub left : SideOk (placesOf (σ .ls) (σ .ll)) (σ .sim .steps + 1048576) (leftOf σ)
   pub right : SideOk (placesOf (σ .rs) (σ .rl)) (σ .sim .steps + 1048576) (rightOf σ)
 
--- with so much fuel no count and no position passes its bound
+-- with this much fuel no count and no position passes its bound
 pub record CountsOk (v : ChainSim) (fuel : ℕ) : Type 0 where
   pub steps-in : v .steps + fuel ≤ 4611686018427387904
   pub fewer : v .macros ≤ v .steps
@@ -41,7 +41,7 @@ pub record RunOk (m : Machine) (stride : ℕ) (σ : Conf) (fuel : ℕ) : Type 0 
   pub sides : SidesOk σ
   pub counts : CountsOk (σ .sim) fuel
 
--- the value after a macro step of n steps that left the sides so
+-- the value after a macro step of n steps that leaves l and r live runs and the symbol c under the head
 abbrev pub landedBy : Dir → (next : State) → ChainSim → (left cur right n : ℕ) → ChainSim
 landedBy d q v l c r n = simWith q (tallied (tallyOf v) n (headFor d (v .tape .head) n)) l c r
 
@@ -52,7 +52,7 @@ pub record SameSizes (σ τ : Conf) : Type 0 where
   pub rs : length (τ .rs) ≡ length (σ .rs)
   pub rl : length (τ .rl) ≡ length (σ .rl)
 
--- a run from σ₀ with `fuel` has come to σ with `left`: what is still to be run has the same answer
+-- a run from σ₀ with `fuel` has come to σ with fuel `left`, and the run from there has the same end
 pub record Going (k : Task) (stride lp rp : ℕ) (σ₀ : Conf) (fuel : ℕ) (σ : Conf) (left : ℕ) : Type 0 where
   pub ok : RunOk (k .machine) stride σ left
   pub lefts : lp ≡ placesOf (σ .ls) (σ .ll)
@@ -60,11 +60,11 @@ pub record Going (k : Task) (stride lp rp : ℕ) (σ₀ : Conf) (fuel : ℕ) (σ
   pub sizes : SameSizes σ₀ σ
   pub same : runOf k left σ ≡ runOf k fuel σ₀
 
--- how a run without fuel ends on the value v, whatever its places hold
+-- o is the outcome of a run with fuel 0 on the value v, whatever its places contain
 pub record Judged (m : Machine) (s : List ℕ) (v : ChainSim) (o : Outcome) : Type 0 where
   pub same : (ls ll rs rl : List ℕ) → end (conf v ls ll rs rl) o ≡ runOf (task m s true Rule.Never) 0 (conf v ls ll rs rl)
 
--- a question
+-- what a question on the tape may assume
 pub record AskOk (σ : Conf) : Type 0 where
   pub sides : SidesOk σ
   pub counts : CountsOk (σ .sim) 0

@@ -1,4 +1,4 @@
-// What every operation on an engine tests before it begins: refusals 8, 11, 12 and 13 after the table check.
+// The checks of an operation on an engine before it begins: the table check, refusals 8, 11 and 12, and 13 for a run.
 use super::ChainSim;
 use super::inner::fits;
 use machine::Checked;
@@ -14,7 +14,7 @@ ghost use Rattle.rle_stack.specs.Model.{side, cellsOf};
 ghost use Rattle.rle.specs.Model.Engine.{conf};
 ghost use Rattle.rle.specs.Fits.{sideFits, chainFits, valueCheck, engineCheck, runCheck};
 
-// How many cells a side has, at most `most`; `most + 1` where it does not fit.
+// The number of a side's cells, at most `most`, where the side fits; else `most + 1`.
 fn measure(symbols: &[u8], lengths: &[u64], count: usize, places: usize, k: u64, most: u64) -> u64
     requires { ⌜ (places ≤ length (now symbols)) × (places ≤ length (now lengths)) × (most < 9223372036854775808) ⌝ }
     ensures { λ r. ⌜ r ≡ pick (sideFits k places most (side (now (symbols .entry)) (now (lengths .entry)) count)) (cellsOf (side (now (symbols .entry)) (now (lengths .entry)) count)) (most + 1) ⌝ }
@@ -71,7 +71,7 @@ impl ChainSim {
         Checked::Accepted
     }
 
-    // The table check, 8, 11, 12.
+    // The table check, then refusals 8, 11 and 12.
     pub fn engine_check(
         self,
         m: Machine,
@@ -94,7 +94,7 @@ impl ChainSim {
         }
     }
 
-    // And 13.
+    // `engine_check`, then refusal 13.
     pub(crate) fn run_check(
         self,
         m: Machine,

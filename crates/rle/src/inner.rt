@@ -1,4 +1,5 @@
-// The steps of the engine's operations, which ask that its live runs have places and that its counts are in bounds.
+// The inner functions of the engine's operations. They require that its live runs have places and that its counts are
+// in bounds.
 pub mod fits;
 
 use super::ChainSim;
@@ -20,7 +21,7 @@ ghost use Rattle.run_rules.specs.Model.Task.{task};
 ghost use Rattle.rle.specs.Model.Engine.{conf, loopsOf, fueledOf, turnOf, end, runOf};
 ghost use Rattle.rle.specs.Invariants.{TableOk, CountsOk, RunOk, Judged, landedBy};
 
-// What comes next in a run, before it is asked whether there is space: its end, or an entry to make.
+// What comes next in a run, before the test for space: the run's end, or an entry to follow.
 pub enum Turn {
     Ends(Outcome),
     Takes(Step),
@@ -52,7 +53,7 @@ fn loops_on(q: State, a: Action, cur: u8, left: usize, right: usize) -> bool
     macro_step::loops(dir, a.write0.0, cur, left, right)
 }
 
-// Whether a proved loop is to be told.
+// Whether the run ends by a proved loop: the entry is one, and the never test is made.
 fn asked(loops: bool, proves: bool) -> bool
     ensures { λ r. ⌜ r ≡ both loops proves ⌝ }
 {
@@ -63,7 +64,7 @@ fn asked(loops: bool, proves: bool) -> bool
 }
 
 impl ChainSim {
-    // With an entry that is no loop, or none that is asked for: fuel, the stop rule, or the entry is to be made.
+    // Where the run does not end by a proved loop: tests fuel, then the stop rule; else gives the entry to follow.
     fn fueled(self, loops: bool, rule: StopRule, a: Action, fuel: u64) -> Turn
         ensures { λ r. ⌜ r ≡ fueledOf loops rule a fuel self ⌝ }
     {
@@ -87,7 +88,7 @@ impl ChainSim {
         })
     }
 
-    // What comes next: halted, never, fuel, the stop rule, in that order, or an entry to make.
+    // Tests halted, never, fuel and the stop rule, in that order; else gives the entry to follow.
     fn decide(
         self,
         m: Machine,
@@ -146,7 +147,7 @@ impl ChainSim {
         }
     }
 
-    // The run by macro steps. One of no steps is one that had no place.
+    // Runs by macro steps. `repeats` is 0 where a macro step has no place for its push; the run then ends full.
     pub(crate) fn run_macro_steps(
         mut self,
         m: Machine,
@@ -202,7 +203,7 @@ impl ChainSim {
     }
 }
 
-// The run; the caller has checked the table, the value and the fuel. Without the never test a proved loop covers all
+// Runs. The caller must have checked the table, the value and the fuel. Without the never test a proved loop covers all
 // the fuel in one macro step.
 pub fn run_all(
     sim: ChainSim,
@@ -223,7 +224,7 @@ pub fn run_all(
     sim.run_macro_steps(m, stride, proves, rule, table, ls, ll, rs, rl, fuel)
 }
 
-// How a run without fuel ends here: the verdict.
+// The verdict: how a run with fuel 0 ends here.
 pub fn verdict(sim: ChainSim, m: Machine, stride: u64, table: &[u8]) -> Outcome
     requires { ⌜ TableOk m stride ⌝ }
     ensures { λ r. ⌜ Judged m (now (table .entry)) sim r ⌝ }

@@ -16,8 +16,8 @@ pub mod inner;
 mod questions;
 mod sides;
 
-// The tape. The runs of each side stand in lent places, of which so many are live. The head's position is raised by
-// 2^63.
+// The tape. The runs of each side lie in lent places; `left` and `right` are the numbers of live runs. The head's
+// position is raised by 2^63.
 pub struct RunTape {
     pub left: usize,
     pub cur: u8,
@@ -25,8 +25,8 @@ pub struct RunTape {
     pub head: u64,
 }
 
-// The engine's value: state, steps, macro steps, tape, and the lowest and the highest head so far, raised as the head
-// is. The places are lent to each call: symbols `ls` and lengths `ll` of the left side, `rs` and `rl` of the right.
+// The engine's value: state, steps, macro steps, tape, and the lowest and the highest head so far, also raised by 2^63.
+// The places are lent to each call: symbols `ls` and lengths `ll` of the left side, `rs` and `rl` of the right.
 pub struct ChainSim {
     pub state: State,
     pub steps: u64,
@@ -49,8 +49,8 @@ pub struct Answered {
 }
 
 impl ChainSim {
-    // Starts in the start state with the word from position 0, the head at 0, all else blank. Nothing is written on
-    // the left side's places.
+    // Makes an engine in the start state, with the word from position 0 on, the head at 0 and all other cells blank.
+    // The left side's places are not written.
     pub fn new(
         m: Machine,
         table: &[u8],

@@ -1,4 +1,4 @@
-// Questions on an engine's tape. Each tests the table and the value first: the table check, 8, 11, 12.
+// Questions on an engine's tape. Each first makes the table check and tests refusals 8, 11 and 12.
 use super::ChainSim;
 use machine::Checked;
 use machine::Machine;
@@ -161,7 +161,7 @@ impl ChainSim {
         }
     }
 
-    // The symbols from a position on, into the whole of `out`; positions past i64 are blank.
+    // Writes the symbols from a position on into the whole of `out`; positions past i64 are blank.
     pub fn window(
         self,
         m: Machine,

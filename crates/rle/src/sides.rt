@@ -1,5 +1,5 @@
-// The tape questions `left` and `right`: the runs of a side as records in a lent slice. These two hold the slice, and are
-// proved by hand; what is decided is in the checks.
+// The tape questions `left` and `right`, which write the runs of a side as records into a lent slice. These two take
+// the slice and are proved by hand; the checks make every decision.
 use super::ChainSim;
 use machine::Checked;
 use machine::Machine;
@@ -11,7 +11,7 @@ ghost use Rattle.rle.specs.Model.Engine.{conf};
 ghost use Rattle.rle.specs.Model.Records.{sideAnswer, leftAnswer, leftInto, rightAnswer, rightInto};
 
 impl ChainSim {
-    // The table check, 8, 11, 12, then 18 where `room` records are too few for `count` runs.
+    // The table check, refusals 8, 11 and 12, then 18 where `room` records are too few for `count` runs.
     fn list_check(
         self,
         m: Machine,
@@ -68,7 +68,7 @@ impl ChainSim {
         self.list_check(m, table, ls, ll, rs, rl, tape.right, room)
     }
 
-    // The runs of the left side, the topmost last, into the first places of `out`; how many they are.
+    // Writes the runs of the left side, the topmost last, into the first places of `out`; returns their number.
     pub fn left<'a, 'b>(
         self,
         m: Machine,
@@ -87,7 +87,7 @@ impl ChainSim {
         listed
     }
 
-    // The same of the right side.
+    // The same for the right side.
     pub fn right<'a, 'b>(
         self,
         m: Machine,

@@ -15,7 +15,7 @@ use Rattle.rle_records.specs.declared.Listed.the-variants.{Filled, Refus
 abbrev pub runAt : List ℕ → List ℕ → ℕ → Run
 runAt ss ls i = record { symbol = symbolOf (getD ss i 0); len = getD ls i 0 }
 
--- places 0 to n − 1 hold runs 0 to n − 1, the others what they held
+-- places 0 to n − 1 get runs 0 to n − 1; the other places are unchanged
 unfoldable pub lay : List ℕ → List ℕ → ℕ → List Run → List Run
 lay ss ls zero out = out
 lay ss ls (suc n) out = set (lay ss ls n out) n (runAt ss ls n)
@@ -28,7 +28,7 @@ recordsOf x out = lay (x .symbols) (x .lengths) (x .count) out
 unfoldable pub roomFor : (count room : ℕ) → Listed
 roomFor count room = pick (leb count room) (Filled count) (Refused Why.OutputSize)
 
--- how many places are written
+-- the number of places written
 abbrev pub writtenOf : Listed → ℕ
 writtenOf (Filled count) = count
 writtenOf (Refused why) = 0

@@ -1,4 +1,4 @@
-// How a side's runs get into the slice. `fill` alone holds a slice of records, and is proved by hand; it decides nothing.
+// Writes a side's runs into the slice. Only `fill` takes a slice of records: it is proved by hand, and decides nothing.
 use super::Listed;
 use super::Run;
 use outcome::Refusal;
@@ -22,7 +22,7 @@ fn run_at<'a>(symbols: &'a [u8], lengths: &'a [u64], i: usize) -> Run
     }
 }
 
-// 18 where a slice of `room` records is too short for `count` runs, else that many.
+// Refusal 18 where a slice of `room` records is too short for `count` runs, else `count`.
 pub fn room_for(count: usize, room: usize) -> Listed
     ensures { λ r. ⌜ r ≡ roomFor count room ⌝ }
 {
@@ -32,7 +32,7 @@ pub fn room_for(count: usize, room: usize) -> Listed
     Listed::Filled(count as u64)
 }
 
-// How many records an answer has written: none where it refuses.
+// How many records are written with an answer: none with a refusal.
 pub fn written(answer: Listed) -> usize
     ensures { λ r. ⌜ r ≡ writtenOf answer ⌝ }
 {

@@ -11,7 +11,7 @@ pub struct Run {
     pub len: u64,
 }
 
-// How many runs the side has, each in its place of the slice; or why the slice is as it was.
+// The number of runs of the side, all written into the slice; or why the slice is unchanged.
 pub enum Listed {
     Filled(u64),
     Refused(Refusal),

@@ -1,4 +1,4 @@
--- When a step is full, of the table machine's configuration and the numbers of lent places alone. Definitions only.
+-- When a step is full, by the table machine's configuration and the numbers of lent places alone. Definitions only.
 use mathlib.Core.Path.{_≡_}
 use Prim.Native.Nat.{ℕ, suc, _≤_}
 use lib.IntN.{ℤ}
@@ -10,12 +10,12 @@ use Rattle.machine.specs.declared.Entry.the-variants.{Defined}
 use Rattle.table_machine.specs.TableMachine.{Table, Tape, Config, readT, entry}
 use Rattle.rle_refines.specs.Meaning.{Stack, empty, over, top, stream, distance, look, RunsFit}
 
--- how many runs
+-- the number of runs
 abbrev pub height : Stack → ℕ
 height empty = 0
 height (over s n r) = suc (height r)
 
--- the two stacks of a tape with symbols below k; the stack rule leaves no other two (`one-pair` in Facts/Canonical)
+-- the two stacks of a tape with symbols below k; the stack rule allows one pair only (`one-pair` in Facts/Canonical)
 pub record Stacked (k : ℕ) (t : Tape) (left right : Stack) : Type 0 where
   pub lefts : RunsFit k left
   pub rights : RunsFit k right

@@ -28,7 +28,7 @@ stackUpto ss ls (suc n) = over (getD ss n 0) (getD ls n 0) (stackUpto ss ls n)
 abbrev pub stackOf : Side → Stack
 stackOf x = stackUpto (x .symbols) (x .lengths) (x .count)
 
--- the nearest symbol; below the bottom run all is blank
+-- the symbol nearest the head; below the bottom run all cells are blank
 abbrev pub top : Stack → ℕ
 top empty = 0
 top (over s n r) = s
@@ -48,7 +48,7 @@ cons a f (suc d) = f d
 abbrev pub tail : Stream → Stream
 tail f d = f (suc d)
 
--- n cells of a, then f
+-- n cells of symbol a, then the cells of f
 abbrev pub prepend : ℕ → ℕ → Stream → Stream
 prepend zero a f = f
 prepend (suc n) a f = cons a (prepend n a f)
@@ -85,7 +85,7 @@ tapeAround l c r h lo hi = record {
 abbrev pub tapeOf : Conf → Tape
 tapeOf σ = tapeAround (streamOf (leftOf σ)) (σ .sim .tape .cur) (streamOf (rightOf σ)) (σ .sim .tape .head) (σ .sim .lowest) (σ .sim .highest)
 
--- the engine is of machines with one tape
+-- the engine runs machines with one tape; the other two tapes are blank
 abbrev pub configOf : Conf → Config
 configOf σ = record {
   state = σ .sim .state .0;
@@ -103,13 +103,13 @@ abbrev pub RunsFit : (k : ℕ) → Stack → Type 0
 RunsFit k empty = Unit {0}
 RunsFit k (over s n r) = (1 ≤ n) × (s < k) × ¬ (s ≡ top r) × RunsFit k r
 
--- the live runs have places
+-- the live runs have places and meet the stack rule, and the side has at most `most` cells
 pub record SideFits (k most : ℕ) (x : Side) : Type 0 where
   pub live : x .count ≤ placesOf (x .symbols) (x .lengths)
   pub runs : RunsFit k (stackOf x)
   pub sum : cellsOf x ≤ most
 
--- position 0 is 2^63
+-- position 0 is stored as 2^63
 pub record ChainFits (m : Machine) (σ : Conf) : Type 0 where
   pub state-in : σ .sim .state .0 < m .states
   pub steps-in : σ .sim .steps ≤ 2 ^ 62
@@ -124,7 +124,7 @@ pub record ChainFits (m : Machine) (σ : Conf) : Type 0 where
   pub left-far : 2 ^ 63 + cellsOf (leftOf σ) ≤ σ .sim .tape .head + σ .sim .steps + 2 ^ 20
   pub right-far : σ .sim .tape .head + cellsOf (rightOf σ) ≤ 2 ^ 63 + σ .sim .steps + 2 ^ 20
 
--- "its furthest cell": the last one of a side's bottom run, as a position; of a side without runs the head's
+-- "its furthest cell": the last cell of a side's bottom run, as a position; for a side without runs the head's
 abbrev pub leftEnd : Conf → ℤ
 leftEnd σ = σ .sim .tape .head ⊖ (2 ^ 63 + cellsOf (leftOf σ))
 
@@ -147,7 +147,7 @@ aheadOn L σ = leftOf σ
 aheadOn R σ = rightOf σ
 aheadOn N σ = rightOf σ
 
--- ---- all is the same but the number of macro steps, and what lies past the live runs
+-- ---- two engine values that differ at most in the number of macro steps, and in what lies past the live runs
 
 pub record Alike (σ τ : Conf) : Type 0 where
   pub state : σ .sim .state ≡ τ .sim .state

@@ -1,4 +1,4 @@
--- What the run-length engine's operations claim, as they are called: by the models that the contracts of `new` and `run` cite. Definitions only.
+-- The claims about the run-length engine's operations, by the models that the contracts of `new` and `run` cite. Definitions only.
 use mathlib.Core.Path.{_≡_}
 use mathlib.Core.Bool.{true}
 use mathlib.Core.List.{List}
@@ -15,12 +15,12 @@ use Rattle.rle.specs.Fits.{engineCheck}
 use Rattle.rle_refines.specs.Meaning.{configOf, ChainFits}
 use Rattle.rle_refines.specs.Statement.{Refines}
 
--- a run from σ that handed τ back and answered o: between the two it is the table machine's, and τ is accepted again
+-- a run from σ that returned τ and answered o: its steps are the table machine's, and the check accepts τ again
 pub record RunHolds (m : Machine) (s : List ℕ) (rule : StopRule) (fuel : ℕ) (σ τ : Conf) (o : Outcome) : Type 0 where
   pub refines : Refines (task m s true rule) fuel σ (end τ o)
   pub accepted : engineCheck m s τ ≡ Accepted
 
--- a fresh engine: "It starts in the start state, heads at 0, tape 0 holding the word from 0 rightward, all else blank."; it is accepted,
+-- a fresh engine: "It starts in the start state, heads at 0, tape 0 holding the word from 0 rightward, all else blank."; the check accepts it,
 -- and the right side's lists are as long as those lent
 pub record NewHolds (m : Machine) (s w rs rl : List ℕ) (σ : Conf) : Type 0 where
   pub holds : configOf σ ≡ start (m .start) w

@@ -1,4 +1,4 @@
--- THE RUN-LENGTH ENGINE REFINES THE TABLE MACHINE: what is claimed of a run of the engine's model. Definitions only.
+-- THE RUN-LENGTH ENGINE REFINES THE TABLE MACHINE: the claim about a run of the engine's model. Definitions only.
 use mathlib.Core.Path.{_≡_}
 use mathlib.Core.Bool.{Bool, true, false}
 use mathlib.Core.List.{List}
@@ -31,7 +31,7 @@ after k j σ = run (tableIn k) j (configOf σ)
 abbrev pub isFull : Conf → Action → Bool
 isFull σ a = noPlace (a .dir0) (a .write0 .0) σ
 
--- the same of the table machine's step from the configuration after j steps, with the places lent
+-- the same for the table machine's step from the configuration after j steps, with the lent places of σ
 abbrev pub FullAfter : Task → ℕ → Conf → Type 0
 FullAfter k j σ = FullAt (k .machine) (tableIn k) (placesOf (σ .ls) (σ .ll)) (placesOf (σ .rs) (σ .rl)) (after k j σ)
 
@@ -58,35 +58,35 @@ pub record Went (k : Task) (made : ℕ) (σ e : Conf) : Type 0 where
   -- "`macro_steps` adds one a macro step", and a macro step is one step or more
   pub macros : e .sim .macros ≤ σ .sim .macros + made
   pub kept : Kept (k .machine) σ e
-  -- no configuration before the last one is halted or a proved loop, and none has the rule's state
+  -- no configuration before the last one is halted, is a proved loop, or has the stop rule's state
   pub running : (j : ℕ) → j < made → ¬ (Halted (tableIn k) (after k j σ))
   pub unproved : (j : ℕ) → j < made → Unproved k (after k j σ)
   pub unmatched : (j : ℕ) → j < made → hasRule k (after k j σ) ≡ false
   -- no step that was made is full, also inside a macro step
   pub roomy : (j : ℕ) → j < made → ¬ (FullAfter k j σ)
 
--- the answer of a run that made `made` of `fuel` steps and stands at e
+-- the answer of a run that made `made` of `fuel` steps and ended at e
 pub data Answers (k : Task) (fuel made : ℕ) (e : Conf) : Outcome → Type 0 where
-  -- with the never test: the verdict there; out of fuel only where all the fuel was used
+  -- with the never test: the verdict at e; out of fuel only where all the fuel was used
   verdict : (o : Outcome) → k .proves ≡ true → Judged k (configOf e) o → ((n : ℕ) → o ≡ OutOfFuel n → made ≡ fuel) → Answers k fuel made e o
-  -- without it: halted, or out of fuel
+  -- without the never test: halted, or out of fuel
   halted : k .proves ≡ false → Halted (tableIn k) (configOf e) → Answers k fuel made e (haltedAt (configOf e))
   spent : k .proves ≡ false → ¬ (Halted (tableIn k) (configOf e)) → made ≡ fuel → Answers k fuel made e (outOfFuelAt (configOf e))
   -- "The stop rule is tested before the macro step, after fuel and before space."
   stopped : (a : Action) → made < fuel → entry (tableIn k) (configOf e) ≡ Defined a → Unproved k (configOf e) → hasRule k (configOf e) ≡ true
       → Answers k fuel made e (Stopped (configOf e .steps))
-  -- there is fuel and an entry a, and no place for its push: nothing of that step was made
+  -- there is fuel and an entry a, but no place for its push: that step was not made
   full : (a : Action) → made < fuel → entry (tableIn k) (configOf e) ≡ Defined a → Unproved k (configOf e) → hasRule k (configOf e) ≡ false
       → isFull e a ≡ true → Answers k fuel made e (Full (configOf e .steps))
 
--- a run from σ that ended so is a run of the table machine
+-- the run from σ that ended in e is a run of the table machine
 pub record Refines (k : Task) (fuel : ℕ) (σ : Conf) (e : End) : Type 0 where
   pub made : ℕ
   pub within : made ≤ fuel
   pub went : Went k made σ (e .at)
   pub answers : Answers k fuel made (e .at) (e .outcome)
 
--- for every table of one tape that is accepted, every engine value that fits, and fuel within the bound (the others are refused: 1 to 6, 8, 12, 13)
+-- for every accepted table of one tape, every engine value that fits, and fuel within the bound (the others are refused: 1 to 6, 8, 12, 13)
 abbrev pub ChainRefines : Type 0
 ChainRefines = (m : Machine) (s : List ℕ) → Bytes s → tableCheck m s ≡ Accepted → m .tapes ≡ 1 → (proves : Bool) (rule : StopRule) (fuel : ℕ) (σ : Conf)
     → ChainFits m σ → σ .sim .steps + fuel ≤ 2 ^ 62 → Refines (task m s proves rule) fuel σ (runOf (task m s proves rule) fuel σ)

@@ -1,5 +1,5 @@
-// An advance of the run-length engine, and its slots. The functions ask that the engine was checked, and that a slot is as
-// long as the engine's places need.
+// An advance of the run-length engine, and its slots. The functions require a checked engine, and a slot of the size
+// for the engine's places.
 pub mod bytes;
 pub mod held;
 
@@ -22,19 +22,19 @@ ghost use Rattle.rle_slots.specs.Model.Advance.{advanceOf};
 ghost use Rattle.rle_slots.specs.Model.Slots.{bytesFor, putValue, packed, part, numbersIn, lent};
 ghost use Rattle.rle_slots.specs.Model.Restored.{restored, restoredOf};
 
-// An engine after an advance, and how it stands there.
+// An engine after an advance, and the outcome there.
 pub struct Advanced {
     pub sim: ChainSim,
     pub outcome: Outcome,
 }
 
-// What a slot holds.
+// What a slot holds: no fitting engine, or an engine.
 pub enum Found {
     Nothing,
     Holds(ChainSim),
 }
 
-// Runs without the never test; where the fuel is used, that test gives the verdict, as a run without fuel would.
+// Runs without the never test. Where all the fuel was used, the outcome is the verdict of a run with fuel 0.
 pub fn advance(
     sim: ChainSim,
     m: Machine,
@@ -77,7 +77,7 @@ pub fn advance(
     }
 }
 
-// How many bytes a slot has for engines with these places.
+// The number of bytes of a slot for an engine with these places.
 pub fn slot_size(ls: &[u8], ll: &[u64], rs: &[u8], rl: &[u64]) -> usize
     requires { ⌜ (placesOf (now ls) (now ll) ≤ 1048576) × (placesOf (now rs) (now rl) ≤ 1048576) ⌝ }
     ensures { λ r. ⌜ r ≡ bytesFor (placesOf (now (ls .entry)) (now (ll .entry))) (placesOf (now (rs .entry)) (now (rl .entry))) ⌝ }
@@ -87,7 +87,7 @@ pub fn slot_size(ls: &[u8], ll: &[u64], rs: &[u8], rl: &[u64]) -> usize
     128 + 9 * (lp + rp)
 }
 
-// Writes the value.
+// Writes an engine's value into the first 64 bytes of a slot.
 fn put_value(sim: ChainSim, slot: &mut [u8])
     requires { ⌜ 128 ≤ length (now slot) ⌝ }
     ensures { λ _. ⌜ now (slot .exit) ≡ putValue sim (now (slot .entry)) ⌝ }
@@ -123,7 +123,7 @@ pub fn save(sim: ChainSim, ls: &[u8], ll: &[u64], rs: &[u8], rl: &[u64], slot: &
     bytes::put_numbers(slot, right_lengths, rl, tape.right);
 }
 
-// Reads the live runs of a side, whose symbols stand from `at` on and whose lengths from `from` on.
+// Reads the live runs of a side, whose symbols begin at byte `at` and whose lengths begin at byte `from`.
 fn take_side(
     slot: &[u8],
     at: usize,
@@ -143,7 +143,7 @@ fn take_side(
     bytes::take_numbers(lengths, &slot[from..last], count);
 }
 
-// Reads the engine of that step from a slot into the places. Where the slot holds none that fits, nothing is written.
+// Reads the engine of step `step` from a slot into the places. Writes nothing where the slot holds none that fits.
 pub fn restore(
     m: Machine,
     slot: &[u8],

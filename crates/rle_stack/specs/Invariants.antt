@@ -4,7 +4,7 @@ use Prim.Native.Nat.{ℕ, _≤_}
 use lib.ListN.{length}
 use Rattle.rle_stack.specs.Model.{Side, cellsOf}
 
--- its live runs have places, and its cells are at most so many
+-- the live runs have places, and the side has at most `most` cells
 pub record SideOk (places most : ℕ) (x : Side) : Type 0 where
   pub live : x .count ≤ places
   pub symbols-in : places ≤ length (x .symbols)

@@ -1,4 +1,4 @@
--- One side of a tape as a stack of runs in lent places, as the code goes: "top nearest the head". Definitions only.
+-- The model of the code for one side of a tape, a stack of runs in lent places: "top nearest the head". Definitions only.
 use mathlib.Core.Bool.{Bool, false, not}
 use mathlib.Core.List.{List}
 use Prim.Native.Nat.{ℕ, zero, suc, _+_, _-_, min}
@@ -7,7 +7,7 @@ use lib.ListN.{length, getD, set}
 use Rattle.notation.specs.Choice.{pick, both}
 use Rattle.notation.specs.Scan.{allIn}
 
--- the symbols and the lengths of the runs, of which the first `count` are live, the last of these on top
+-- the symbols and the lengths of the runs; the first `count` runs are live, and the last of these is on top
 pub record Side : Type 0 where
   pub symbols : List ℕ
   pub lengths : List ℕ
@@ -16,11 +16,11 @@ pub record Side : Type 0 where
 abbrev pub side : List ℕ → List ℕ → ℕ → Side
 side ss ls n = record { symbols = ss; lengths = ls; count = n }
 
--- a side's places: the shorter of its two slices
+-- the number of places of a side: the length of its shorter slice
 abbrev pub placesOf : List ℕ → List ℕ → ℕ
 placesOf ss ls = min (length ss) (length ls)
 
--- the symbol of run n − 1; below the bottom run all is blank
+-- the symbol of run n − 1; below the bottom run all cells are blank
 unfoldable pub symbolUnder : List ℕ → ℕ → ℕ
 symbolUnder ss n = pick (eqb n 0) 0 (getD ss (n - 1) 0)
 
@@ -33,7 +33,7 @@ aheadOf a x =
     pick (eqb (x .count) 0) 0
     (pick (eqb (getD (x .symbols) (x .count - 1) 0) a) (getD (x .lengths) (x .count - 1) 0) 0)
 
--- n cells of symbol s on top: a top run of s grows, blanks on an empty side are not kept, else there is a new run
+-- a push of n cells of symbol s: a top run of s grows, an empty side stores no blanks, and any other push makes a new run
 unfoldable pub grownOf : ℕ → Side → Side
 grownOf n x =
     pick (eqb (x .count) 0) x
@@ -48,11 +48,11 @@ pushOf s n x =
 unfoldable pub lacks : (places s : ℕ) → Side → Bool
 lacks places s x = pick (eqb s (topOf x)) false (leb places (x .count))
 
--- the top run has length m; a run of none is gone
+-- the top run gets length m; a run of length 0 is removed
 abbrev pub resized : ℕ → Side → Side
 resized m x = side (x .symbols) (set (x .lengths) (x .count - 1) m) (pick (eqb m 0) (x .count - 1) (x .count))
 
--- n cells off the top run
+-- n cells are taken off the top run
 unfoldable pub takeOf : ℕ → Side → Side
 takeOf n x = pick (eqb (x .count) 0) x (resized (getD (x .lengths) (x .count - 1) 0 - n) x)
 
@@ -75,7 +75,7 @@ cellsOf x = sumOf (x .lengths) (x .count)
 
 -- ---- questions
 
--- the symbol at distance d from the head, where the next cell is at 0, among the first n runs, the last of these next to the head
+-- the symbol at distance d from the head, in the first n runs, of which the last is next to the head; the next cell is at distance 0
 unfoldable pub symbolIn : (ss ls : List ℕ) → (n d : ℕ) → ℕ
 symbolIn ss ls zero d = 0
 symbolIn ss ls (suc n) d =
@@ -96,6 +96,6 @@ weightOf ss ls (suc n) = weightOf ss ls n + weightAt ss ls n
 abbrev pub writtenOf : Side → ℕ
 writtenOf x = weightOf (x .symbols) (x .lengths) (x .count)
 
--- how far the nearest cell that is not blank lies, the next cell at 1, on a side with runs: a blank run on top lies over another
+-- the distance of the nearest cell that is not blank, on a side with runs; the next cell is at distance 1, and the run under a blank top run is not blank
 unfoldable pub nearOf : Side → ℕ
 nearOf x = pick (eqb (topOf x) 0) (getD (x .lengths) (x .count - 1) 0 + 1) 1

@@ -1,4 +1,4 @@
-// The operations of one side, which ask that its live runs have places.
+// The operations of one side. They require that its live runs have places.
 ghost use mathlib.Core.Path.{_≡_};
 ghost use mathlib.Core.Bool.{false};
 ghost use mathlib.Core.List.{List};
@@ -6,7 +6,7 @@ ghost use Prim.Native.Nat.{ℕ, _+_, _-_, _≤_, _<_, min};
 ghost use lib.ListN.{length, getD};
 ghost use Rattle.rle_stack.specs.Model.{side, placesOf, symbolUnder, aheadOf, pushOf, lacks, takeOf, runFits, runsFit, sumOf, symbolIn, weightAt, weightOf, nearOf};
 
-// The symbol next to the head; below the bottom run all is blank.
+// The symbol next to the head; below the bottom run all cells are blank.
 pub fn top(symbols: &[u8], count: usize) -> u8
     requires { ⌜ count ≤ length (now symbols) ⌝ }
     ensures { λ r. ⌜ r ≡ symbolUnder (now (symbols .entry)) count ⌝ }
@@ -42,7 +42,7 @@ pub fn lacks(symbols: &[u8], count: usize, places: usize, s: u8) -> bool
     places <= count
 }
 
-// Puts n cells of `s` next to the head; the new count.
+// Puts n cells of `s` next to the head, and returns the new count of runs.
 pub fn push(symbols: &mut [u8], lengths: &mut [u64], count: usize, s: u8, n: u64) -> usize
     requires { ⌜ (count ≤ length (now symbols)) × (count ≤ length (now lengths)) ⌝ }
     requires { ⌜ lacks (placesOf (now symbols) (now lengths)) s (side (now symbols) (now lengths) count) ≡ false ⌝ }
@@ -61,7 +61,7 @@ pub fn push(symbols: &mut [u8], lengths: &mut [u64], count: usize, s: u8, n: u64
     count + 1
 }
 
-// x - y, or 0.
+// x - y, or 0 where y is larger.
 fn less(x: u64, y: u64) -> u64
     ensures { λ r. ⌜ r ≡ x - y ⌝ }
 {
@@ -71,7 +71,7 @@ fn less(x: u64, y: u64) -> u64
     x - y
 }
 
-// Takes n cells off the run next to the head; the new count.
+// Takes n cells off the run next to the head, and returns the new count of runs.
 pub fn take(lengths: &mut [u64], count: usize, n: u64) -> usize
     requires { ⌜ count ≤ length (now lengths) ⌝ }
     ensures { λ r. ⌜ ((ss : List ℕ) → side ss (now (lengths .exit)) r ≡ takeOf n (side ss (now (lengths .entry)) count)) ⌝ }
@@ -87,7 +87,7 @@ pub fn take(lengths: &mut [u64], count: usize, n: u64) -> usize
     count
 }
 
-// A side's places: as many as both slices have.
+// The number of places of a side: the length of its shorter slice.
 pub fn places(symbols: &[u8], lengths: &[u64]) -> usize
     ensures { λ r. ⌜ r ≡ placesOf (now (symbols .entry)) (now (lengths .entry)) ⌝ }
 {
@@ -117,7 +117,7 @@ fn wide(x: u8) -> u64
     x as u64
 }
 
-// Whether the live runs are a stack of runs with symbols below k.
+// Whether the live runs meet the stack rule, with symbols below k.
 pub fn runs_fit(symbols: &[u8], lengths: &[u64], count: usize, k: u64) -> bool
     requires { ⌜ (count ≤ length (now symbols)) × (count ≤ length (now lengths)) ⌝ }
     ensures { λ r. ⌜ r ≡ runsFit k (side (now (symbols .entry)) (now (lengths .entry)) count) ⌝ }
@@ -149,7 +149,7 @@ pub fn cells(lengths: &[u64], count: usize, most: u64) -> u64
     sum
 }
 
-// The symbol at a distance from the head, where the next cell is at 0.
+// The symbol at a distance from the head; the next cell is at distance 0.
 pub fn symbol_at(symbols: &[u8], lengths: &[u64], count: usize, distance: u64) -> u8
     requires { ⌜ (count ≤ length (now symbols)) × (count ≤ length (now lengths)) ⌝ }
     ensures { λ r. ⌜ r ≡ symbolIn (now (symbols .entry)) (now (lengths .entry)) count distance ⌝ }
@@ -193,7 +193,7 @@ pub fn written(symbols: &[u8], lengths: &[u64], count: usize) -> u64
     sum
 }
 
-// How far the nearest cell that is not blank lies on a side with runs, the next cell at 1.
+// The distance of the nearest cell that is not blank, on a side with runs; the next cell is at distance 1.
 pub fn near(symbols: &[u8], lengths: &[u64], count: usize) -> u64
     requires { ⌜ (0 < count) × (count ≤ length (now symbols)) × (count ≤ length (now lengths)) ⌝ }
     requires { ⌜ sumOf (now lengths) count < 9223372036854775808 ⌝ }

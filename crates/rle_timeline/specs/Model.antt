@@ -1,4 +1,4 @@
--- What the timeline's operations over the run-length engine answer and leave, as the timeline's rule has it. Definitions only.
+-- The results of the timeline's operations over the run-length engine, in the form of the timeline's rule. Definitions only.
 use mathlib.Core.Path.{_≡_}
 use mathlib.Core.List.{List}
 use Prim.Native.Nat.{ℕ, _+_, _*_, _≤_}
@@ -30,22 +30,22 @@ withLent v ls ll rs rl t = timelineOf chainKind (conf (v .engine) ls ll rs rl) t
 abbrev pub tl : ChainSim → Times → Timeline
 tl e v = record { engine = e; times = v }
 
--- an answer, with what is handed back
+-- an answer, with the timeline handed back
 abbrev pub replied : Answer → TimelineOf chainKind → Reply Outcome × TimelineOf chainKind
 replied (Ans.Refused why) w = (refused why, w)
 replied (Ans.Done o) w = (answered o, w)
 
--- a new timeline's answer, with the store as it is left
+-- the answer of `new`, with the store that it leaves
 abbrev pub begun : Begun → (ls ll rs rl store : List ℕ) → Reply (TimelineOf chainKind) × List ℕ
 begun (New.Refused why) ls ll rs rl t = (refused why, t)
 begun (New.Made v) ls ll rs rl t = (answered (withLent v ls ll rs rl t), t)
 
--- an engine that passes its check, with run places for slots of that size
+-- an engine that passes its check, whose run places give slots of that size
 pub record Fits (m : Machine) (s : List ℕ) (size : ℕ) (e : Conf) : Type 0 where
   pub accepted : engineCheck m s e ≡ Accepted
   pub sized : slotSize m e ≡ size
 
--- ---- what the parts of a call ask
+-- ---- the requirements of the parts of a call
 
 -- an engine whose live runs have places, and slot i of a store with slots of its size
 pub record SaveAt (m : Machine) (e : Conf) (size i : ℕ) (store : List ℕ) : Type 0 where
@@ -54,7 +54,7 @@ pub record SaveAt (m : Machine) (e : Conf) (size i : ℕ) (store : List ℕ) : T
   pub sized : slotSize m e ≡ size
   pub inside : i * size + size ≤ length store
 
--- an engine that may advance to a target, or to where the next slot is due
+-- an engine that can advance to a target, or to the step of the next slot
 pub record StrideAt (m : Machine) (s : List ℕ) (target : ℕ) (v : Times) (e : Conf) : Type 0 where
   pub accepted : engineCheck m s e ≡ Accepted
   pub numbers : TimesFit v

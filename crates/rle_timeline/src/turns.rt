@@ -17,20 +17,20 @@ ghost use Rattle.rle_slots.specs.Model.Slots.{packOf};
 ghost use Rattle.rle_slots.specs.Model.Kind.{chainKind};
 ghost use Rattle.rle_timeline.specs.Model.{SaveAt, StrideAt, Fits, withLent, tl};
 
-// Where a turn came to, how its advance ended, and whether it is the last.
+// The timeline after a turn, the outcome of its advance, and whether the turn is the last.
 pub(crate) struct Turn {
     pub timeline: Timeline,
     pub outcome: Outcome,
     pub done: bool,
 }
 
-// Where the loop ended, and how.
+// The timeline after the loop, and the outcome of the last advance.
 pub(crate) struct Sought {
     pub timeline: Timeline,
     pub outcome: Outcome,
 }
 
-// The engine into slot i of the store.
+// Saves the engine in slot i of the store.
 pub(crate) fn save_at(
     sim: ChainSim,
     m: Machine,
@@ -50,7 +50,7 @@ pub(crate) fn save_at(
     engine::save(sim, ls, ll, rs, rl, &mut store[at..end]);
 }
 
-// An advance to the target, or to where the next slot is due.
+// Advances to the target, or to the step of the next slot where that comes first.
 fn stride(
     sim: ChainSim,
     m: Machine,
@@ -71,7 +71,7 @@ fn stride(
 }
 
 impl Timeline {
-    // Records the engine where a slot is due. The engine and its buffers stay.
+    // Records the engine if a slot is due. The engine and its buffers stay as they are.
     fn record_due(
         self,
         m: Machine,
@@ -95,7 +95,7 @@ impl Timeline {
         sums::recorded(times, store, size)
     }
 
-    // One turn of the loop. It is the last at the target, or where the engine does not move: halted or full.
+    // One turn of the loop. It is the last at the target, or where the engine makes no step: halted or full.
     fn turn(
         self,
         m: Machine,

@@ -12,8 +12,8 @@ use Rattle.timeline_laws.specs.Meaning.{EngineMeaning}
 use Rattle.rle_slots.specs.Model.Slots.{leftsOf, rightsOf}
 use Rattle.rle_slots.specs.Model.Kind.{chainKind}
 
--- what decides all that is to come: the configuration held, and the lent places of the two sides;
--- neither the macro steps, nor what lies past the live runs
+-- what determines all later steps: the configuration held, and the numbers of lent places of the two sides,
+-- but neither the macro steps nor what lies past the live runs
 pub record Meant : Type 0 where
   pub config : Config
   pub lefts : ℕ
@@ -26,7 +26,7 @@ abbrev pub meanOf : Conf → Meant
 meanOf σ = meant (configOf σ) (leftsOf σ) (rightsOf σ)
 
 module _ (m : Machine) (s : List ℕ) where
-  -- a step of the table machine; the places stay
+  -- a step of the table machine; the places stay the same
   abbrev pub nextOf : Meant → Meant
   nextOf x = meant (step (tableOf m s) (x .config)) (x .lefts) (x .rights)
 
@@ -34,11 +34,11 @@ module _ (m : Machine) (s : List ℕ) where
   abbrev pub NoRoom : Meant → Type 0
   NoRoom x = FullAt m (tableOf m s) (x .lefts) (x .rights) (x .config)
 
-  -- the same of the step from the j-th configuration of the run from that of the engine e, with its places
+  -- the same for the step from configuration j of the run from the configuration that e holds, with the places of e
   abbrev pub FullStep : Conf → ℕ → Type 0
   FullStep e j = FullAt m (tableOf m s) (leftsOf e) (rightsOf e) (run (tableOf m s) j (configOf e))
 
--- One engine is another, in as many places: all that document 01 leaves determined is equal. (What lies past the live runs is not.)
+-- Two values are the same engine, in as many places: all that document 01 determines is equal. (It does not determine what lies past the live runs.)
 pub record SameEngine (v u : Conf) : Type 0 where
   -- state, steps, macro steps, the cell read, head, lowest and highest, and how many runs each side has
   pub value : v .sim ≡ u .sim
@@ -49,6 +49,6 @@ pub record SameEngine (v u : Conf) : Type 0 where
   pub left-places : leftsOf v ≡ leftsOf u
   pub right-places : rightsOf v ≡ rightsOf u
 
--- the kind of engine, the configuration that its value holds, its full steps, and when an engine is another
+-- the kind of engine, the configuration that its value holds, its full steps, and when two values are the same engine
 abbrev pub chainEngine : EngineMeaning
 chainEngine = record { kind = chainKind; config = λ m σ. configOf σ; FullStep = FullStep; Same = λ m v u. SameEngine v u }

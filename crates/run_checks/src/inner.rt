@@ -1,4 +1,4 @@
-// Steps of the plain engine's operations, which ask that numbers lie inside their bounds.
+// The inner functions of the plain engine's operations. They require that numbers lie inside their bounds.
 pub mod look;
 pub mod sizes;
 pub mod words;

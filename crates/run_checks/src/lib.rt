@@ -1,2 +1,2 @@
-// What the plain engine asks before it begins, and before each step of a run, over tapes and their cells.
+// What the plain engine checks before an operation begins and before each step of a run, over tapes and their cells.
 pub mod inner;

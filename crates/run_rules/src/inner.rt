@@ -1,4 +1,4 @@
-// The stop rule, as the runs of both engines ask it.
+// The stop rule, as the runs of both engines test it.
 use super::StopRule;
 use symbol::State;
 ghost use mathlib.Core.Path.{_≡_};

@@ -1,4 +1,4 @@
-// What a run stops by and how it is answered, for both engines; and, in specs, a run over any kind of configuration.
+// The stop rule and the answers of a run, for both engines; and, in specs, a run over any kind of configuration.
 use outcome::Outcome;
 use outcome::Refusal;
 use symbol::State;
@@ -6,8 +6,8 @@ use symbol::State;
 pub mod inner;
 pub mod questions;
 
-// When a run stops besides: never, or by this state; the plain engine after a step that left it, the run-length engine
-// before a macro step in it.
+// The stop rule: none, or this state. The plain engine stops after a step from this state, the run-length engine before
+// a macro step from it.
 pub enum StopRule {
     Never,
     From(State),

@@ -1,4 +1,4 @@
-// What a question on an engine's tape is answered.
+// The answers to questions on an engine's tape.
 use outcome::Refusal;
 use symbol::Symbol;
 use tape::Span;

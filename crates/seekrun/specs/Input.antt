@@ -1,4 +1,4 @@
--- What was read of the input lies in the buffer. Definitions only.
+-- The bytes that were read lie in the buffer. Definitions only.
 use mathlib.Core.List.{List}
 use Prim.Native.Nat.{ℕ}
 use Rattle.io.specs.Counts.{Counts}

@@ -1,10 +1,11 @@
-// Reads a listing from standard input, and writes its rows to standard output. Of a longer input the first 65,536 bytes
-// are read: they are answered as the whole is (`answer-first`, in the specs of listing). Where a read fails, nothing is
-// written to standard output, and one line to standard error; where a write fails, one line to standard error.
+// Reads a listing from standard input, and writes its rows to standard output. It reads at most 65,536 bytes: the first
+// 65,536 have the same answer as the whole input (`answer-first`, in the specs of listing). Where a read fails, it
+// writes nothing to standard output and one line to standard error. Where a write fails, it writes one line to standard
+// error.
 use listing::Listed;
 ghost use Rattle.seekrun.specs.Input.{InputIn};
 
-// How many bytes were read, or that a read failed.
+// The number of bytes read, or that a read failed.
 enum Input {
     Read(usize),
     Failed,
@@ -29,14 +30,14 @@ fn read_input(buf: &mut [u8]) -> Input
     Input::Read(at)
 }
 
-// Writes the answer, or that it cannot be written.
+// Writes the answer; where this fails, writes a line to standard error.
 fn write_output(answer: &[u8]) {
     if !io::write_all(1, answer) {
         io::write_all(2, b"seekrun: standard output cannot be written\n");
     }
 }
 
-// What the input's listing answers.
+// Writes the answer to the input's listing.
 fn answer(input: &[u8]) {
     let mut output = io::large_buffer();
     let listed = listing::list(input, &mut output);

@@ -1,4 +1,4 @@
-// What every operation on an engine tests before it begins: refusals 11, 12 and 13 after the table check.
+// The checks of operations on an engine: the table check, then refusals 11, 12 and 13.
 use super::Simulator;
 use machine::Checked;
 use machine::Machine;
@@ -34,7 +34,7 @@ impl Simulator {
         sizes::tape_fits(2 < t, k, t2, c2)
     }
 
-    // 11, 12.
+    // Refusals 11 and 12.
     fn value_check(self, m: Machine, c0: &[u8], c1: &[u8], c2: &[u8]) -> Checked
         ensures { λ r. ⌜ r ≡ valueCheck m (conf self (now (c0 .entry)) (now (c1 .entry)) (now (c2 .entry))) ⌝ }
     {
@@ -47,7 +47,7 @@ impl Simulator {
         Checked::Accepted
     }
 
-    // The table check, 11, 12.
+    // The table check, then refusals 11 and 12.
     pub fn engine_check(self, m: Machine, table: &[u8], c0: &[u8], c1: &[u8], c2: &[u8]) -> Checked
         ensures { λ r. ⌜ r ≡ engineCheck m (now (table .entry)) (conf self (now (c0 .entry)) (now (c1 .entry)) (now (c2 .entry))) ⌝ }
     {
@@ -62,7 +62,7 @@ impl Simulator {
         }
     }
 
-    // 11, 12, 13.
+    // Refusals 11, 12 and 13.
     pub(crate) fn fuel_check(
         self,
         m: Machine,
@@ -87,7 +87,7 @@ impl Simulator {
         }
     }
 
-    // The table check, 11, 12, 13.
+    // The table check, then refusals 11, 12 and 13.
     pub(crate) fn run_check(
         self,
         m: Machine,

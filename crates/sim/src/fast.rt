@@ -9,7 +9,7 @@ ghost use Rattle.sim.specs.Model.Engine.{conf};
 ghost use Rattle.sim.specs.Model.Operations.{fastCheck};
 
 impl Simulator {
-    // The table check, 7, 11, 12, 13.
+    // The table check, then refusals 7, 11, 12 and 13.
     pub(crate) fn fast_check(
         self,
         m: Machine,

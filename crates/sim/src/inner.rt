@@ -1,4 +1,4 @@
-// What is decided before a step of a run, the step, and the run. They ask that the engine's numbers lie inside its cells.
+// The tests before a step of a run, the step, and the run. They require that the engine's numbers lie inside its cells.
 use super::Answered;
 use super::Simulator;
 use super::StopRule;
@@ -15,7 +15,7 @@ ghost use Rattle.sim.specs.Model.Operations.{given, answerOf, runCheck};
 ghost use Rattle.sim.specs.Model.Turns.{choiceOf, LookOk, StepOk};
 
 impl Simulator {
-    // Halted, never, fuel, space, in that order, before each step of a run.
+    // The tests before each step of a run: halted, never, fuel, space, in that order.
     pub(crate) fn decide(
         self,
         m: Machine,
@@ -51,7 +51,7 @@ impl Simulator {
         )
     }
 
-    // Makes the step; the caller has asked for room.
+    // Makes the step. The caller must have tested that there is room.
     pub(crate) fn advance(self, c0: &mut [u8], c1: &mut [u8], c2: &mut [u8], a: Action) -> Simulator
         requires { ⌜ StepOk self (now c0) (now c1) (now c2) a ⌝ }
         ensures { λ r. ⌜ conf r (now (c0 .exit)) (now (c1 .exit)) (now (c2 .exit)) ≡ stepOf (conf self (now (c0 .entry)) (now (c1 .entry)) (now (c2 .entry))) a ⌝ }
@@ -76,8 +76,8 @@ impl Simulator {
     }
 }
 
-// The run over a table whose check was passed. Without the never test it makes all the fuel, or ends halted or full,
-// or by the stop rule.
+// The run, after its check has passed. Without the never test it uses all the fuel, or ends halted, full, or by the
+// stop rule.
 pub fn run_all(
     sim: Simulator,
     m: Machine,

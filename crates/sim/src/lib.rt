@@ -1,4 +1,4 @@
-// The plain engine: one step at a time on dense tapes, one to three of them.
+// The plain engine: one step at a time, on one to three dense tapes.
 use machine::Checked;
 use machine::Machine;
 use outcome::Outcome;
@@ -20,8 +20,8 @@ pub mod questions;
 mod runs;
 mod small;
 
-// The engine's value. Its cells are lent, one buffer for each tape; fields and buffers of tapes that the machine
-// lacks are neither read nor changed.
+// The engine's value. The caller lends its cells, one buffer for each tape. Fields and buffers of tapes that the
+// machine lacks are neither read nor changed.
 pub struct Simulator {
     pub state: State,
     pub steps: u64,
@@ -30,13 +30,13 @@ pub struct Simulator {
     pub t2: Tape,
 }
 
-// The engine handed back, with the answer.
+// The engine after the operation, and the answer.
 pub struct Answered {
     pub sim: Simulator,
     pub answer: Answer,
 }
 
-// What a step found, or why it was refused.
+// The status after a step, or the refusal.
 pub enum StepAnswer {
     Done(Status),
     Refused(Refusal),
@@ -47,13 +47,13 @@ pub struct Stepped {
     pub answer: StepAnswer,
 }
 
-// A fresh engine, or why there is none.
+// A fresh engine, or the refusal.
 pub enum Fresh {
     Made(Simulator),
     Refused(Refusal),
 }
 
-// What the answer of a run of one step says of the step.
+// The answer of a step, from the answer of a run of one step.
 fn step_answer(answer: Answer) -> StepAnswer
     ensures { λ r. ⌜ r ≡ stepAnswerOf answer ⌝ }
 {
@@ -63,7 +63,7 @@ fn step_answer(answer: Answer) -> StepAnswer
     }
 }
 
-// What the end of a run of one step says of the step.
+// The status of a step, from the outcome of a run of one step.
 fn status_of(outcome: Outcome) -> Status
     ensures { λ r. ⌜ r ≡ statusOf outcome ⌝ }
 {
@@ -77,7 +77,7 @@ fn status_of(outcome: Outcome) -> Status
 }
 
 impl Simulator {
-    // Starts in the start state with the word on tape 0, heads at position 0, all else blank.
+    // A fresh engine: the start state, the word on tape 0, heads at position 0, all else blank.
     pub fn new(
         m: Machine,
         table: &[u8],
@@ -109,7 +109,7 @@ impl Simulator {
         }
     }
 
-    // Runs until the machine halts, is shown never to halt, has used its fuel, lacks space, or stops by the rule.
+    // Runs until the machine halts, is proved never to halt, has used its fuel, lacks space, or stops by the rule.
     pub fn run(
         self,
         m: Machine,
@@ -139,7 +139,7 @@ impl Simulator {
         )
     }
 
-    // The same over packed words, which must be the table's; for machines of one tape.
+    // The same over packed words, which must be those of the table. The machine must have one tape.
     pub fn run_packed(
         self,
         m: Machine,
@@ -157,7 +157,7 @@ impl Simulator {
         self.run_checked(checked, m, true, rule, table, true, words, c0, c1, c2, fuel)
     }
 
-    // Makes one step, whether or not it is a proved loop, or says that the machine has halted or lacks space.
+    // Makes one step, even where it is a proved loop, or answers that the machine has halted or lacks space.
     pub fn step(
         self,
         m: Machine,

@@ -39,7 +39,7 @@ impl Simulator {
         self.t2
     }
 
-    // The table check, 11, 12, also for a tape that the machine lacks.
+    // The table check, then refusals 11 and 12. A tape that the machine lacks gets 12.
     fn question_check(
         self,
         m: Machine,
@@ -65,7 +65,7 @@ impl Simulator {
         }
     }
 
-    // The symbol at a position; a cell outside is blank.
+    // The symbol at a position; a cell outside the tape is blank.
     pub fn get<'a>(
         self,
         m: Machine,
@@ -141,7 +141,7 @@ impl Simulator {
         }
     }
 
-    // The symbols from a position on, into the whole of `out`; positions past i64 are blank.
+    // Fills `out` with the symbols from a position on; positions past i64 are blank.
     pub fn window<'a>(
         self,
         m: Machine,
@@ -169,7 +169,7 @@ impl Simulator {
         }
     }
 
-    // The nearest non-blank cell at a position or beyond it that way; N looks at the position alone.
+    // The nearest non-blank cell at a position or beyond it in direction `dir`; N tests the position alone.
     pub fn find_non_blank<'a>(
         self,
         m: Machine,

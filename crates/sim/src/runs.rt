@@ -1,4 +1,4 @@
-// The run: bursts of ordinary steps, and at each doubt one step that is decided.
+// The run: bursts of ordinary steps. After each burst the run decides whether it ends or makes one more step.
 use super::Answer;
 use super::Answered;
 use super::Simulator;
@@ -34,7 +34,7 @@ pub struct Ahead {
     pub left: u64,
 }
 
-// The state that the stop rule has; no state is 65,536.
+// The state of the stop rule. Where it is Never, this is 65,536, which is no state.
 fn stop_of(rule: StopRule) -> usize
     ensures { λ r. ⌜ Misses rule r ⌝ }
 {
@@ -48,7 +48,7 @@ fn stop_of(rule: StopRule) -> usize
     }
 }
 
-// The run that the stop rule ends.
+// The end of a run by the stop rule.
 fn stopped(sim: Simulator) -> Ran
     ensures { λ r. ⌜ (r .sim ≡ sim) × (r .outcome ≡ Stopped (sim .steps)) ⌝ }
 {
@@ -88,7 +88,7 @@ impl Simulator {
         true
     }
 
-    // Where a burst on this value starts.
+    // The start of a burst, from this value.
     fn burst_start(self, left: u64) -> BurstState
         ensures { λ r. ⌜ (r ≡ burstStart self left) × (r .state < 65536) ⌝ }
     {
@@ -103,7 +103,7 @@ impl Simulator {
         }
     }
 
-    // The value after a burst, which had `left` fuel.
+    // The value after a burst that began with fuel `left`.
     fn after(self, at: BurstState, left: u64) -> Ahead
         requires { ⌜ (self .steps + left ≤ 4611686018427387904) × (at .left ≤ left) × (at .state < 65536) ⌝ }
         ensures { λ r. ⌜ (r .sim ≡ into self (self .steps + (left - at .left)) at) × (r .left ≡ at .left) ⌝ }
@@ -130,7 +130,7 @@ impl Simulator {
         }
     }
 
-    // The ordinary steps on one tape, over the words where they are packed; none where no burst may run.
+    // Makes the ordinary steps on one tape, over the words where `packed` is true. Makes none where no burst may run.
     fn burst_one(
         self,
         m: Machine,
@@ -160,7 +160,7 @@ impl Simulator {
         self.after(at, left)
     }
 
-    // Where a burst on several tapes starts on this value.
+    // The start of a burst on several tapes, from this value.
     fn wide(self, left: u64) -> WideBurstState
         ensures { λ r. ⌜ r ≡ wideBurstStart self left ⌝ }
     {
@@ -176,7 +176,7 @@ impl Simulator {
         }
     }
 
-    // The value after a burst on several tapes, which had `left` fuel.
+    // The value after a burst on several tapes that began with fuel `left`.
     fn onward(self, at: WideBurstState, left: u64) -> Ahead
         requires { ⌜ (self .steps + left ≤ 4611686018427387904) × (at .left ≤ left) ⌝ }
         ensures { λ r. ⌜ (r .sim ≡ intoWide (self .steps + (left - at .left)) at) × (r .left ≡ at .left) ⌝ }
@@ -196,7 +196,7 @@ impl Simulator {
         }
     }
 
-    // The ordinary steps from here.
+    // Makes the ordinary steps from this value.
     fn burst(
         self,
         m: Machine,
@@ -235,7 +235,7 @@ impl Simulator {
         self.onward(at, left)
     }
 
-    // The run over a table, or over its words where they are packed.
+    // The run over a table, or over its words where `packed` is true.
     pub(crate) fn run_bursts(
         mut self,
         m: Machine,
@@ -289,7 +289,7 @@ impl Simulator {
         }
     }
 
-    // What an operation answers once its check is made: the refusal, with nothing touched, or the run.
+    // The answer of an operation after its check: the refusal, with nothing changed, or the run.
     pub(crate) fn run_checked(
         self,
         checked: Checked,

@@ -1,5 +1,5 @@
-// The run over a small table, which is packed first where the run is long: a step over words takes less than one over
-// the table's bytes.
+// The run over a small table. Where the fuel is large the table is packed first: a step over words takes less time than
+// one over the table's bytes.
 use super::Simulator;
 use super::StopRule;
 use super::runs::Ran;
@@ -12,7 +12,7 @@ ghost use Rattle.sim.specs.Model.Engine.{task, conf, end, runOf};
 ghost use Rattle.sim.specs.Model.Turns.{RunOk};
 ghost use Rattle.sim.specs.Model.Bursts.{WordsIf, Small, SmallIf};
 
-// Whether the packing pays: a table of one tape that is not packed yet and has at most 256 entries, and fuel enough.
+// Whether to pack the table first: not packed yet, one tape, at most 256 entries, and a fuel of at least 1,024.
 fn worth_packing(packed: bool, m: Machine, fuel: u64) -> bool
     requires { ⌜ (m .states ≤ 65536) × (m .symbols ≤ 256) ⌝ }
     ensures { λ r. ⌜ SmallIf r m ⌝ }
@@ -30,7 +30,7 @@ fn worth_packing(packed: bool, m: Machine, fuel: u64) -> bool
 }
 
 impl Simulator {
-    // The run over the words of a small table.
+    // Packs a small table and runs over its words.
     fn run_small(
         self,
         m: Machine,
@@ -67,7 +67,7 @@ impl Simulator {
         )
     }
 
-    // The run, over words where they are given or where the packing pays.
+    // The run, over words where they are given or where `worth_packing` is true.
     pub(crate) fn run_over(
         self,
         m: Machine,

@@ -1,4 +1,4 @@
-// Steps of the plain engine's runs, which ask that numbers lie inside their bounds.
+// Steps of the plain engine's runs. The functions require that numbers lie inside their bounds.
 pub mod packed;
 pub mod step;
 pub mod table;

@@ -1,4 +1,4 @@
--- A burst of ordinary steps on several tapes: what it asks before each step, one step, and what it keeps. Definitions only.
+-- A burst of ordinary steps on several tapes: its tests before each step, one step, and what it keeps. Definitions only.
 use mathlib.Core.Path.{_≡_}
 use mathlib.Core.Bool.{Bool, true, false}
 use mathlib.Core.List.{List}
@@ -20,9 +20,9 @@ use Rattle.sim_burst_wide.specs.declared.inner.Decoded.{Decoded}
 use Rattle.sim_burst_wide.specs.declared.inner.MovedTape.{MovedTape}
 use Rattle.sim_burst_wide.specs.declared.inner.Next.{Next}
 
--- ---- what the functions that are asked before a step say
+-- ---- the results of the tests before a step
 
--- the entry that the orders follow
+-- the action that a decoded entry gives
 abbrev pub followed : Decoded → Action
 followed o =
     record {
@@ -39,12 +39,12 @@ followed o =
 pub record Moving (a : Action) : Type 0 where
   pub moving : a .dir0 ≡ N → a .dir1 ≡ N → a .dir2 ≡ N → ⊥
 
--- where b is false the moves are in range, and if the state stays some tape moves
+-- where b is false, the moves are in range, and if the state stays, some tape moves
 pub record FreeIf (b : Bool) (moves next q : ℕ) : Type 0 where
   pub small : b ≡ false → moves ≤ 26
   pub free : b ≡ false → next ≡ q → moves ≡ 26 → ⊥
 
--- what is known of an entry is so, and followed from state q it is no proved loop
+-- where o is known, it is what the entry e says, and from state q it is no proved loop
 pub record DecodedIf (e : Entry) (q : ℕ) (o : Decoded) : Type 0 where
   pub says : o .known ≡ true → e ≡ Defined (followed o)
   pub ordinary : o .known ≡ true → o .next ≡ q → Moving (followed o)
@@ -53,7 +53,7 @@ pub record DecodedIf (e : Entry) (q : ℕ) (o : Decoded) : Type 0 where
 abbrev pub wrote : Tape → List ℕ → ℕ → List ℕ
 wrote t c w = pick (ltb (t .head) (t .len)) (set c (t .head) w) c
 
--- r is the tape after the move of number d, which stays inside the cells
+-- r is the tape after the move with number d, which stays inside the cells
 pub record TapeMoves (t : Tape) (d : ℕ) (r : Tape) : Type 0 where
   pub inside : leaves t (dirOf d) ≡ false
   pub acts : (c : List ℕ) (w : ℕ) → held r (wrote t c w) ≡ actOf (held t c) w (dirOf d)
@@ -88,8 +88,8 @@ pub record SafeAll (x : WideBurstState) (c0 c1 c2 : List ℕ) : Type 0 where
 
 -- ---- a burst
 
--- one ordinary step from x with cells c0, c1, c2 to y with cells d0, d1, d2: the entry that table s has for what is read, which
--- is no proved loop; on each tape its write and its move, which stays inside the cells
+-- one ordinary step from x with cells c0, c1, c2 to y with cells d0, d1, d2. Its entry is that of table s for the symbols read, and
+-- is no proved loop. On each tape it makes the entry's write and move, and stays inside the cells
 pub record WideStep (s : List ℕ) (stop k stride : ℕ) (x : WideBurstState) (c0 c1 c2 : List ℕ) (y : WideBurstState) (d0 d1 d2 : List ℕ) : Type 0 where
   pub fuel : x .left ≡ 0 → ⊥
   pub goes : x .state ≡ stop → ⊥
@@ -105,13 +105,13 @@ pub record WideStep (s : List ℕ) (stop k stride : ℕ) (x : WideBurstState) (c
   pub state-is : y .state ≡ act .next .0
   pub left-is : y .left ≡ x .left - 1
 
--- such steps, none or more, lead from x with cells c0, c1, c2 to a place and its cells
+-- such steps, none or more, lead from x with cells c0, c1, c2 to a burst state and its cells
 pub data Walk (s : List ℕ) (stop k stride : ℕ) (x : WideBurstState) (c0 c1 c2 : List ℕ) : WideBurstState → List ℕ → List ℕ → List ℕ → Type 0 where
   here : Walk s stop k stride x c0 c1 c2 x c0 c1 c2
   more : (y : WideBurstState) (d0 d1 d2 : List ℕ) (z : WideBurstState) (e0 e1 e2 : List ℕ) → Walk s stop k stride x c0 c1 c2 y d0 d1 d2
       → WideStep s stop k stride y d0 d1 d2 z e0 e1 e2 → Walk s stop k stride x c0 c1 c2 z e0 e1 e2
 
--- a burst from x with cells c0, c1, c2 may stand at y with cells d0, d1, d2
+-- a burst from x with cells c0, c1, c2 may reach y with cells d0, d1, d2
 pub record Carried (s : List ℕ) (stop k stride : ℕ) (x : WideBurstState) (c0 c1 c2 : List ℕ) (y : WideBurstState) (d0 d1 d2 : List ℕ) : Type 0 where
   pub safe : SafeAll y d0 d1 d2
   pub less : y .left ≤ x .left

@@ -1,4 +1,4 @@
-// The burst on several tapes and its parts, which ask that numbers lie inside their bounds.
+// The burst on several tapes and its parts. They require that numbers lie inside their bounds.
 use machine::inner;
 use tape::Tape;
 ghost use mathlib.Core.Path.{_≡_};
@@ -10,7 +10,7 @@ ghost use Rattle.tape.specs.Fits.{TapeOk};
 ghost use Rattle.tape.specs.Model.Moves.{held, readOf};
 ghost use Rattle.sim_burst_wide.specs.Model.{wrote, FreeIf, DecodedIf, MovedTapeIf, NextIf, HeadsIn, SafeAll, Carried};
 
-// Where a burst stands: its tapes, the state, and the fuel left.
+// The numbers of a burst: its tapes, the state, and the fuel left.
 pub struct WideBurstState {
     pub t0: Tape,
     pub t1: Tape,
@@ -19,7 +19,7 @@ pub struct WideBurstState {
     pub left: u64,
 }
 
-// What an entry says, where it is known to be no proved loop. The moves are by their numbers.
+// A decoded entry. Where `known` is true, it is no proved loop. The moves are given by their numbers.
 pub struct Decoded {
     pub known: bool,
     pub next: u16,
@@ -31,13 +31,13 @@ pub struct Decoded {
     pub dir2: u8,
 }
 
-// A tape after a move, and whether that stays inside the cells.
+// A tape after a move, and whether the move stays inside the cells.
 pub struct MovedTape {
     pub tape: Tape,
     pub inside: bool,
 }
 
-// Where the burst would stand after the step, and whether all moves stay inside the cells.
+// The burst after the step, and whether all moves stay inside the cells.
 pub struct Next {
     pub at: WideBurstState,
     pub inside: bool,
@@ -67,8 +67,8 @@ fn pair(low: u8, high: u8) -> u16
     low as u16 + 256 * (high as u16)
 }
 
-// What the entry of a number says to a machine in state `q`. Nothing is known of one that is past the table, undefined,
-// out of range, or that stays on every tape and in the state.
+// Decodes the entry with number `i` for a machine in state `q`. An entry that is past the table, undefined, out of
+// range, or stays on every tape and in the state is not known.
 fn entry(table: &[u8], i: usize, q: u16) -> Decoded
     ensures { λ r. ⌜ DecodedIf (entryAt (now (table .entry)) i) q r ⌝ }
 {
@@ -106,7 +106,7 @@ fn entry(table: &[u8], i: usize, q: u16) -> Decoded
     }
 }
 
-// Whether the moves are out of range, or every tape stays and so does the state.
+// Whether the moves are out of range, or every tape stays and the state stays.
 fn may_loop(moves: u8, next: u16, q: u16) -> bool
     ensures { λ r. ⌜ FreeIf r moves next q ⌝ }
 {
@@ -119,7 +119,7 @@ fn may_loop(moves: u8, next: u16, q: u16) -> bool
     next == q
 }
 
-// What the entry says that the machine reads.
+// Decodes the entry that the machine reads.
 fn read(
     at: WideBurstState,
     table: &[u8],
@@ -147,7 +147,7 @@ fn read(
     entry(table, number as usize, at.state)
 }
 
-// The tape after the move of a number.
+// The tape after the move with number `d`.
 fn move_tape(t: Tape, d: u8) -> MovedTape
     requires { ⌜ (t .head ≤ t .len) × (t .len ≤ 1073741824) ⌝ }
     ensures { λ r. ⌜ MovedTapeIf t d r ⌝ }
@@ -203,7 +203,7 @@ fn right(t: Tape) -> MovedTape
     }
 }
 
-// The step's moves.
+// The burst after the step's moves.
 fn moved(at: WideBurstState, o: Decoded) -> Next
     requires { ⌜ HeadsIn at ⌝ }
     requires { ⌜ 1 ≤ at .left ⌝ }
@@ -239,7 +239,7 @@ fn all(a: bool, b: bool, c: bool) -> bool
     c
 }
 
-// The step's write; on a tape that the machine lacks there is no cell under the head.
+// Writes the step's symbol. A tape that the machine lacks has no cell under the head.
 fn put(cells: &mut [u8], t: Tape, w: u8)
     requires { ⌜ TapeOk t (now cells) ⌝ }
     ensures { λ _. ⌜ now (cells .exit) ≡ wrote t (now (cells .entry)) w ⌝ }
@@ -250,8 +250,8 @@ fn put(cells: &mut [u8], t: Tape, w: u8)
     }
 }
 
-// The ordinary steps over a table. It stops before a step for which there is no fuel, which the stop rule's state would
-// leave, which the table does not tell, which may be a proved loop, or which leaves the cells of a tape.
+// Makes the ordinary steps over a table. It stops before a step that has no fuel, begins in the stop rule's state, has
+// no known entry, may be a proved loop, or leaves the cells of a tape.
 pub fn burst_several(
     table: &[u8],
     c0: &mut [u8],

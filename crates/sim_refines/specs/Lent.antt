@@ -10,11 +10,11 @@ use Rattle.sim.specs.Model.Operations.{Given, StepGiven}
 
 -- ---- "those past a call's final length stay"
 
--- a tape after a call, over a buffer that held `before`
+-- past the tape's length after a call, the buffer holds what it held `before` the call
 abbrev pub PastStays : (before : List ℕ) → Held → Type 0
 PastStays before h = (i : ℕ) → h .tape .len ≤ i → getD (h .cells) i 0 ≡ getD before i 0
 
--- an engine after a call, over buffers that held c0, c1 and c2
+-- the same for an engine whose buffers held c0, c1 and c2 before the call
 pub record PastKept (c0 c1 c2 : List ℕ) (τ : Conf) : Type 0 where
   pub past0 : PastStays c0 (tape0 τ)
   pub past1 : PastStays c1 (tape1 τ)
@@ -26,7 +26,7 @@ pub record PastKept (c0 c1 c2 : List ℕ) (τ : Conf) : Type 0 where
 abbrev pub SameFirst : ℕ → (c d : List ℕ) → Type 0
 SameFirst n c d = (i : ℕ) → i < n → getD c i 0 ≡ getD d i 0
 
--- two engines of one value, with buffers of the same lengths: the cells up to the length of each tape that the machine has are the same
+-- two engines with the same value and buffers of the same lengths; on each tape that the machine has, the cells up to its length are the same
 pub record SameLive (m : Machine) (σ τ : Conf) : Type 0 where
   pub value : σ .sim ≡ τ .sim
   pub length0 : length (σ .c0) ≡ length (τ .c0)
@@ -36,7 +36,7 @@ pub record SameLive (m : Machine) (σ τ : Conf) : Type 0 where
   pub cells1 : 1 < m .tapes → SameFirst (τ .sim .t1 .len) (σ .c1) (τ .c1)
   pub cells2 : 2 < m .tapes → SameFirst (τ .sim .t2 .len) (σ .c2) (τ .c2)
 
--- two answers of runs, and of steps: the same one, and such engines again
+-- two runs, or two steps, have the same answer, and leave two such engines again
 pub record SameGiven (m : Machine) (x y : Given) : Type 0 where
   pub answer : x .answer ≡ y .answer
   pub at : SameLive m (x .at) (y .at)

@@ -1,4 +1,4 @@
--- What the plain engine's value means: the configuration of the table machine that it holds, and when it fits. Definitions only.
+-- The meaning of the plain engine's value: the configuration of the table machine that it holds, and when it fits. Definitions only.
 use mathlib.Core.Path.{_≡_}
 use mathlib.Core.Bool.{Bool, true, false}
 use Prim.Native.Nat.{ℕ, _≤_, _<_, _^_}

@@ -1,4 +1,4 @@
--- THE PLAIN ENGINE REFINES THE TABLE MACHINE: what is claimed of a run of the engine's model. Definitions only.
+-- THE PLAIN ENGINE REFINES THE TABLE MACHINE: the claim about a run of the engine's model. Definitions only.
 use mathlib.Core.Path.{_≡_}
 use mathlib.Core.Bool.{Bool, true, false}
 use mathlib.Core.List.{List}
@@ -23,16 +23,16 @@ use Rattle.sim_refines.specs.Meaning.{configOf, EngineFits}
 
 -- ---- the table machine beside the engine
 
--- the configuration that the engine holds, and the table machine's j steps later
+-- the configuration that the engine holds, and the table machine's configuration j steps later
 abbrev pub heldBy : Task → Conf → Config
 heldBy k σ = configOf (k .machine) σ
 
 abbrev pub after : Task → ℕ → Conf → Config
 after k j σ = run (tableIn k) j (heldBy k σ)
 
--- ---- what is seen before a step
+-- ---- the look before a step
 
--- "halted, never, .. in that order, before each step"; the never test where it is asked for
+-- "halted, never, .. in that order, before each step"; the never test is made only where k .proves is true
 pub data Sees (k : Task) (c : Config) : Look → Type 0 where
   no-entry : Halted (tableIn k) c → Sees k c Halt
   loops : (p : NonHaltProof) → k .proves ≡ true → Judged k c (NeverHalts (c .steps) p) → Sees k c (Never p)
@@ -40,7 +40,7 @@ pub data Sees (k : Task) (c : Config) : Look → Type 0 where
 
 -- ---- a run
 
--- what a run keeps: e fits, its buffers are as long as those of σ, and a buffer of a tape that the machine lacks is as it was
+-- what a run keeps: e fits, its buffers are as long as those of σ, and a buffer of a tape that the machine lacks is unchanged
 pub record Kept (m : Machine) (σ e : Conf) : Type 0 where
   pub fits : EngineFits m e
   pub same-length0 : length (e .c0) ≡ length (σ .c0)
@@ -57,29 +57,29 @@ pub record Went (k : Task) (made : ℕ) (σ e : Conf) : Type 0 where
   -- no configuration before the last one is halted or a proved loop
   pub running : (j : ℕ) → j < made → ¬ (Halted (tableIn k) (after k j σ))
   pub unproved : (j : ℕ) → j < made → Unproved k (after k j σ)
-  -- no step before the last one left the rule's state
+  -- no step before the last one began in the rule's state
   pub unmatched : (j : ℕ) → suc j < made → hasRule k (after k j σ) ≡ false
 
--- the answer of a run from σ that made `made` of `fuel` steps and stands at e
+-- the answer of a run from σ that made `made` of `fuel` steps and ended at e
 pub data Answers (k : Task) (fuel made : ℕ) (σ e : Conf) : Outcome → Type 0 where
-  -- with the never test: the verdict there; out of fuel only where all the fuel was used
+  -- with the never test: the verdict at e, which is out of fuel only where all the fuel was used
   verdict : (o : Outcome) → k .proves ≡ true → Judged k (heldBy k e) o → ((n : ℕ) → o ≡ OutOfFuel n → made ≡ fuel) → Answers k fuel made σ e o
   -- without it: halted, or out of fuel
   halted : k .proves ≡ false → Halted (tableIn k) (heldBy k e) → Answers k fuel made σ e (haltedAt (heldBy k e))
   spent : k .proves ≡ false → ¬ (Halted (tableIn k) (heldBy k e)) → made ≡ fuel → Answers k fuel made σ e (outOfFuelAt (heldBy k e))
   -- "stops after the matching step"
   stopped : (j : ℕ) → made ≡ suc j → hasRule k (after k j σ) ≡ true → Answers k fuel made σ e (Stopped (heldBy k e .steps))
-  -- there is fuel and an entry a, and no room for its moves: nothing of that step was made
+  -- there is fuel and an entry a, but no room for its moves: no part of that step was made
   full : (a : Action) → made < fuel → entry (tableIn k) (heldBy k e) ≡ Defined a → Unproved k (heldBy k e) → roomyOf e a ≡ false
       → Answers k fuel made σ e (Full (heldBy k e .steps))
 
--- a run from σ that ended so is a run of the table machine
+-- a run from σ with end e is a run of the table machine
 pub record Refines (k : Task) (fuel : ℕ) (σ : Conf) (e : End) : Type 0 where
   pub made : ℕ
   pub within : made ≤ fuel
   pub went : Went k made σ (e .at)
   pub answers : Answers k fuel made σ (e .at) (e .outcome)
-  -- where the last step left the rule's state, the answer is that it stopped
+  -- where the last step began in the rule's state, the answer is stopped
   pub stops : (j : ℕ) → made ≡ suc j → hasRule k (after k j σ) ≡ true → e .outcome ≡ Stopped (e .at .sim .steps)
 
 -- for every table that is accepted, every engine value that fits, and fuel within the bound (the others are refused: 1 to 6, 12, 13)

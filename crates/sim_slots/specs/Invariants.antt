@@ -1,4 +1,4 @@
--- What the functions of this crate pass on to one another, and what they may assume. Definitions only.
+-- What the functions of this crate return to one another, and what they may assume. Definitions only.
 use mathlib.Core.Path.{_≡_}
 use mathlib.Core.Bool.{Bool, true}
 use mathlib.Core.List.{List}
@@ -21,14 +21,14 @@ use Rattle.sim_slots.specs.Model.Slots.{sizeOf, slotSize, part0, part1, 
 
 -- ---- an advance
 
--- how a run ended; one whose check was passed is not refused
+-- the outcome of a run; a run that passed its check is not refused
 abbrev pub outcomeIn : Answer → Outcome
 outcomeIn (Ans.Done o) = o
 outcomeIn (Ans.Refused why) = OutOfFuel 0
 
 -- ---- saving
 
--- a tape's numbers are small, and its cells have their place behind them
+-- a tape's numbers are small, and the slot has space for its cells after them
 pub record PutOk (h : Held) (p at : ℕ) (b : List ℕ) : Type 0 where
   pub head-room : p + 20 ≤ at
   pub cells-room : at + h .tape .len ≤ length b
@@ -50,7 +50,7 @@ pub record SaveOk (m : Machine) (σ : Conf) (b : List ℕ) : Type 0 where
 
 -- ---- restoring
 
--- n bytes of a slot from `at` on, of which a tape's live cells go into a buffer
+-- n bytes of a slot from `at` on contain a tape's live cells, and the buffer has space for them
 pub record FillOk (t : Tape) (at n : ℕ) (b c : List ℕ) : Type 0 where
   pub part-in : at + n ≤ length b
   pub len-part : t .len ≤ n
@@ -59,12 +59,12 @@ pub record FillOk (t : Tape) (at n : ℕ) (b c : List ℕ) : Type 0 where
 pub record FillIf (has : Bool) (t : Tape) (at n : ℕ) (b c : List ℕ) : Type 0 where
   pub ok : has ≡ true → FillOk t at n b c
 
--- v was found to fit the parts of the slot, which has the buffers' size
+-- v fits the parts of the slot, and the slot has the size for the buffers
 pub record FilledOk (m : Machine) (v : Simulator) (b c0 c1 c2 : List ℕ) : Type 0 where
   pub fits : simFits m v (part0 (length c0) b) (part1 m (length c0) (length c1) b) (part2 m (length c0) (length c1) (length c2) b) ≡ true
   pub long : length b ≡ sizeOf m (length c0) (length c1) (length c2)
 
--- what a restore answers, with the buffers as they are left
+-- the answer of a restore, with the buffers after it
 pub record Restored : Type 0 where
   pub found : Found
   pub c0 : List ℕ
@@ -74,7 +74,7 @@ pub record Restored : Type 0 where
 abbrev pub restored : Found → (c0 c1 c2 : List ℕ) → Restored
 restored f c0 c1 c2 = record { found = f; c0 = c0; c1 = c1; c2 = c2 }
 
--- where nothing is found the buffers are as they were
+-- where nothing is found the buffers are unchanged
 abbrev pub restoredOn : Option Conf → Conf → Restored
 restoredOn none σ = restored Nothing (σ .c0) (σ .c1) (σ .c2)
 restoredOn (some v) σ = restored (Holds (v .sim)) (v .c0) (v .c1) (v .c2)

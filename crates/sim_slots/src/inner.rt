@@ -1,4 +1,4 @@
-// An advance of a timeline, and the engine's slots, which ask that buffers and slots have their sizes.
+// An advance of the plain engine, and its slots. The functions require buffers and slots of the right sizes.
 use machine::Machine;
 use outcome::Outcome;
 use sim::Answer;
@@ -35,7 +35,7 @@ pub struct Advanced {
     pub outcome: Outcome,
 }
 
-// How a run ended; one whose check was passed is not refused.
+// The outcome of a run; a run that passed its check is not refused.
 fn outcome_in(answer: Answer) -> Outcome
     ensures { λ r. ⌜ r ≡ outcomeIn answer ⌝ }
 {
@@ -45,7 +45,7 @@ fn outcome_in(answer: Answer) -> Outcome
     }
 }
 
-// Runs without the never test; where all the fuel was used, tests it there with fuel 0.
+// Runs without the never test. Where all the fuel was used, makes the never test there, with fuel 0.
 pub fn advance(
     sim: Simulator,
     m: Machine,
@@ -77,13 +77,13 @@ pub fn advance(
     }
 }
 
-// What a slot holds: nothing that fits, or the engine whose cells now stand in the buffers.
+// What a slot holds: nothing that fits, or an engine, whose cells are now in the buffers.
 pub enum Found {
     Nothing,
     Holds(Simulator),
 }
 
-// A tape that the machine lacks takes no room.
+// The number of bytes for a tape's cells; 0 for a tape that the machine lacks.
 fn part_size(has: bool, n: usize) -> usize
     ensures { λ r. ⌜ r ≡ sizeIf has n ⌝ }
 {
@@ -93,7 +93,7 @@ fn part_size(has: bool, n: usize) -> usize
     0
 }
 
-// 128 bytes more than the cells buffers.
+// The size of a slot: 128 bytes more than the cells buffers.
 pub fn slot_size(m: Machine, n0: usize, n1: usize, n2: usize) -> usize
     requires { ⌜ sizesFit m n0 n1 n2 ≡ true ⌝ }
     ensures { λ r. ⌜ r ≡ sizeOf m n0 n1 n2 ⌝ }
@@ -103,7 +103,7 @@ pub fn slot_size(m: Machine, n0: usize, n1: usize, n2: usize) -> usize
     128 + n0 + p1 + p2
 }
 
-// A tape's five numbers, of 4 bytes each.
+// Writes a tape's five numbers, of 4 bytes each.
 fn put_numbers(t: Tape, slot: &mut [u8], p: usize)
     requires { ⌜ (p + 20 ≤ length (now slot)) × (t .len < 4294967296) × (t .origin < 4294967296) × (t .head < 4294967296) × (t .lowest < 4294967296) × (t .highest < 4294967296) ⌝ }
     ensures { λ _. ⌜ now (slot .exit) ≡ putTape t p (now (slot .entry)) ⌝ }
@@ -115,7 +115,7 @@ fn put_numbers(t: Tape, slot: &mut [u8], p: usize)
     put_32(slot, p + 16, t.highest as u32);
 }
 
-// A tape's numbers from `p` on, and its live cells from `at` on.
+// Writes a tape's numbers from byte `p` on, and its live cells from byte `at` on.
 fn put_held(t: Tape, cells: &[u8], slot: &mut [u8], p: usize, at: usize)
     requires { ⌜ PutOk (held t (now cells)) p at (now slot) ⌝ }
     ensures { λ _. ⌜ now (slot .exit) ≡ putHeld (held t (now (cells .entry))) p at (now (slot .entry)) ⌝ }
@@ -134,7 +134,7 @@ fn put_if(has: bool, t: Tape, cells: &[u8], slot: &mut [u8], p: usize, at: usize
     put_held(t, cells, slot, p, at);
 }
 
-// An engine into a slot.
+// Writes an engine into a slot.
 pub fn save(sim: Simulator, m: Machine, c0: &[u8], c1: &[u8], c2: &[u8], slot: &mut [u8])
     requires { ⌜ SaveOk m (conf sim (now c0) (now c1) (now c2)) (now slot) ⌝ }
     ensures { λ _. ⌜ now (slot .exit) ≡ packOf m (conf sim (now (c0 .entry)) (now (c1 .entry)) (now (c2 .entry))) (now (slot .entry)) ⌝ }
@@ -152,7 +152,7 @@ pub fn save(sim: Simulator, m: Machine, c0: &[u8], c1: &[u8], c2: &[u8], slot: &
     put_if(2 < m.tapes, t2, c2, slot, 56, at2);
 }
 
-// The tape whose numbers stand from `p` on.
+// Reads the tape whose numbers begin at byte `p`.
 fn get_tape(slot: &[u8], p: usize) -> Tape
     requires { ⌜ p + 20 ≤ length (now slot) ⌝ }
     ensures { λ r. ⌜ r ≡ tapeAt (now (slot .entry)) p ⌝ }
@@ -181,7 +181,7 @@ fn get_if(has: bool, slot: &[u8], p: usize, other: Tape) -> Tape
     other
 }
 
-// The engine's value in a slot; of tapes that the machine lacks, the fields of `sim`.
+// Reads the engine's value in a slot; tapes that the machine lacks keep the fields of `sim`.
 fn get_sim(sim: Simulator, m: Machine, slot: &[u8]) -> Simulator
     requires { ⌜ 128 ≤ length (now slot) ⌝ }
     ensures { λ r. ⌜ r ≡ simIn m (now (slot .entry)) sim ⌝ }
@@ -202,7 +202,7 @@ fn get_sim(sim: Simulator, m: Machine, slot: &[u8]) -> Simulator
     }
 }
 
-// Whether a tape fits the `n` cells that stand from `at` on.
+// Whether a tape fits the `n` cells from byte `at` on.
 fn part_fits(k: u64, t: Tape, slot: &[u8], at: usize, n: usize) -> bool
     requires { ⌜ at + n ≤ length (now slot) ⌝ }
     ensures { λ r. ⌜ r ≡ tapeFits k t (partOf at n (now (slot .entry))) ⌝ }
@@ -248,7 +248,7 @@ fn fits_in(v: Simulator, m: Machine, slot: &[u8], n0: usize, n1: usize, n2: usiz
     part_fits_if(2 < m.tapes, k, t2, slot, at1 + p1, p2)
 }
 
-// Whether it is an engine of that step, and fits.
+// Whether the engine is of step `step`, and fits the cells in the slot.
 fn holds_one(
     v: Simulator,
     m: Machine,
@@ -267,7 +267,7 @@ fn holds_one(
     fits_in(v, m, slot, n0, n1, n2)
 }
 
-// A tape's live cells, of the `n` that stand from `at` on, into its buffer.
+// Copies a tape's live cells, among the `n` from byte `at` on, into its buffer.
 fn fill(t: Tape, slot: &[u8], at: usize, n: usize, cells: &mut [u8])
     requires { ⌜ FillOk t at n (now slot) (now cells) ⌝ }
     ensures { λ _. ⌜ now (cells .exit) ≡ paste (now (cells .entry)) 0 (partOf at n (now (slot .entry))) (t .len) ⌝ }
@@ -285,7 +285,7 @@ fn fill_if(has: bool, t: Tape, slot: &[u8], at: usize, n: usize, cells: &mut [u8
     fill(t, slot, at, n, cells);
 }
 
-// The live cells of an engine in the slot, into the buffers.
+// Copies the live cells of an engine from the slot into the buffers.
 fn fill_all(v: Simulator, m: Machine, slot: &[u8], c0: &mut [u8], c1: &mut [u8], c2: &mut [u8])
     requires { ⌜ FilledOk m v (now slot) (now c0) (now c1) (now c2) ⌝ }
     ensures { λ _. ⌜ conf v (now (c0 .exit)) (now (c1 .exit)) (now (c2 .exit)) ≡ filled m (now (slot .entry)) v (now (c0 .entry)) (now (c1 .entry)) (now (c2 .entry)) ⌝ }
@@ -302,7 +302,7 @@ fn fill_all(v: Simulator, m: Machine, slot: &[u8], c0: &mut [u8], c1: &mut [u8],
     fill_if(2 < m.tapes, t2, slot, at1 + p1, p2, c2);
 }
 
-// A slot's engine, which must have that step count and fit, into the buffers; else they are left as they are.
+// Reads a slot's engine into the buffers if it is of step `step` and fits; else leaves the buffers unchanged.
 pub fn restore(
     sim: Simulator,
     m: Machine,

@@ -1,4 +1,4 @@
-// What the timeline's operations test before they begin: the table check, 11, 12 of the engine, then 14, 15 and 13.
+// The checks before the timeline's operations: the table check, the engine's refusals 11 and 12, then 14, 15 and 13.
 use super::Timeline;
 use machine::Checked;
 use machine::Machine;

@@ -31,7 +31,7 @@ pub struct Answered {
     pub answer: Answer,
 }
 
-// A new timeline, or why there is none.
+// A new timeline, or the refusal.
 pub enum Begun {
     Made(Timeline),
     Refused(Refusal),
@@ -71,8 +71,8 @@ impl Timeline {
         }
     }
 
-    // Moves to the step `target`, or as far as the machine runs where it halts earlier; a target below the start counts as
-    // the start.
+    // Moves to the step `target`, or to an earlier one where the machine halts or is full. A target below the start
+    // counts as the start.
     pub fn seek(
         self,
         m: Machine,
@@ -120,7 +120,7 @@ impl Timeline {
         self.seek(m, table, c0, c1, c2, store, target)
     }
 
-    // Moves n steps back, to step 0 at most.
+    // Moves n steps back, at most to the start.
     pub fn back(
         self,
         m: Machine,
@@ -138,7 +138,7 @@ impl Timeline {
         self.seek(m, table, c0, c1, c2, store, target)
     }
 
-    // The call meant by two numbers: seek for 0, forward for 1, else back.
+    // The call given by two numbers: `which` is 0 for seek, 1 for forward, else back.
     pub fn call(
         self,
         m: Machine,

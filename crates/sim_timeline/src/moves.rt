@@ -1,4 +1,4 @@
-// Where an accepted call goes: on from where the engine stands, back to a slot and on from there, or nowhere.
+// The moves of an accepted call: on from the present step, back to a slot and on from there, or none.
 use super::Answered;
 use super::Timeline;
 use machine::Machine;
@@ -41,7 +41,7 @@ impl Timeline {
         }
     }
 
-    // Restores the slot to go back to; nothing is written where it holds no fitting engine of its step.
+    // Restores the engine of the slot to go back to. Writes nothing where the slot holds no fitting engine of its step.
     fn rewind(
         self,
         m: Machine,

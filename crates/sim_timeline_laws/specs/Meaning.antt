@@ -1,4 +1,4 @@
--- The plain engine as a kind of engine: what its value means, one step of that, and which step is full. Definitions only; `FullStep` is the rule of space.
+-- The plain engine as a kind of engine: the meaning of its value, one step of it, and which step is full. Definitions only; `FullStep` is the rule of space.
 use mathlib.Core.Path.{_≡_}
 use mathlib.Core.Bool.{Bool, true, false}
 use mathlib.Core.List.{List}
@@ -36,32 +36,32 @@ movesOff x L = eqb (x .head) 0
 movesOff x R = eqb (x .head + 1) (x .len)
 movesOff x N = false
 
--- twice the length; with the new blanks on the left the cell under the head is that much further on
+-- twice the length; where the new blanks are on the left, the index of the head grows by the old length
 abbrev pub doubled : Extent → Dir → Extent
 doubled x L = record { len = x .len + x .len; head = x .head + x .len; buffer = x .buffer }
 doubled x R = record { len = x .len + x .len; head = x .head; buffer = x .buffer }
 doubled x N = x
 
--- the head on the next cell
+-- the head moved by one cell
 abbrev pub headMoved : Extent → Dir → Extent
 headMoved x L = record { len = x .len; head = x .head - 1; buffer = x .buffer }
 headMoved x R = record { len = x .len; head = x .head + 1; buffer = x .buffer }
 headMoved x N = x
 
--- a move, where it goes off an end after doubling
+-- a move; if it goes off an end, the length is doubled first
 unfoldable pub movedBy : Extent → Dir → Extent
 movedBy x d = headMoved (pick (movesOff x d) (doubled x d) x) d
 
--- the move goes off an end, and twice the length is more than the buffer has
+-- the move goes off an end, and twice the length is more than the buffer's length
 unfoldable pub passes : Extent → Dir → Bool
 passes x d = both (movesOff x d) (ltb (x .buffer) (x .len + x .len))
 
--- ---- what an engine's value means
+-- ---- the meaning of an engine's value
 
 abbrev pub extentOf : Held → Extent
 extentOf h = record { len = h .tape .len; head = h .tape .head; buffer = length (h .cells) }
 
--- a tape that the machine lacks never moves
+-- the extent of a tape that the machine lacks, which never moves
 abbrev pub noExtent : Extent
 noExtent = record { len = 0; head = 0; buffer = 0 }
 
@@ -69,8 +69,8 @@ abbrev pub extentIf : (has : Bool) → Held → Extent
 extentIf true h = extentOf h
 extentIf false h = noExtent
 
--- The configuration that it holds, and how its tapes lie in their buffers: these decide all that is to come. (What stands in the buffers past the
--- tapes' lengths does not, nor do the fields of tapes that the machine lacks.)
+-- The configuration that the engine holds, and how its tapes lie in their buffers: these determine all later answers. (The bytes in the buffers past the
+-- tapes' lengths do not, nor do the fields of tapes that the machine lacks.)
 pub record Mean : Type 0 where
   pub config : Config
   pub extent0 : Extent
@@ -85,7 +85,7 @@ meanOf m σ = record {
   extent2 = extentIf (has m 2) (tape2 σ);
 }
 
--- ---- one step: the table machine's, and each tape's move; without an entry it has halted, and nothing moves
+-- ---- one step: the table machine's, and each tape's move; without an entry the machine has halted, and nothing moves
 
 abbrev pub movedOn : Extent → (Action → Dir) → Entry → Extent
 movedOn x dir Undefined = x
@@ -109,12 +109,12 @@ pub data SomePasses (x : Mean) (a : Action) : Type 0 where
 abbrev pub NoRoom : Machine → List ℕ → Mean → Type 0
 NoRoom m s x = (a : Action) × (entry (tableOf m s) (x .config) ≡ Defined a) × SomePasses x a
 
--- of the engine e: the step from its j-th configuration is full
+-- after j steps from the engine e, the next step is full
 abbrev pub FullStep : Machine → (table : List ℕ) → Conf → ℕ → Type 0
 FullStep m s e j = NoRoom m s (iterate (nextOf m s) j (meanOf m e))
 
--- ---- when one engine is another, in buffers as long: all that document 01 leaves determined is equal. (What stands past the tapes' lengths is not; the fields
--- of tapes that the machine lacks are aside.)
+-- ---- when two engines are the same, in buffers of the same lengths: all that document 01 determines is equal. (It does not determine the bytes past the tapes'
+-- lengths; the fields of tapes that the machine lacks are not compared.)
 
 pub record SameEngine (m : Machine) (v u : Conf) : Type 0 where
   pub state : v .sim .state ≡ u .sim .state

@@ -22,10 +22,10 @@ put32 s at x = put16 (put16 s at (x % 65536)) (at + 2) (x / 65536)
 unfoldable pub put64 : List ℕ → ℕ → ℕ → List ℕ
 put64 s at x = put32 (put32 s at (x % 4294967296)) (at + 4) (x / 4294967296)
 
--- the two lists have the same bytes from lo to hi
+-- the two lists have the same bytes at indices from lo to hi - 1
 abbrev pub Agree : List ℕ → List ℕ → ℕ → ℕ → Type 0
 Agree s t lo hi = (j : ℕ) → lo ≤ j → j < hi → getD s j 0 ≡ getD t j 0
 
--- the n bytes from `at` are not among those
+-- none of the n indices from `at` on lies from lo to hi - 1
 abbrev pub Apart : ℕ → ℕ → ℕ → ℕ → Type 0
 Apart at n lo hi = (j : ℕ) → lo ≤ j → j < hi → at ≤ j → at + n ≤ j

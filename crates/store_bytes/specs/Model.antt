@@ -17,7 +17,7 @@ module _ (size : ℕ) where
   unfoldable pub moveSlot : ℕ → ℕ → List ℕ → List ℕ
   moveSlot i k t = putSlot k (slotOf i t) t
 
--- slot 2i into slot i, for i from 1 to k, upward
+-- moves slot 2i into slot i, for i from 1 up to k
 unfoldable pub thinBy : {S : Type 0} → (ℕ → ℕ → S → S) → ℕ → S → S
 thinBy move zero t = t
 thinBy move (suc k) t = move (2 * suc k) (suc k) (thinBy move k t)

@@ -1,4 +1,4 @@
-// Little-endian numbers in bytes, copies, and moves of slots, which ask that all lies inside the slices.
+// Little-endian numbers in bytes, copies, and moves of slots. They require that all bytes lie inside the slices.
 ghost use mathlib.Core.Path.{_≡_};
 ghost use Prim.Native.Nat.{_+_, _*_, _≤_, _<_};
 ghost use lib.ListN.{length, set, take, drop};
@@ -68,7 +68,7 @@ pub fn put_64(s: &mut [u8], at: usize, x: u64)
     put_32(s, at + 4, (x / 4294967296) as u32);
 }
 
-// The first n bytes of `from`, into `to` from `at` on.
+// Copies the first n bytes of `from` into `to`, from `at` on.
 pub fn copy_in(to: &mut [u8], at: usize, from: &[u8], n: usize)
     requires { ⌜ at + n ≤ length (now to) ⌝ }
     requires { ⌜ n ≤ length (now from) ⌝ }
@@ -81,7 +81,7 @@ pub fn copy_in(to: &mut [u8], at: usize, from: &[u8], n: usize)
     }
 }
 
-// The n bytes from `a` on, to `b` on, by way of a block: so each copy is between two slices that lie apart.
+// Copies the n bytes from `a` on to `b` on, through a block, so that each copy is between two separate slices.
 fn move_block(store: &mut [u8], block: &mut [u8], a: usize, b: usize, n: usize)
     requires { ⌜ a + n ≤ length (now store) ⌝ }
     requires { ⌜ b + n ≤ length (now store) ⌝ }
@@ -92,7 +92,7 @@ fn move_block(store: &mut [u8], block: &mut [u8], a: usize, b: usize, n: usize)
     copy_in(store, b, block, n);
 }
 
-// How many bytes the next block takes, of those that are left.
+// The number of bytes of the next block, of those that are left.
 fn next_block(left: usize) -> usize
     requires { ⌜ 0 < left ⌝ }
     ensures { λ r. ⌜ (0 < r) × (r ≤ left) × (r ≤ 1024) ⌝ }
@@ -103,7 +103,7 @@ fn next_block(left: usize) -> usize
     1024
 }
 
-// Slot `from` into slot `to`, below it, block by block.
+// Copies slot `from` to slot `to`, below it, block by block.
 fn move_slot(store: &mut [u8], block: &mut [u8; 1024], size: usize, from: usize, to: usize)
     requires { ⌜ from * size + size ≤ length (now store) ⌝ }
     requires { ⌜ to < from ⌝ }
@@ -119,7 +119,7 @@ fn move_slot(store: &mut [u8], block: &mut [u8; 1024], size: usize, from: usize,
     }
 }
 
-// Slot 2i into slot i, for i from 1 to k, upward: so no slot is overwritten before it has moved.
+// Moves slot 2i into slot i, for i from 1 up to k: so no slot of even index is overwritten before it has moved.
 pub fn thin(store: &mut [u8], size: usize, k: usize)
     requires { ⌜ 2 * k * size + size ≤ length (now store) ⌝ }
     requires { ⌜ k ≤ 512 ⌝ }

@@ -13,7 +13,7 @@ use Rattle.notation.specs.Position.{up, dn, _⊖_}
 use Rattle.notation.specs.Facts.Position.{ints, diff-⊖}
 use Rattle.notation.specs.Facts.Tests.{clash}
 
--- what the test of a signed number against 0 says of it, and of what the code makes of it then: z itself, or −1 − z
+-- what follows from the test of a signed number z against 0, for z and for the number that the code then computes: z itself, or −1 − z
 pub record Up (z : ℤ) : Type 0 where
   pub cast : T (nonNeg z) × Fits w64 (natAbs z)
   pub size : natAbs z ≡ up z

@@ -12,7 +12,7 @@ use Rattle.symbol.specs.declared.position.Found.the-variants.{At, Nothin
 abbrev pub raisedOf : ℤ → ℕ
 raisedOf z = 2 ^ 63 + up z - dn z
 
--- index origin + up − down, where it is one of the len
+-- the index origin + up − down, where it is at least 0 and below len
 unfoldable pub indexAt : ℕ → ℕ → ℕ → ℕ → Found
 indexAt up down origin len =
     pick (both (leb down (origin + up)) (ltb (origin + up - down) len))

@@ -6,8 +6,8 @@ ghost use Rattle.symbol.specs.Kinds.{symbolOf, stateOf, dirNumber, delta
 
 pub mod position;
 
-// A tape symbol, by its number. Number 0 is the blank, which fills every cell that was never written. A record of a run
-// holds one, and crosses the C boundary.
+// A tape symbol, by its number. Number 0 is the blank, which fills every cell that was never written.
+// The layout is C's, since the record of a run contains a symbol and crosses the C boundary.
 #[repr(C)]
 pub struct Symbol(pub u8);
 

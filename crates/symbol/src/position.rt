@@ -21,7 +21,7 @@ pub fn raised(at: i64) -> u64
     9223372036854775807 - (-1 - at) as u64
 }
 
-// The position that a raised number stands for.
+// The position whose raised number is `raised`.
 pub fn signed(raised: u64) -> i64
     ensures { λ r. ⌜ r ≡ raised ⊖ 2 ^ 63 ⌝ }
 {
@@ -38,14 +38,14 @@ pub fn of_index(index: u32, origin: u32) -> i64
     signed(9223372036854775808 + index as u64 - origin as u64)
 }
 
-// The index of a position among `len` cells of which number `origin` is position 0.
+// The index of a position among `len` cells, where index `origin` is position 0.
 pub fn index_of(at: i64, origin: usize, len: usize) -> Found
     ensures { λ r. ⌜ r ≡ indexOf at origin len ⌝ }
 {
     index_of_raised(raised(at), origin, len)
 }
 
-// The same of a raised position.
+// The same for a raised position.
 pub fn index_of_raised(raised: u64, origin: usize, len: usize) -> Found
     ensures { λ r. ⌜ r ≡ indexOfRaised raised origin len ⌝ }
 {

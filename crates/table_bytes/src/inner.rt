@@ -1,4 +1,4 @@
-// The bytes of a table's entries, and numbers of entries and words. No type of a machine is known here.
+// The bytes of a table's entries, entry numbers and packed words. This module uses no type of a machine.
 use symbol::position::Found;
 ghost use mathlib.Core.Path.{_≡_};
 ghost use Prim.Native.Nat.{_+_, _*_, _≤_, _<_, _^_};
@@ -9,7 +9,7 @@ ghost use Rattle.symbol.specs.Model.{foundOf};
 ghost use Rattle.table_bytes.specs.Model.Entries.{entryNumber, within, zeroAt, headOk, tapeOk, writesOk, definedFor, entryFor};
 ghost use Rattle.table_bytes.specs.Model.Words.{wordFor};
 
-// k^t.
+// The stride k^t, the number of entries for each state.
 pub fn stride(tapes: u64, symbols: u64) -> u64
     requires { ⌜ (1 ≤ tapes) × (tapes ≤ 3) × (symbols ≤ 256) ⌝ }
     ensures { λ r. ⌜ (r ≡ symbols ^ tapes) × (r ≤ 16777216) ⌝ }
@@ -23,7 +23,7 @@ pub fn stride(tapes: u64, symbols: u64) -> u64
     symbols * symbols * symbols
 }
 
-// The number of an entry.
+// The number of the entry for state `q` and the symbols read.
 pub fn entry_number(k: u64, stride: u64, q: u16, a0: u8, a1: u8, a2: u8) -> u64
     requires { ⌜ (k ≤ 256) × (stride ≤ 16777216) ⌝ }
     ensures { λ r. ⌜ (r ≡ entryNumber k stride q a0 a1 a2) × (r < 1099528404992) ⌝ }
@@ -40,7 +40,7 @@ pub fn within(low: u64, high: u64, x: u64) -> bool
     x <= high
 }
 
-// The lowest of the first `count` entries that is bad, for n states, t tapes and k symbols.
+// The number of the lowest bad entry among the first `count`, for n states, t tapes and k symbols.
 pub fn first_bad(n: u64, t: u64, k: u64, table: &[u8], count: u64) -> Found
     requires { ⌜ length (now table) ≡ 8 * count ⌝ }
     ensures { λ r. ⌜ r ≡ foundOf (firstFail (entryFor n t k (now (table .entry))) count 0) ⌝ }
@@ -141,7 +141,7 @@ fn tape_ok(has: bool, k: u64, write: u8, dir: u8) -> bool
     dir == 2
 }
 
-// The first symbol of a word that is not below `k`.
+// The place of the first symbol of a word that is not below `k`.
 pub fn first_over(k: u64, word: &[u8]) -> Found
     ensures { λ r. ⌜ r ≡ foundOf (firstFail (symbolIn k (now (word .entry))) (length (now (word .entry))) 0) ⌝ }
 {
@@ -156,7 +156,7 @@ pub fn first_over(k: u64, word: &[u8]) -> Found
     Found::Nothing
 }
 
-// The packed word of a move, a symbol written and a next state, or the undefined one where its row passes 32 bits.
+// The packed word of a move, a symbol written and a next state, or `undefined` where its row does not fit in 32 bits.
 pub fn word_of(dir: u8, write: u8, next: u16, stride: u64, undefined: u64) -> u64
     requires { ⌜ dir ≤ 2 ⌝ }
     ensures { λ r. ⌜ r ≡ wordFor undefined dir write next stride ⌝ }

@@ -1,2 +1,2 @@
-// What the bytes of a table say, before any type of a machine.
+// The meaning of a table's bytes, without any type of a machine.
 pub mod inner;

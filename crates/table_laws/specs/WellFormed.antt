@@ -1,4 +1,4 @@
--- What a well-formed table is, from document 01's description of the layout and not from the check. Definitions only.
+-- Well-formed tables, defined by document 01's description of the layout and not by the check. Definitions only.
 use mathlib.Core.Path.{_≡_}
 use mathlib.Core.List.{List, [], _∷_}
 use Prim.Native.Nat.{ℕ, zero, suc, _+_, _*_, _/_, _%_, _≤_, _<_}
@@ -46,7 +46,7 @@ pub record LaidOut (m : Machine) (s : List ℕ) (i : ℕ) : Type 0 where
   pub of-machine : EntryOf m entry
   pub stands : (j : ℕ) → j < 8 → byteAt s i j ≡ getD (entryBytes entry) j 0
 
--- what is asked of a table, by the number of the refusal that is given where it fails
+-- the conditions on a table, each with the number of the refusal that is given where it fails
 abbrev pub Asked : Machine → List ℕ → ℕ → Type 0
 Asked m s zero = Unit {0}
 Asked m s (suc zero) = (1 ≤ m .tapes) × (m .tapes ≤ 3)

@@ -1,4 +1,4 @@
--- The table machine beside a run of either engine: the run's table, the verdict at a configuration, the stop rule there. Definitions only.
+-- The table machine for the task of a run of either engine: the run's table, the verdict at a configuration, the stop rule there. Definitions only.
 use mathlib.Core.Path.{_≡_}
 use mathlib.Core.Bool.{Bool, true}
 use Rattle.symbol.specs.Kinds.{stateOf}
@@ -14,10 +14,10 @@ tableIn k = tableOf (k .machine) (k .table)
 abbrev pub Judged : Task → Config → Outcome → Type 0
 Judged k c o = Verdict (k .machine .tapes) (tableIn k) c o
 
--- the never test, where it is made, proves nothing
+-- where the never test is made, the verdict is out of fuel: the test proves nothing
 abbrev pub Unproved : Task → Config → Type 0
 Unproved k c = k .proves ≡ true → Judged k c (outOfFuelAt c)
 
--- the rule's state: "a `from` state, one not below n never matching"
+-- whether the stop rule matches the state: "a `from` state, one not below n never matching"
 abbrev pub hasRule : Task → Config → Bool
 hasRule k c = matches (k .rule) (stateOf (c .state))

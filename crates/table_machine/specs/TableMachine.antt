@@ -1,4 +1,4 @@
--- THE TABLE MACHINE of document 01: configuration, step, run, verdict. What every engine is held against. Definitions only.
+-- THE TABLE MACHINE of document 01: configuration, step, run, verdict. Both engines are proved equal to it. Definitions only.
 use mathlib.Core.Path.{_≡_}
 use mathlib.Core.List.{List, []}
 use Prim.Native.Nat.{ℕ, zero, suc}
@@ -41,7 +41,7 @@ pub record Config : Type 0 where
 abbrev pub readT : Tape → ℕ
 readT t = t .cell (t .head)
 
--- the cells, with w at h
+-- the cells f, with w written at h
 unfoldable pub put : (ℤ → ℕ) → ℤ → ℕ → (ℤ → ℕ)
 put f h w = λ z. pick (eqZ z h) w (f z)
 
@@ -128,7 +128,7 @@ Sideways L = Unit {0}
 Sideways R = Unit {0}
 Sideways N = ⊥
 
--- z is strictly beyond h that way
+-- z lies strictly beyond h in the direction of the move
 abbrev pub Beyond : Dir → ℤ → ℤ → Type 0
 Beyond L h z = z <ℤ h
 Beyond R h z = h <ℤ z

@@ -1,4 +1,4 @@
--- The table's bytes as a table of the table machine, what a table of the machine is, and tapes that the machine lacks. Definitions only.
+-- The table's bytes as a table of the table machine, the tables of a machine, and the tapes that a machine lacks. Definitions only.
 use mathlib.Core.Path.{_≡_}
 use mathlib.Core.List.{List}
 use Prim.Native.Nat.{ℕ, _<_}
@@ -13,7 +13,7 @@ use Rattle.table_machine.specs.TableMachine.{Table, Config, blankTape}
 unfoldable pub tableOf : Machine → List ℕ → Table
 tableOf m s q a0 a1 a2 = entryAt s (entryNumber (m .symbols) (strideOf m) q a0 a1 a2)
 
--- every entry takes a state below n, writes symbols below k, and leaves the tapes that the machine lacks alone
+-- every entry has a next state below n, writes symbols below k, and leaves the tapes that the machine lacks unchanged
 abbrev pub TableOf : Machine → Table → Type 0
 TableOf m d = (q x y z : ℕ) (a : Action) → d q x y z ≡ Defined a → ActionOf m a
 

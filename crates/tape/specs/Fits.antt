@@ -20,7 +20,7 @@ shapeFits t cap =
     (both (leb (t .lowest) (t .head))
     (both (leb (t .head) (t .highest)) (ltb (t .highest) (t .len)))))))
 
--- "symbols below k": of the first len cells, those past are not looked at
+-- "symbols below k", for the first len cells; those past them are not read
 unfoldable pub tapeFits : (k : ℕ) → Tape → List ℕ → Bool
 tapeFits k t c = both (shapeFits t (length c)) (allIn (symbolIn k c) (t .len) 0)
 
@@ -35,7 +35,7 @@ pub record TapeFits (k : ℕ) (t : Tape) (c : List ℕ) : Type 0 where
   pub high-in : t .highest < t .len
   pub symbols : (i : ℕ) → i < t .len → getD c i 0 < k
 
--- true of every tape that fits, and of one that the machine lacks, whose numbers are 0
+-- true of every tape of at most 2^30 cells that fits, and of one that the machine lacks, whose numbers are 0
 pub record TapeOk (t : Tape) (c : List ℕ) : Type 0 where
   pub len-in : t .len ≤ length c
   pub len-small : t .len ≤ 1073741824
@@ -44,7 +44,7 @@ pub record TapeOk (t : Tape) (c : List ℕ) : Type 0 where
   pub low-in : t .lowest ≤ t .len
   pub high-in : t .highest ≤ t .len
 
--- a tape with a cell under its head has a buffer of at most 2^30 cells; one that the machine lacks has any
+-- a tape with a cell under its head has a buffer of at most 2^30 cells; one that the machine lacks may have any buffer
 pub record TapeSafe (t : Tape) (c : List ℕ) : Type 0 where
   pub ok : TapeOk t c
   pub sized : t .head < t .len → length c ≤ 1073741824

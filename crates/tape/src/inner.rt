@@ -1,4 +1,4 @@
-// One tape's operations, which ask that its numbers lie inside its cells.
+// The operations on one tape. They require that its numbers lie inside its cells.
 use super::Span;
 use super::Spot;
 use super::Tape;
@@ -55,7 +55,7 @@ impl Tape {
         }
     }
 
-    // New blanks on the side to which a move leaves the cells.
+    // Adds blank cells on the side on which a move leaves the cells.
     fn grow(self, cells: &mut [u8], d: Dir) -> Tape
         requires { ⌜ TapeOk self (now cells) ⌝ }
         ensures { λ r. ⌜ held r (now (cells .exit)) ≡ growOf (held self (now (cells .entry))) d ⌝ }
@@ -87,7 +87,7 @@ impl Tape {
         }
     }
 
-    // The head moved, which stays inside the cells.
+    // The tape after a move of the head that stays inside the cells.
     fn shifted(self, d: Dir) -> Tape
         requires { ⌜ (self .head ≤ 4294967296) × (leaves self d ≡ false) ⌝ }
         ensures { λ r. ⌜ r ≡ shiftOf self d ⌝ }
@@ -165,7 +165,7 @@ pub fn room(t: Tape, cap: usize, d: Dir) -> bool
     true
 }
 
-// Writes at the head and moves it, growing where the move leaves the cells; the caller has asked `room`.
+// Writes at the head and moves it. The tape grows where the move leaves the cells; the caller must have tested `room`.
 pub fn act(t: Tape, cells: &mut [u8], w: u8, d: Dir) -> Tape
     requires { ⌜ TapeOk t (now cells) ⌝ }
     requires { ⌜ roomFor t (length (now cells)) d ≡ true ⌝ }
@@ -183,7 +183,7 @@ pub fn act(t: Tape, cells: &mut [u8], w: u8, d: Dir) -> Tape
     t.shifted(d)
 }
 
-// Whether every cell strictly beyond the head that way is blank.
+// Whether every cell strictly beyond the head in direction `d` is blank.
 pub fn only_blanks_beyond(t: Tape, cells: &[u8], d: Dir) -> bool
     requires { ⌜ TapeOk t (now cells) ⌝ }
     ensures { λ r. ⌜ r ≡ blankBeyond (held t (now (cells .entry))) d ⌝ }
@@ -195,7 +195,7 @@ pub fn only_blanks_beyond(t: Tape, cells: &[u8], d: Dir) -> bool
     }
 }
 
-// The symbol at a position; a cell outside is blank.
+// The symbol at a position; a cell outside the tape is blank.
 pub fn get(t: Tape, cells: &[u8], at: i64) -> u8
     requires { ⌜ TapeOk t (now cells) ⌝ }
     ensures { λ r. ⌜ r ≡ cellAt (t .origin) (t .len) (now (cells .entry)) at ⌝ }
@@ -221,7 +221,7 @@ pub fn count_non_blank(t: Tape, cells: &[u8]) -> u64
     loops::count_written(cells, t.len)
 }
 
-// The symbols from a position on, into the whole of `out`; positions past i64 are blank.
+// Fills `out` with the symbols from a position on; positions past i64 are blank.
 pub fn window(t: Tape, cells: &[u8], from: i64, out: &mut [u8])
     requires { ⌜ TapeOk t (now cells) ⌝ }
     ensures { λ _. ⌜ now (out .exit) ≡ windowOf (held t (now (cells .entry))) from (now (out .entry)) ⌝ }
@@ -229,7 +229,7 @@ pub fn window(t: Tape, cells: &[u8], from: i64, out: &mut [u8])
     shown::window(cells, t.origin, t.len, from, out);
 }
 
-// The nearest non-blank cell at a position or beyond it that way; N looks at the position alone.
+// The nearest non-blank cell at a position or beyond it in direction `dir`; N tests the position alone.
 pub fn find_non_blank(t: Tape, cells: &[u8], from: i64, dir: Dir) -> Spot
     requires { ⌜ TapeOk t (now cells) ⌝ }
     ensures { λ r. ⌜ r ≡ findOf (held t (now (cells .entry))) from dir ⌝ }

@@ -1,7 +1,7 @@
 // One dense tape over a lent slice.
 pub mod inner;
 
-// Of the lent cells the first `len` are the tape's. The other numbers are indexes into them: of position 0, of the
+// The first `len` of the lent cells are the tape's. The other numbers are indexes into them: of position 0, of the
 // head, and of the lowest and the highest head so far. A tape that the machine lacks has 0 in every field.
 pub struct Tape {
     pub len: usize,
@@ -17,7 +17,7 @@ pub enum Span {
     Cells { from: i64, to: i64 },
 }
 
-// The position of a cell that was looked for.
+// The result of a search for a cell: its position, or nowhere.
 pub enum Spot {
     At(i64),
     Nowhere,

@@ -1,4 +1,4 @@
-// Loops over the cells of a tape, by index, and how far a tape grows. No head and no position is known here.
+// Loops over the cells of a tape, by index, and the growth of a tape. These functions use no head and no position.
 use symbol::position::Found;
 ghost use mathlib.Core.Path.{_≡_};
 ghost use Prim.Native.Nat.{_+_, _-_, _≤_, _<_};
@@ -36,7 +36,7 @@ fn get(cells: &[u8], i: usize) -> u8
     cells[i]
 }
 
-// Blanks from index `from` on, up to `to`.
+// Writes blanks from index `from` on, below `to`.
 pub fn blank(cells: &mut [u8], from: usize, to: usize)
     requires { ⌜ to ≤ length (now cells) ⌝ }
     ensures { λ _. ⌜ now (cells .exit) ≡ blanked from to (now (cells .entry)) ⌝ }
@@ -48,7 +48,7 @@ pub fn blank(cells: &mut [u8], from: usize, to: usize)
     }
 }
 
-// The word from index `at` on.
+// Writes the word from index `at` on.
 pub fn lay(cells: &mut [u8], at: usize, word: &[u8])
     requires { ⌜ at + length (now word) ≤ length (now cells) ⌝ }
     ensures { λ _. ⌜ now (cells .exit) ≡ laid at (now (word .entry)) (now (cells .entry)) ⌝ }
@@ -61,7 +61,7 @@ pub fn lay(cells: &mut [u8], at: usize, word: &[u8])
     }
 }
 
-// 16 blanks, the word, 16 blanks.
+// Writes 16 blanks, the word, 16 blanks.
 pub fn fresh(cells: &mut [u8], word: &[u8])
     requires { ⌜ 32 + length (now word) ≤ length (now cells) ⌝ }
     ensures { λ _. ⌜ now (cells .exit) ≡ freshCells (now (word .entry)) (now (cells .entry)) ⌝ }
@@ -72,7 +72,7 @@ pub fn fresh(cells: &mut [u8], word: &[u8])
     blank(cells, 16 + n, 32 + n);
 }
 
-// The first `n` cells moved up by some places, the last of them first.
+// Moves the first `n` cells up by `by` places, the last of them first.
 fn move_up(cells: &mut [u8], by: usize, n: usize)
     requires { ⌜ n + by ≤ length (now cells) ⌝ }
     ensures { λ _. ⌜ now (cells .exit) ≡ movedUp by n (now (cells .entry)) ⌝ }
@@ -84,7 +84,7 @@ fn move_up(cells: &mut [u8], by: usize, n: usize)
     }
 }
 
-// `more` blanks before the first `len` cells.
+// Puts `more` blanks before the first `len` cells.
 pub fn open_left(cells: &mut [u8], more: usize, len: usize)
     requires { ⌜ len + more ≤ length (now cells) ⌝ }
     ensures { λ _. ⌜ now (cells .exit) ≡ blanked 0 more (movedUp more len (now (cells .entry))) ⌝ }
@@ -109,7 +109,7 @@ pub fn all_below(cells: &[u8], n: usize, k: u64) -> bool
     true
 }
 
-// Whether the cells from index `from` on, up to `to`, are all blank.
+// Whether the cells from index `from` on, below `to`, are all blank.
 pub fn all_blank(cells: &[u8], from: usize, to: usize) -> bool
     requires { ⌜ to ≤ length (now cells) ⌝ }
     ensures { λ r. ⌜ r ≡ allIn (blankAt (now (cells .entry))) (to - from) from ⌝ }
@@ -124,7 +124,7 @@ pub fn all_blank(cells: &[u8], from: usize, to: usize) -> bool
     true
 }
 
-// The lowest of the cells from index `from` on, up to `to`, that is not blank.
+// The lowest non-blank cell from index `from` on, below `to`.
 pub fn first_written(cells: &[u8], from: usize, to: usize) -> Found
     requires { ⌜ to ≤ length (now cells) ⌝ }
     ensures { λ r. ⌜ r ≡ firstWritten (now (cells .entry)) from to ⌝ }
@@ -139,7 +139,7 @@ pub fn first_written(cells: &[u8], from: usize, to: usize) -> Found
     Found::Nothing
 }
 
-// The highest of the cells below index `to` that is not blank.
+// The highest non-blank cell below index `to`.
 pub fn last_written(cells: &[u8], to: usize) -> Found
     requires { ⌜ to ≤ length (now cells) ⌝ }
     ensures { λ r. ⌜ r ≡ lastWritten (now (cells .entry)) to ⌝ }
@@ -178,7 +178,7 @@ pub fn count_written(cells: &[u8], n: usize) -> u64
     count
 }
 
-// How many cells a growth adds: as many as there are, where the buffer has room for them.
+// How many cells a growth adds: as many as there are, or none where the buffer has no space for them.
 pub fn extra(len: usize, cap: usize) -> usize
     requires { ⌜ len ≤ 1073741824 ⌝ }
     ensures { λ r. ⌜ (r ≡ extra len cap) × (r ≤ len) ⌝ }

@@ -1,4 +1,4 @@
--- What the first len of a tape's cells c show, where index o is position 0 (document 01, tape.rs): a cell, a window, and the nearest cell that is
+-- The first len of a tape's cells c by position, where index o is position 0 (document 01, tape.rs): a cell, a window, and the nearest cell that is
 -- not blank. "A cell outside is blank." Definitions only.
 use mathlib.Core.List.{List}
 use Prim.Native.Nat.{ℕ, _+_, _-_, _≤_, _^_, min}
@@ -12,7 +12,7 @@ use Rattle.symbol.specs.Model.{raisedOf, indexOf}
 use Rattle.symbol.specs.declared.position.Found.{Found}
 use Rattle.tape_cells.specs.Model.{foundCell, firstWritten, lastWritten}
 
--- what the functions that look may assume
+-- what the questions may assume
 pub record Shown (o len : ℕ) (c : List ℕ) : Type 0 where
   pub len-in : len ≤ length c
   pub len-small : len ≤ 1073741824
@@ -36,7 +36,7 @@ placeOf o len c raised j = raisedAt o len c (raised + j)
 abbrev pub windowFrom : (o len : ℕ) → List ℕ → (raised : ℕ) → List ℕ → List ℕ
 windowFrom o len c raised out = fillFrom (placeOf o len c raised) (length out) 0 out
 
--- and from a position on
+-- the window from a position on
 abbrev pub windowAt : (o len : ℕ) → List ℕ → (from : ℤ) → List ℕ → List ℕ
 windowAt o len c from out = windowFrom o len c (raisedOf from) out
 
@@ -46,7 +46,7 @@ windowAt o len c from out = windowFrom o len c (raisedOf from) out
 abbrev pub cellsBelow : (up down o len : ℕ) → ℕ
 cellsBelow up down o len = min (o + up - down) len
 
--- at position z or below it, and at z or above it
+-- the highest non-blank cell at position z or below it, and the lowest at z or above it
 abbrev pub lastUpTo : (o len : ℕ) → List ℕ → ℤ → Found
 lastUpTo o len c z = lastWritten c (cellsBelow (up z) (dn z) (o + 1) len)
 

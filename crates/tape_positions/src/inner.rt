@@ -1,4 +1,4 @@
-// The questions that name positions, on the first `len` of a tape's cells, of which index `origin` is position 0.
+// Questions about positions, on the first `len` of a tape's cells. Index `origin` is position 0.
 use symbol::position;
 use symbol::position::Found;
 use tape_cells::inner as loops;
@@ -28,7 +28,7 @@ fn cell_above(cells: &[u8], origin: usize, len: usize, from: u64, j: usize) -> u
     loops::at(cells, found)
 }
 
-// The symbols from a raised position on, into the whole of `out`.
+// Writes the symbols from a raised position on into the whole of `out`.
 fn fill(cells: &[u8], origin: usize, len: usize, from: u64, out: &mut [u8])
     requires { ⌜ Shown origin len (now cells) ⌝ }
     ensures { λ _. ⌜ now (out .exit) ≡ windowFrom origin len (now (cells .entry)) from (now (out .entry)) ⌝ }
@@ -42,7 +42,7 @@ fn fill(cells: &[u8], origin: usize, len: usize, from: u64, out: &mut [u8])
     }
 }
 
-// The symbols from a position on, into the whole of `out`; positions past i64 are blank.
+// Writes the symbols from a position on into the whole of `out`; positions past i64 are blank.
 pub fn window(cells: &[u8], origin: usize, len: usize, from: i64, out: &mut [u8])
     requires { ⌜ Shown origin len (now cells) ⌝ }
     ensures { λ _. ⌜ now (out .exit) ≡ windowAt origin len (now (cells .entry)) from (now (out .entry)) ⌝ }

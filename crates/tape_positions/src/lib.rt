@@ -1,2 +1,2 @@
-// What a tape's cells show at positions.
+// The cells of a tape by position.
 pub mod inner;

@@ -1,8 +1,8 @@
--- The table machine as the timeline's proofs see it, and its run from a configuration. Definitions only.
+-- The table machine in the form that the timeline's proofs use, and its run from a configuration. Definitions only.
 use mathlib.Core.Path.{_≡_}
 use Prim.Native.Nat.{ℕ, zero, suc, _-_}
 
--- n times f
+-- f applied n times
 unfoldable pub iterate : {A : Type 0} → (A → A) → ℕ → A → A
 iterate f zero a = a
 iterate f (suc n) a = f (iterate f n a)
@@ -15,12 +15,12 @@ pub record Automaton : Type 1 where
   pub step : Config → Config
   pub Halted : Config → Type 0
   pub Verdict : Config → Out → Type 0
-  -- the answers that tell of lack of space, and those that say never
+  -- the answers that are full, and those that are never
   pub Full : Out → Type 0
   pub Never : Out → Type 0
   -- the step count that an answer gives
   pub counted : Out → ℕ
-  -- what a run can be in: the tapes that the machine lacks are blank
+  -- the configurations of a run: the tapes that the machine lacks are blank
   pub Real : Config → Type 0
   -- laws
   pub real-step : (c : Config) → Real c → Real (step c)
@@ -30,7 +30,7 @@ pub record Automaton : Type 1 where
   pub verdict-not-full : (c : Config) (o : Out) → Verdict c o → ¬ Full o
   pub never-halts : (c : Config) (o : Out) → Real c → Verdict c o → Never o → (n : ℕ) → ¬ Halted (iterate step n c)
 
--- the configuration at step n, run without limits from c on; c itself where n is not past its step count
+-- the configuration at step n of the run from c, without limits; c itself where n is at most its step count
 unfoldable pub run : (M : Automaton) → M .Config → ℕ → M .Config
 run M c n = iterate (M .step) (n - M .steps c) c
 

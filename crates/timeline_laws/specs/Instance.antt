@@ -1,4 +1,4 @@
--- What a kind of engine has to show of each of its engines that the check accepts. Definitions only.
+-- The facts to prove for a kind of engine, of each of its engines that the check accepts. Definitions only.
 use Prim.Native.Nat.{ℕ}
 use mathlib.Core.Path.{_≡_}
 use mathlib.Core.Logic.{_↔_}
@@ -15,23 +15,23 @@ use Rattle.timeline_laws.specs.Laws.{Laws}
 use Rattle.timeline_laws.specs.Facts.TableRun.{machine}
 use Rattle.timeline_laws.specs.Meaning.{EngineMeaning}
 
--- of the engine e
+-- the facts of the engine e
 pub record Instance (X : EngineMeaning) (m : Machine) (s : List ℕ) (e : X .kind .State) : Type 1 where
   pub table : TableOf m (tableOf m s)
   pub laws : Laws (machine m s table) (opsFor (X .kind) m s e)
   pub fits : laws .Fits e
-  -- tapes that the machine lacks are blank
+  -- the tapes that the machine lacks are blank
   pub bare : Bare (m .tapes) (X .config m e)
-  -- slots stay as large as they were
+  -- the slot's size stays the same
   pub same-size : (u : X .kind .State) → laws .Fits u → X .kind .slotSize m u ≡ X .kind .slotSize m e
   pub same-config : (u : X .kind .State) → laws .config (laws .mean u) ≡ X .config m u
   pub same-engine : (u v : X .kind .State) → laws .Same u v → X .Same m u v
   pub full-is : (j : ℕ) → laws .NoRoom (iterate (laws .next) j (laws .mean e)) ↔ X .FullStep m s e j
 
--- of every one that the check accepts
+-- the facts of every engine that the check accepts
 abbrev pub Instances : EngineMeaning → Type 1
 Instances X = (m : Machine) (s : List ℕ) → Bytes s → (e : X .kind .State) → X .kind .check m s e ≡ Accepted → Instance X m s e
 
--- and that a fresh one holds the word's configuration
+-- a fresh engine holds the word's configuration
 abbrev pub Beginnings : EngineMeaning → Type 0
 Beginnings X = (m : Machine) (s w : List ℕ) (b : X .kind .Lent) (e : X .kind .State) → X .kind .create m s w b ≡ answered e → X .config m e ≡ start (m .start) w

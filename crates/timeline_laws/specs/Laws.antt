@@ -1,4 +1,4 @@
--- What makes operations an engine of the table machine: all that the third demand asks of an engine. Definitions only.
+-- The laws that make operations an engine of the table machine: all that the third demand requires of an engine. Definitions only.
 use mathlib.Core.Path.{_≡_}
 use mathlib.Core.Option.{some}
 use Prim.Native.Nat.{ℕ, _+_, _≤_, _<_}
@@ -6,30 +6,30 @@ use Rattle.machine.specs.declared.Checked.the-variants.{Accepted}
 use Rattle.timeline_rule.specs.Model.Engine.{limit, Ops}
 use Rattle.timeline_laws.specs.Automaton.{Automaton, iterate}
 
--- How an advance of n steps ends that starts with meaning x, answers o and leaves meaning y: with every step made (a halted engine makes them standing still),
--- and the verdict there; or at the first step that is full, with its step count.
+-- How an advance of n steps ends, which starts with meaning x, answers o and leaves meaning y. Either every step was made (a step leaves a halted engine as it
+-- is) and o is the verdict there; or the advance ends at the first step that is full, and o is full with the step count there.
 pub data Advance (M : Automaton) (Mean : Type 0) (config : Mean → M .Config) (next : Mean → Mean) (NoRoom : Mean → Type 0) (n : ℕ) (x : Mean) (o : M .Out) (y : Mean) : Type 0 where
   went : ((j : ℕ) → j < n → ¬ NoRoom (iterate next j x)) → y ≡ iterate next n x → M .Verdict (config y) o → Advance M Mean config next NoRoom n x o y
   full : (j : ℕ) → j < n → ((i : ℕ) → i < j → ¬ NoRoom (iterate next i x)) → NoRoom (iterate next j x) → y ≡ iterate next j x
       → M .Full o → M .counted o ≡ M .steps (config y) → Advance M Mean config next NoRoom n x o y
 
--- `Mean` is what decides all that is to come: equal for two engines that differ only in stale bytes or in macro steps
+-- An engine's meaning, of type `Mean`, determines all later answers: it is equal for two engines that differ only in stale bytes or in macro steps
 pub record Laws (M : Automaton) (O : Ops (M .Out)) : Type 1 where
   pub Mean : Type 0
   pub mean : O .State → Mean
-  -- the configuration that it holds
+  -- the configuration that an engine of that meaning holds
   pub config : Mean → M .Config
   -- one step, of an engine that has room for it
   pub next : Mean → Mean
   -- the next step is full by the engine's rule
   pub NoRoom : Mean → Type 0
-  -- `check` accepts it, and its buffers are as long as those of this list
+  -- `check` accepts the engine, and its buffers are as long as at the start of the list
   pub Fits : O .State → Type 0
-  -- what fitting says of the meaning, but for the limit of the steps
+  -- the property of the meaning that follows from fitting, without the limit on the steps
   pub Good : Mean → Type 0
-  -- the first is the second, in other buffers
+  -- the two are the same engine, in different buffers
   pub Same : O .State → O .State → Type 0
-  -- slot i gives that engine
+  -- slot i holds that engine
   pub Holds : O .Store → ℕ → O .State → Type 0
   pub fits-check : (s : O .State) → Fits s → O .check s ≡ Accepted
   pub fits-low : (s : O .State) → Fits s → O .now s ≤ limit

@@ -1,5 +1,5 @@
--- A TIMELINE THAT NOTES WHAT IT SAVES: the same timeline, which besides keeps for each slot the engine that was saved there. A note goes where its slot goes;
--- nothing reads it. The notes say what "the engine saved" means. Definitions only.
+-- A TIMELINE THAT NOTES WHAT IT SAVES: the same timeline, with a note for each slot: the engine that was saved there. A note moves with its slot;
+-- no operation reads it. The notes define "the engine saved". Definitions only.
 use Prim.Native.Nat.{ℕ}
 use mathlib.Core.Option.{Option, none, some}
 use mathlib.Core.List.{List, [], _∷_}
@@ -16,11 +16,11 @@ pub record Noted (Store State : Type 0) : Type 0 where
   pub bytes : Store
   pub note : ℕ → Option State
 
--- the notes, with that one for slot i
+-- the notes, with x for slot i
 abbrev pub noteAt : {A : Type 0} → ℕ → Option A → (ℕ → Option A) → (ℕ → Option A)
 noteAt i x f = λ j. pick (eqb j i) x (f j)
 
--- the operations of an engine, whose store has notes: saving an engine notes it, moving a slot moves its note
+-- the operations of an engine, with notes in its store: saving an engine notes it, moving a slot moves its note
 abbrev pub noting : {Out : Type 0} → Ops Out → Ops Out
 noting O = record {
   State = O .State;
@@ -34,7 +34,7 @@ noting O = record {
   restore = λ i p s t. O .restore i p s (t .bytes);
 }
 
--- without the notes
+-- the timeline without the notes
 abbrev pub bare : {State Store : Type 0} → TimelineWith State (Noted Store State) → TimelineWith State Store
 bare w = record { engine = w .engine; store = w .store .bytes; times = w .times }
 

@@ -1,4 +1,5 @@
-// What is due, where to stop and which slot to go back to. They ask for numbers of which no sum wraps.
+// The step at which a slot is due, the step to stop at, the slot to go back to, and the checks of a timeline's numbers.
+// The contracts require numbers of which no sum wraps.
 use super::Times;
 use machine::Checked;
 use outcome::Outcome;
@@ -29,7 +30,7 @@ pub(crate) fn within(low: u64, high: u64, x: u64) -> bool
     x <= high
 }
 
-// A step, or 2^62 + 1 for any over 2^62: no engine comes there.
+// A step, or 2^62 + 1 for any over 2^62: no engine reaches those.
 fn capped(step: u64) -> u64
     ensures { λ r. ⌜ r ≡ min step (limit + 1) ⌝ }
 {
@@ -39,7 +40,7 @@ fn capped(step: u64) -> u64
     4611686018427387905
 }
 
-// Where the next slot is due, capped, whatever the numbers.
+// The step at which the next slot is due, or 2^62 + 1 where that is over 2^62.
 fn far_due(first: u64, count: u64, every: u64) -> u64
     requires { ⌜ first ≤ limit ⌝ }
     requires { ⌜ 1 ≤ every ⌝ }
@@ -53,7 +54,7 @@ fn far_due(first: u64, count: u64, every: u64) -> u64
     }
 }
 
-// The same without a division where the product is at most 2^62: up to an interval of 2^53, for a value that passes 14.
+// The same, without a division for a count up to 512 (as refusal 14 requires) and an interval up to 2^53.
 fn due(first: u64, count: u64, every: u64) -> u64
     requires { ⌜ first ≤ limit ⌝ }
     requires { ⌜ 1 ≤ every ⌝ }
@@ -91,7 +92,7 @@ pub fn back_to(p: u64, n: u64) -> u64
     p - n
 }
 
-// The target of the call meant by two numbers, made at step p: seek for 0, forward for 1, else back.
+// The target of the call given by two numbers, made at step p: `which` is 0 for seek, 1 for forward, else back.
 pub fn target_of(which: u64, p: u64, n: u64) -> u64
     ensures { λ r. ⌜ r ≡ targetTo which p n ⌝ }
 {
@@ -104,7 +105,7 @@ pub fn target_of(which: u64, p: u64, n: u64) -> u64
     back_to(p, n)
 }
 
-// Whether a run was out of fuel.
+// Whether a run is out of fuel.
 pub fn is_spent(outcome: Outcome) -> bool
     ensures { λ r. ⌜ r ≡ spent outcome ⌝ }
 {
@@ -117,7 +118,7 @@ pub fn is_spent(outcome: Outcome) -> bool
     }
 }
 
-// 14 and 15 of a new timeline, on a store of so many slots.
+// Refusals 14 and 15 of a new timeline, on a store of `slots` slots.
 pub fn first_check(most: u64, every: u64, slots: usize) -> Checked
     ensures { λ r. ⌜ r ≡ firstCheck most every slots ⌝ }
 {
@@ -131,7 +132,7 @@ pub fn first_check(most: u64, every: u64, slots: usize) -> Checked
 }
 
 impl Times {
-    // Refusal 14 of a later value, whose engine is at step p.
+    // Whether a later value, whose engine is at step p, passes the test of refusal 14.
     fn ok(self, p: u64) -> bool
         requires { ⌜ p ≤ limit ⌝ }
         ensures { λ r. ⌜ r ≡ timesOk self p ⌝ }
@@ -152,7 +153,7 @@ impl Times {
         p <= d
     }
 
-    // With more than the most recorded, it keeps those of even index and doubles the interval.
+    // With more than `most` slots recorded, keeps those of even index and doubles the interval.
     fn thinned(self, store: &mut [u8], size: usize) -> Times
         requires { ⌜ ThinOk self (now store) size ⌝ }
         ensures { λ r. ⌜ Thinned self r size (now (store .entry)) (now (store .exit)) ⌝ }
@@ -172,7 +173,7 @@ impl Times {
     }
 }
 
-// 14, 15 and 13 of a call, on an engine at step p and a store of so many slots.
+// Refusals 14, 15 and 13 of a call, on an engine at step p and a store of `slots` slots.
 pub fn later_check(t: Times, p: u64, slots: usize, target: u64) -> Checked
     requires { ⌜ p ≤ limit ⌝ }
     ensures { λ r. ⌜ r ≡ laterCheck t p slots target ⌝ }
@@ -198,7 +199,7 @@ pub fn is_due(t: Times, p: u64) -> bool
     p == d
 }
 
-// Where the next advance stops: the target, or the next slot where that comes first.
+// The step at which the next advance stops: the target, or that of the next slot where it comes first.
 pub fn stop(t: Times, target: u64, p: u64) -> u64
     requires { ⌜ TimesFit t ⌝ }
     requires { ⌜ target ≤ limit ⌝ }
@@ -226,7 +227,7 @@ pub fn slot_for(t: Times, target: u64) -> u64
     last
 }
 
-// After a save into the slot that comes next.
+// Counts one slot more, after a save into the next slot, and thins if there are more than `most`.
 pub fn recorded(t: Times, store: &mut [u8], size: usize) -> Times
     requires { ⌜ RecordOk t (now store) size ⌝ }
     ensures { λ r. ⌜ Thinned (oneMore t) r size (now (store .entry)) (now (store .exit)) ⌝ }

@@ -1,4 +1,4 @@
--- What the encoder's answers say. Assumes nothing.
+-- What follows from the encoder's answers. Assumes nothing.
 use mathlib.Core.Path.{_≡_, ap, subst, _∙_}
 use mathlib.Core.Bool.{true, false}
 use mathlib.Core.Option.{Option}
@@ -25,7 +25,7 @@ use Rattle.alphabet.specs.Model.{differs, named, symbolFor, allowedOn, b
 
 -- ---- one glyph
 
--- the glyph's symbol by cases: no equal one among the first 256, or the first of them
+-- the glyph's symbol by cases: no equal glyph is among the first 256, or i is the place of the first
 pub data Spelt (glyphs : List ℕ) (glyph : ℕ) : Named → Type 0 where
   absent : Absent glyphs glyph → Spelt glyphs glyph Missing
   first : (i : ℕ) → First glyphs glyph i → Spelt glyphs glyph (Found (symbolOf i))
@@ -52,7 +52,7 @@ module _ (glyphs : List ℕ) (glyph : ℕ) where
 -- ---- a refusal
 
 module _ (glyphs flags word : List ℕ) where
-  -- 17's place is in the word, its glyph is not allowed, and every glyph before it is
+  -- the place of refusal 17: it is in the word, its glyph is not allowed, and every glyph before it is allowed
   pub record FirstBad (i : ℕ) : Type 0 where
     pub inside : i < length word
     pub bad : allowedAt glyphs flags word i ≡ false
@@ -98,7 +98,7 @@ module _ (glyphs flags word : List ℕ) where
   unfolding encodeInto
   refused-alone out why e = rw e
 
--- ---- where it accepts
+-- ---- where the encoder accepts
 
 -- place i of the output holds the first place of the word's glyph, which is the blank or flagged input
 pub record Written (glyphs flags word out : List ℕ) (i : ℕ) : Type 0 where
@@ -137,7 +137,7 @@ module _ (glyphs flags word : List ℕ) where
         let p = found i _ (fits .0 i h) v in
         record { holds = p .0; allows = p .1 }
 
-    -- the places past the word stay
+    -- the places past the word are unchanged
     pub past-word : (i : ℕ) → length word ≤ i → getD (encodeInto glyphs flags word out) i 0 ≡ getD out i 0
     past-word i h = ap (λ (l : List ℕ). getD l i 0) filled ∙ fill-past (byteAt glyphs word) (length word) 0 out i 0 (omega arith)
 

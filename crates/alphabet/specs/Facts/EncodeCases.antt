@@ -87,7 +87,7 @@ pub write-turn : (glyphs word : List ℕ) (i w : ℕ) (out x : List ℕ) → fil
 unfolding byteAt
 write-turn glyphs word i w out x p h e = fill-next (byteAt glyphs word) (length word) i w out x p h e
 
--- the answer, and what the output then holds
+-- the answer, and the output afterwards
 pub record Encodes (glyphs flags word out out₁ : List ℕ) (r : Checked) : Type 0 where
   pub answer : r ≡ encodeCheck glyphs flags word (length out)
   pub holds : out₁ ≡ encodeInto glyphs flags word out

@@ -1,4 +1,4 @@
--- Words over five glyphs: 95, the blank; 97, not flagged; 98, flagged input; 97 once more, flagged; 99, whose flag is missing. Computed. Assumes nothing.
+-- Computed examples over five glyphs: 95, the blank; 97, not flagged; 98, flagged input; 97 once more, flagged; 99, whose flag is missing. Assumes nothing.
 use mathlib.Core.Path.{_≡_, refl}
 use mathlib.Core.List.{List, [], _∷_}
 use Prim.Native.Nat.{ℕ}
@@ -17,7 +17,7 @@ glyphs = 95 ∷ 97 ∷ 98 ∷ 97 ∷ 99 ∷ []
 abbrev flags : List ℕ
 flags = 0 ∷ 0 ∷ 1 ∷ 1 ∷ []
 
--- the answer, and what the output then holds
+-- the answer, and the output afterwards
 pub record Encoding : Type 0 where
   pub answer : Checked
   pub output : List ℕ
@@ -28,7 +28,7 @@ encoded word out = record { answer = encodeCheck glyphs flags word (length out);
 abbrev gives : Checked → List ℕ → Encoding
 gives r out = record { answer = r; output = out }
 
--- the blank needs no flag, and the places past the word stay
+-- the blank needs no flag, and the places past the word are unchanged
 accepted : encoded (98 ∷ 95 ∷ []) (7 ∷ 7 ∷ 7 ∷ []) ≡ gives Accepted (2 ∷ 0 ∷ 7 ∷ [])
 unfolding encodeCheck glyphsCheck encodeInto allowedAt byteAt symbolFor isInput firstFail fillFrom pick both
 accepted = refl
@@ -43,7 +43,7 @@ missing-flag : encoded (99 ∷ []) (7 ∷ []) ≡ gives (Refused (Why.Glyph 0)) 
 unfolding encodeCheck glyphsCheck encodeInto allowedAt byteAt symbolFor isInput firstFail fillFrom pick both
 missing-flag = refl
 
--- no such glyph, at the first of two places; and 17 before 18
+-- two glyphs are missing: refusal 17 gives the first place, and comes before 18
 no-glyph : encoded (98 ∷ 100 ∷ 101 ∷ []) (7 ∷ []) ≡ gives (Refused (Why.Glyph 1)) (7 ∷ [])
 unfolding encodeCheck glyphsCheck encodeInto allowedAt byteAt symbolFor isInput firstFail fillFrom pick both
 no-glyph = refl

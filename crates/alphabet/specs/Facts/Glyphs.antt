@@ -1,4 +1,4 @@
--- The encoder's test of a glyph is document 01's sentence, and so is its refusal 17. Assumes nothing.
+-- The encoder's test of a glyph agrees with document 01's sentence, and so does its refusal 17. Assumes nothing.
 use mathlib.Core.Path.{_≡_, refl, ap, subst, subst⁻¹}
 use mathlib.Core.Logic.{_↔_}
 use mathlib.Core.Bool.{Bool, true, false}
@@ -42,7 +42,7 @@ one-first glyphs x i j p q = by (decLt i j) (decLt j i)
     by (no h) (yes g) = absurd (p .before j g (q .equal))
     by (no h) (no g) = omega arith
 
--- the symbol answered is the first place; none where there is no place
+-- the symbol returned for a glyph is its first place; none is returned where it has no place
 module _ (glyphs : List ℕ) (x : ℕ) where
   pub symbol-place : (i : ℕ) → (namedNumbers (symbolFor glyphs x) ≡ 1 ∷ i ∷ []) ↔ First glyphs x i
   symbol-place i = by _ (spelt glyphs x)

@@ -1,4 +1,4 @@
--- The exported calls: from what the operation and the stores say to the call. Assumes nothing.
+-- The effect of an exported call of the plain engine follows from its operation and from the numbers stored. Assumes nothing.
 use mathlib.Core.Path.{_≡_, refl}
 use mathlib.Core.List.{List}
 use Prim.Native.Nat.{ℕ}

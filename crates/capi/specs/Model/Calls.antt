@@ -1,4 +1,4 @@
--- What each exported call of the plain engine leaves behind: its result, the engine's numbers, the answer's values, and the cells. Definitions only.
+-- The effect of each exported call of the plain engine: its result, the engine's numbers, the answer's values, and the cells. Definitions only.
 use mathlib.Core.List.{List}
 use Prim.Native.Nat.{ℕ}
 use Rattle.outcome.specs.Numbers.{refusalNumber}

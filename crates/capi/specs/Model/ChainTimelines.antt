@@ -1,4 +1,4 @@
--- What an exported call of a timeline over the run-length engine leaves behind. Definitions only.
+-- The effect of an exported call of a timeline over the run-length engine. Definitions only.
 use mathlib.Core.List.{List}
 use Prim.Native.Nat.{ℕ}
 use Rattle.outcome.specs.declared.Outcome.{Outcome}

@@ -1,4 +1,4 @@
--- What each exported call of the run-length engine leaves behind. Definitions only.
+-- The effect of each exported call of the run-length engine. Definitions only.
 use mathlib.Core.List.{List}
 use Prim.Native.Nat.{ℕ}
 use Rattle.outcome.specs.Numbers.{refusalNumber}

@@ -1,4 +1,4 @@
--- What the exported calls of a timeline leave behind, and those over the plain engine. Definitions only.
+-- The effect of the exported calls of a timeline, over either engine and over the plain engine. Definitions only.
 use mathlib.Core.List.{List}
 use Prim.Native.Nat.{ℕ}
 use Rattle.outcome.specs.declared.Outcome.{Outcome}

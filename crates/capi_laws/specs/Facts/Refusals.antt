@@ -1,4 +1,4 @@
--- A refused exported call leaves everything as it was, where its operation does. Assumes nothing.
+-- A refused exported call leaves everything as it was where its operation does so. Assumes nothing.
 use mathlib.Core.Path.{_≡_, refl, ap, subst, _∙_}
 use mathlib.Core.List.{List}
 use Prim.Native.Nat.{ℕ}

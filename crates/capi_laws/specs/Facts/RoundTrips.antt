@@ -1,5 +1,5 @@
--- Numbers lent to an exported call, read as an engine or a timeline and stored back, are as they were: the sixteen of the plain engine, the seven of the run-length
--- engine and the four of a timeline, whatever they are. Assumes nothing.
+-- The numbers lent to an exported call, read as an engine or a timeline and stored back, are as they were: the sixteen of the plain engine, the seven of the
+-- run-length engine and the four of a timeline, for all values. Assumes nothing.
 use mathlib.Core.Path.{_≡_, refl}
 use mathlib.Core.List.{List}
 use Prim.Native.Nat.{ℕ, _+_}

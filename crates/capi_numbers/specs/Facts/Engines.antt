@@ -1,4 +1,4 @@
--- Numbers across the C boundary: one fact for each function that stores or reads them. Assumes nothing.
+-- Numbers across the C boundary: reading and storing the numbers of a plain engine. Assumes nothing.
 use mathlib.Core.Path.{_≡_}
 use mathlib.Core.List.{List}
 use Prim.Native.Nat.{ℕ}

@@ -37,7 +37,7 @@ withTape xs i t = set (set (set (set (set xs i (t .len)) (i + 1) (t .origin)) (i
 unfoldable pub withEngine : List ℕ → Simulator → List ℕ
 withEngine xs v = withTape (withTape (withTape (set xs 0 (v .steps)) 1 (v .t0)) 6 (v .t1)) 11 (v .t2)
 
--- no rule from 65536 on, else a `from` state
+-- a number below 65536 is a `from` state; from 65536 on there is no rule
 abbrev pub ruleOf : ℕ → StopRule
 ruleOf n = pick (ltb n 65536) (Rule.From (stateOf n)) Rule.Never
 

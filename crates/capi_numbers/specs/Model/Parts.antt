@@ -20,7 +20,7 @@ use Rattle.rle_records.specs.declared.Listed.{Listed}
 use Rattle.rle_records.specs.declared.Listed.the-variants as Listed
 use Rattle.capi_numbers.specs.Model.Answers.{withFive, refusedOut}
 
--- ---- a yes or a no
+-- ---- a truth value
 
 abbrev pub flagNumber : Bool → ℕ
 flagNumber false = 0
@@ -48,7 +48,7 @@ lookedOut (Look.Refused why) xs = refusedOut why xs
 
 -- ---- packed words
 
--- the entry of a table of one tape that these numbers say: undefined for 0, else the write, the move and the next state
+-- the entry of a one-tape table that these numbers describe: undefined where `defined` is 0, else with the write, the move and the next state
 unfoldable pub entryOf : (defined write dir next : ℕ) → Entry
 entryOf defined write dir next =
     pick (eqb defined 0) Entry.Undefined (Entry.Defined (singleOf (symbolOf write) (dirOf dir) (stateOf next)))
@@ -63,7 +63,7 @@ abbrev pub namedOut : Named → List ℕ → List ℕ
 namedOut Named.Missing xs = set xs 0 0
 namedOut (Named.Found s) xs = set (set xs 0 1) 1 (s .0)
 
--- ---- a side's runs: how many they are
+-- ---- a side's runs: their number
 
 abbrev pub listedCode : Listed → ℕ
 listedCode (Listed.Filled n) = 0

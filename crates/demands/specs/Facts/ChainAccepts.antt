@@ -1,4 +1,4 @@
--- What document 01 accepts, the run-length engine answers. Assumes nothing.
+-- The run-length engine answers every input that document 01 accepts. Assumes nothing.
 use mathlib.Core.Path.{_≡_, ap}
 use mathlib.Core.Bool.{true}
 use mathlib.Core.List.{List}

@@ -1,4 +1,4 @@
--- What the run-length engine counts is the number of the non-blank cells, in the plain engine's sense (Counts). Assumes nothing.
+-- The run-length engine's count is the number of the non-blank cells, in the plain engine's sense (Counts). Assumes nothing.
 use mathlib.Core.Path.{_≡_, sym, ap, _∙_}
 use mathlib.Core.Bool.{Bool}
 use mathlib.Core.List.{List}
@@ -54,6 +54,6 @@ module _ (cell : ℤ → ℕ) (from n count : ℕ) (c : CountedIn cell from n co
 pub count-is : (m : Machine) (σ : Conf) → ChainFits m σ → Counts (tapeOf σ .cell) (countOf σ)
 count-is m σ f = counts-of (tapeOf σ .cell) _ _ (countOf σ) (count-within m σ f)
 
--- as it is called
+-- for the answer of the question
 pub chain-counts : (m : Machine) (s : List ℕ) (σ : Conf) (n : ℕ) → countAnswer m s σ ≡ Counted.Found n → Counts (tapeOf σ .cell) n
 chain-counts m s σ n e = counts-of (tapeOf σ .cell) _ _ n (counted-is m s σ n e)

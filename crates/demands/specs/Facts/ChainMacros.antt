@@ -1,4 +1,4 @@
--- The macro steps of a run: an accepted run adds one for each, and there is one number of them. Assumes nothing.
+-- The macro steps of a run: an accepted run adds one for each, and their number is unique. Assumes nothing.
 use mathlib.Core.Path.{_≡_, refl, sym, ap, subst}
 use mathlib.Core.Bool.{true}
 use mathlib.Core.List.{List}
@@ -37,7 +37,7 @@ use Rattle.demands.specs.ChainClaims.{Lasts, one, ahead, loop, MacroStep
 use Rattle.demands.specs.Facts.ChainRun.{macro-step}
 use Rattle.demands.specs.Facts.ChainAccepts.{run-accepts}
 
--- ---- an engine that fits holds its tape by its two stacks
+-- ---- the two stacks of an engine that fits are those of its tape
 
 pub own-stacks : (m : Machine) (σ : Conf) → ChainFits m σ → Stacked (m .symbols) (tapeOf σ) (stackOf (leftOf σ)) (stackOf (rightOf σ))
 own-stacks m σ f = record {
@@ -52,11 +52,11 @@ module _ (m : Machine) (s : List ℕ) (bytes : Bytes s) (rule : StopRule) where
   abbrev k : Task
   k = task m s true rule
 
-  -- n more macro steps are counted, and so many were made
+  -- n more macro steps are counted, and n were made
   abbrev Counted : ℕ → Conf → Conf → Type 0
   Counted fuel σ τ = (n : ℕ) × (τ .sim .macros ≡ σ .sim .macros + n) × Macros m (tableOf m s) fuel (configOf σ) n (configOf τ)
 
-  -- where a macro step leads, the rest of the run is accepted
+  -- after a macro step, the rest of the run is accepted
   module _ (fuel : ℕ) (σ : Conf) (accepted : runCheck m s fuel σ ≡ Accepted) (j : Macro) (x : MacroStep k fuel σ j) where
     abbrev next : Conf
     next = macroOf j σ
@@ -72,7 +72,7 @@ module _ (m : Machine) (s : List ℕ) (bytes : Bytes s) (rule : StopRule) where
         (record { table = p .0 .table; single = p .0 .single; places = rw (l, r) (p .0 .places); fits = q .fits })
         (omega (arith, p .1, x .went .counted, x .within))
 
-    -- one more than the rest
+    -- the number for the rest of the run, plus one
     one-more : (τ : Conf) → Counted (fuel - j .repeats) next τ → Counted fuel σ τ
     unfolding run
     one-more τ r = by (entry (tableOf m s) (configOf σ)) refl
@@ -111,10 +111,10 @@ module _ (m : Machine) (s : List ℕ) (bytes : Bytes s) (rule : StopRule) where
       let p = accepted-run (runCheck m s fuel σ) σ (runOf k fuel σ) τ o e in
       subst (Counted fuel σ) (p .1) (counted-run (suc fuel) fuel σ (omega arith) (p .0))
 
--- ---- there is one number of them
+-- ---- their number is unique
 
 module _ (m : Machine) (d : Table) where
-  -- the number of steps of a macro step is one
+  -- the number of steps of a macro step is unique
   not-never : (c : Config) (p : NonHaltProof) {A : Type 0} → GoesOn m d c → Verdict (m .tapes) d c (NeverHalts (c .steps) p) → A
   not-never c p g v =
       let e = verdict-unique (m .tapes) d c _ _ g v in
@@ -136,7 +136,7 @@ module _ (m : Machine) (d : Table) where
   lasts-some f (ahead g h) = omega arith
   lasts-some f (loop p v) = f
 
-  -- steps are never fewer, and more after a defined entry
+  -- a run never lowers the step count, and raises it after a defined entry
   run-grows : (n : ℕ) (c : Config) → c .steps ≤ run d n c .steps
   unfolding run
   run-grows zero c = omega arith

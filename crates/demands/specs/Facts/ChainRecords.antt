@@ -1,4 +1,4 @@
--- The runs of a side as records: what `left` and `right` leave in their lent slice. Assumes nothing.
+-- The runs of a side as records: the lent slice after `left` and `right`. Assumes nothing.
 use mathlib.Core.Path.{_≡_, refl, sym, ap, _∙_}
 use mathlib.Core.List.{List, [], _∷_, _++_, append-assoc}
 use Prim.Native.Nat.{ℕ, zero, suc, _≤_}

@@ -1,4 +1,4 @@
--- What SecondChain says of a run-length engine's run, drawn from rle_refines. Assumes nothing.
+-- The claims of SecondChain about a run of the run-length engine, from rle_refines. Assumes nothing.
 use mathlib.Core.Path.{_≡_, refl, sym, ap, _∙_, subst}
 use mathlib.Core.Logic.{_↔_}
 use mathlib.Core.Bool.{Bool, true, false}
@@ -50,14 +50,14 @@ use Rattle.rle_refines.specs.Facts.Operations.{Passed, run-says, run-holds}
 use Rattle.demands.specs.FirstSpace.{GoesOn, ChainFull}
 use Rattle.demands.specs.ChainClaims.{runAhead, stackAhead, Lasts, one, ahead, loop, MacroStep}
 
--- a verdict is not that there is no space
+-- no verdict is Full
 pub not-full-verdict : (t : ℕ) (d : Table) (c : Config) (o : Outcome) → Verdict t d c o → (n : ℕ) → ¬ (o ≡ Full n)
 not-full-verdict t d c o (halts h) n e = let z : _≡_ {A = ℕ} 0 1 = cc in omega arith
 not-full-verdict t d c o (stays a h s) n e = let z : _≡_ {A = ℕ} 0 1 = cc in omega arith
 not-full-verdict t d c o (walks a x h w) n e = let z : _≡_ {A = ℕ} 0 1 = cc in omega arith
 not-full-verdict t d c o (goes a h s w) n e = let z : _≡_ {A = ℕ} 0 1 = cc in omega arith
 
--- the run ahead, of a side and of its stack
+-- the run ahead, for a stack and for a side
 run-ahead : (a : ℕ) (r : Stack) → runAhead a r ≡ aheadIn a r
 run-ahead a empty = refl
 run-ahead a (over s n r) = refl
@@ -67,13 +67,13 @@ side-ahead σ x =
     ap (λ a. runAhead a (stackOf x)) (read-held σ) ∙ run-ahead (σ .sim .tape .cur) (stackOf x)
     ∙ sym (ahead-is (σ .sim .tape .cur) (x .symbols) (x .lengths) (x .count))
 
--- ---- a plan that goes on is the entry's, so often
+-- ---- a plan that goes on repeats the entry's step this many times
 
 module _ (a : Action) (fuel : ℕ) (σ : Conf) (j : Macro) where
   abbrev times : (loops : Bool) → ℕ
   times b = timesOf (stepOf b a (σ .sim .state)) fuel σ
 
-  -- a turn that goes on has so many repeats
+  -- a turn that goes on has n repeats
   abbrev SoOften : ℕ → Turn → Type 0
   SoOften n t = planBy t fuel σ ≡ Go j → j .repeats ≡ n
 
@@ -130,7 +130,7 @@ module _ (m : Machine) (s : List ℕ) (bytes : Bytes s) (fuel : ℕ) (σ : Conf)
           (λ t. by (eqb-true _ _ t) (a .dir0) refl)
           (λ t. one (goes a has h g) (λ r. eqb-false _ _ t (r .0)))
         where
-          -- the run on the side that the move goes to
+          -- the run on the side of the move
           to : (x : Dir) (y : Side) → a .dir0 ≡ x → stackAhead x (stackOf (leftOf σ)) (stackOf (rightOf σ)) ≡ stackOf y
               → runAhead (readT (tapeOf σ)) (stackAhead (a .dir0) (stackOf (leftOf σ)) (stackOf (rightOf σ))) ≡ aheadOf (σ .sim .tape .cur) y
           to x y e q = ap (λ z. runAhead (readT (tapeOf σ)) (stackAhead z (stackOf (leftOf σ)) (stackOf (rightOf σ)))) e ∙ ap (runAhead (readT (tapeOf σ))) q ∙ side-ahead σ y
@@ -179,7 +179,7 @@ module _ (m : Machine) (s : List ℕ) (bytes : Bytes s) (fuel : ℕ) (σ : Conf)
   unfolding matches
   space-exact = full-iff (task m s false Never) refl (λ q. refl) fuel σ table (passed .0 .single) (passed .0 .fits) (passed .1)
 
--- ---- full only there
+-- ---- a run that ends full is at a full step
 
 module _ (m : Machine) (s : List ℕ) (bytes : Bytes s) (rule : StopRule) (fuel : ℕ) (σ τ : Conf) (n : ℕ) (done : runAnswer m s rule fuel σ ≡ given τ (Ans.Done (Full n))) where
   abbrev ran : Refines (task m s true rule) fuel σ (end τ (Full n))

@@ -32,9 +32,9 @@ use Rattle.rle.specs.Model.Operations as Chains
 use Rattle.demands.specs.FirstClaims.{Test, or, firstOf, numbersOf, numberOr0, lowest, TurnsAway}
 use Rattle.demands.specs.FirstTests.{tableTests, packTests, wordTests, encodeTests, plainNewTests, plainSizes, plainFits, plainRunTests, plainFastTests, plainAskTests, oneTape, chainNewTests, chainAskTests, chainRunTests}
 
--- ---- an operation that does as its check says
+-- ---- an operation whose result depends on its check alone
 
--- `on` is what it does by its check
+-- `on c` is its result where its check gives c
 pub turns : {X : Type 0} (numbers : List ℕ) (tests : List Test) (refusal : X → Checked) (asItWas : Refusal → X) (on : Checked → X) (c : Checked)
     → numbersOf tests ≡ numbers → c ≡ firstOf tests → refusal (on Accepted) ≡ Accepted → ((why : Refusal) → on (Refused why) ≡ asItWas why)
     → ((why : Refusal) → refusal (asItWas why) ≡ Refused why) → TurnsAway numbers tests refusal asItWas (on c)
@@ -72,7 +72,7 @@ on-on : (a b c : Checked) → checkedOn (checkedOn a b) c ≡ checkedOn a (check
 on-on (Refused why) b c = refl
 on-on Accepted b c = refl
 
--- ---- 6, 10 and 17: the lowest that fails
+-- ---- 6, 10 and 17: the lowest number whose test fails
 
 scan-first : (p : ℕ → Bool) (n : ℕ) (why : ℕ → Refusal) → answerAt why (firstFail p n 0) ≡ pick (allIn p n 0) Accepted (Refused (why (lowest p n)))
 scan-first p n why = by (firstFail p n 0) (scanned p n 0)
@@ -138,7 +138,7 @@ module _ (m : Machine) (s : List ℕ) (σ : Plain.Conf) where
       on-first _ _ (tableTests m s) (or (Sizes.wordsRight m s words) Why.PackedWords ∷ sizes ∷ fits ∷ or (Sizes.fuelFits (σ .sim .steps) fuel) Why.StepLimit ∷ []) (table-first m s)
       (ap (demand (Sizes.wordsRight m s words) Why.PackedWords) (fuel-first fuel))
 
-  -- 12 of the value, and 12 of the tape's number
+  -- 12 for the value, and 12 for the tape's number
   ask-first : (i : ℕ) → checkedOn (Plains.valueCheck m σ) (demand (ltb i (m .tapes)) Why.Misfit Accepted) ≡ firstOf (sizes ∷ or (both (fits .holds) (ltb i (m .tapes))) Why.Misfit ∷ [])
   unfolding Plains.valueCheck firstOf
   ask-first i = pick-on (sizes .holds) _ _ _ Why.BufferSize (both-on (fits .holds) (ltb i (m .tapes)) Why.Misfit)

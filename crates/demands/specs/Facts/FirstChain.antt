@@ -1,4 +1,4 @@
--- Each operation of the run-length engine turns away what its list says, and changes nothing then. Assumes nothing.
+-- Each operation of the run-length engine refuses by its list of tests, and a refusal changes nothing. Assumes nothing.
 use mathlib.Core.Path.{_≡_, refl, subst⁻¹}
 use mathlib.Core.Logic.{_↔_}
 use mathlib.Core.Bool.{Bool, true, false}
@@ -83,7 +83,7 @@ chain-run-turns m s rule fuel σ = turns _ (chainRunTests m s σ fuel) (λ (x : 
     (λ c. runOn c σ (runOf (task m s true rule) fuel σ)) _ refl (chain-run-first m s σ fuel) refl (λ why. refl) (λ why. refl)
 
 module _ (m : Machine) (s : List ℕ) where
-  -- any question that answers as its check says
+  -- any question whose answer depends on its check
   chain-asked : (σ : Conf) {X : Type 0} (refusal : X → Checked) (asItWas : Refusal → X) (on : Checked → X)
       → refusal (on Accepted) ≡ Accepted → ((why : Refusal) → on (Refused why) ≡ asItWas why) → ((why : Refusal) → refusal (asItWas why) ≡ Refused why)
       → TurnsAway (1 ∷ 2 ∷ 3 ∷ 4 ∷ 5 ∷ 6 ∷ 8 ∷ 11 ∷ 12 ∷ []) (chainAskTests m s σ) refusal asItWas (on (engineCheck m s σ))
@@ -114,7 +114,7 @@ module _ (m : Machine) (s : List ℕ) where
 
   -- ---- left and right
 
-  -- an answer by a check, as the records' answer
+  -- the records' answer where the check gives this
   abbrev listed : (count : ℕ) → Checked → Listed
   listed count (Refused why) = Listed.Refused why
   listed count Accepted = Listed.Filled count

@@ -30,7 +30,7 @@ use Rattle.demands.specs.FirstSpace.{GoesOn, EndsFull, ChainFull}
 use Rattle.demands.specs.Facts.FirstSpace.{fuel-verdict}
 
 module _ (m : Machine) (s : List ℕ) (bytes : Bytes s) where
-  -- ---- a run that says full
+  -- ---- a run that answers full
 
   module _ (rule : StopRule) (fuel : ℕ) (σ τ : Conf) (n : ℕ) (done : runAnswer m s rule fuel σ ≡ given τ (Ans.Done (Full n))) where
     ran : Refines (task m s true rule) fuel σ (end τ (Full n))

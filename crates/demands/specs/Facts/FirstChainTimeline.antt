@@ -1,4 +1,4 @@
--- The run-length engine under a timeline: its advance, and what it reads from a slot. Assumes nothing.
+-- The run-length engine under a timeline: its advance, and its reading of a slot. Assumes nothing.
 use mathlib.Core.Path.{_≡_, refl, sym, ap, _∙_, subst, subst⁻¹}
 use mathlib.Core.Logic.{_↔_}
 use mathlib.Core.Bool.{Bool, true, false}
@@ -60,7 +60,7 @@ module _ (m : Machine) (s : List ℕ) (bytes : Bytes s) (n : ℕ) (σ : Conf) (c
   fits : ChainFits m (ending .at)
   fits = ran .went .kept .fits
 
-  -- the never test's verdict there is not that there is no space
+  -- the never test's verdict there is not Full
   asked : (j : ℕ) → ¬ (ranFrom m s true 0 (ending .at) .outcome ≡ Full j)
   unfolding ranFrom
   asked j = not-full-verdict _ _ _ _ (no-fuel-verdict (task m s true Rule.Never) (accepted-table m s bytes (p .table)) (p .single) (ending .at) fits refl) j

@@ -1,4 +1,4 @@
--- What the listing turns away, and what it answers otherwise. Assumes nothing.
+-- The refusals of the listing, and its answers. Assumes nothing.
 use mathlib.Core.Path.{_≡_, refl, sym, ap, _∙_, subst}
 use mathlib.Core.List.{List, [], _∷_, _++_}
 use Prim.Native.Nat.{ℕ, _≤_, _<_}
@@ -19,7 +19,7 @@ use Rattle.demands.specs.FirstTests.{listTests}
 use Rattle.demands.specs.Facts.First.{turns}
 
 module _ (input out : List ℕ) where
-  -- what the listing does by its check
+  -- the result of the listing where its check gives this
   abbrev does : Checked → Listed × List ℕ
   does Accepted = (Did.Printed (length (answerTo input)), answerTo input ++ drop (length (answerTo input)) out)
   does (Refused why) = (Did.Refused why, out)

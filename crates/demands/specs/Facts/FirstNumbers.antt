@@ -1,4 +1,4 @@
--- THE FIRST DEMAND by numbers: "A refusal carries its number from document 01". What holds of every operation that the demand is about. Assumes nothing.
+-- THE FIRST DEMAND by numbers: "A refusal carries its number from document 01". This is true for every operation of the demand. Assumes nothing.
 use mathlib.Core.Path.{_≡_, refl, ap, _∙_}
 use mathlib.Core.Bool.{Bool, true, false}
 use mathlib.Core.List.{List, [], _∷_}
@@ -20,7 +20,7 @@ unfolding firstOf firstNumber
 first-number [] = refl
 first-number (t ∷ rest) = picked (t .holds) (firstOf rest) (firstNumber rest) (t .why) (first-number rest)
 
--- the number of its answer is that of the first of its tests that fails, and 0 where none does
+-- the number of its answer is that of the first test that fails, or 0 where none fails
 pub answer-number : {X : Type 0} {numbers : List ℕ} {tests : List Test} {refusal : X → Checked} {asItWas : Refusal → X} {left : X}
     → TurnsAway numbers tests refusal asItWas left → numberOf (refusal left) ≡ firstNumber tests
 answer-number {tests = tests} t = ap numberOf (t .first) ∙ first-number tests

@@ -1,4 +1,4 @@
--- Each operation on tables and words and of the plain engine turns away what its list says, and changes nothing then. Assumes nothing.
+-- Each operation on tables and words and of the plain engine refuses by its list of tests, and a refusal changes nothing. Assumes nothing.
 use mathlib.Core.Path.{_≡_, refl}
 use mathlib.Core.Bool.{true}
 use mathlib.Core.Option.{Option}
@@ -129,7 +129,7 @@ plain-fast-turns m s words rule fuel σ = turns _ (plainFastTests m s σ words f
     (λ c. Plains.runOn c σ (Plains.ranBack m σ (Plain.runOf (Plain.task m s true rule) fuel (Plains.bareOf m σ)))) _ refl (plain-fast-first m s σ words fuel) refl (λ why. refl) (λ why. refl)
 
 module _ (m : Machine) (s : List ℕ) (i : ℕ) where
-  -- any question that answers as its check says
+  -- any question whose answer depends on its check
   plain-asked : (σ : Plain.Conf) {X : Type 0} (refusal : X → Checked) (asItWas : Refusal → X) (on : Checked → X)
       → refusal (on Accepted) ≡ Accepted → ((why : Refusal) → on (Refused why) ≡ asItWas why) → ((why : Refusal) → refusal (asItWas why) ≡ Refused why)
       → TurnsAway (1 ∷ 2 ∷ 3 ∷ 4 ∷ 5 ∷ 6 ∷ 11 ∷ 12 ∷ []) (plainAskTests m s σ i) refusal asItWas (on (Asks.questionCheck m s i σ))

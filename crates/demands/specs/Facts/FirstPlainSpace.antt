@@ -51,7 +51,7 @@ step-accepted : (m : Machine) (s : List ℕ) (σ τ : Conf) (x : Status) → ste
 step-accepted m s σ τ x e =
     plain-run-first m s σ 1 ∙ sym (plain-step-turns m s σ .first) ∙ ap (λ (x : StepGiven). ofStep (x .answer)) e
 
--- and then it is the run's
+-- an accepted answer is that of the model's run
 run-is : (m : Machine) (s : List ℕ) (rule : StopRule) (fuel : ℕ) (σ : Conf) → runCheck m s fuel σ ≡ Accepted
     → runAnswer m s rule fuel σ ≡ ranBack m σ (runOf (task m s true rule) fuel (bareOf m σ))
 unfolding runAnswer
@@ -62,13 +62,13 @@ unfolding stepAnswer
 step-is m s σ c = ap (λ (x : Checked). stepOn x σ (stepBack m σ (onceOf m s (bareOf m σ)))) c
 
 module _ (m : Machine) (s : List ℕ) (bytes : Bytes s) where
-  -- ---- the engine's rule, as the run asks for it
+  -- ---- the engine's rule, as the run tests it
 
   lacks-room : (σ : Conf) → tableCheck m s ≡ Accepted → EngineFits m (bareOf m σ) → (a : Action) → entry (tableOf m s) (configOf m σ) ≡ Defined a → roomyOf (bareOf m σ) a ≡ false
       → PlainFull m s σ
   lacks-room σ c f a e r = record { act = a; has = e; full = lacks-some m σ a f (accepted-table m s bytes c _ _ _ _ a e) r }
 
-  -- ---- a run that says full
+  -- ---- a run that answers full
 
   module _ (rule : StopRule) (fuel : ℕ) (σ τ : Conf) (n : ℕ) (done : runAnswer m s rule fuel σ ≡ given τ (Ans.Done (Full n))) where
     abbrev k : Task
@@ -125,7 +125,7 @@ module _ (m : Machine) (s : List ℕ) (bytes : Bytes s) where
     pub plain-stands : (runAnswer m s rule fuel σ ≡ given σ (Ans.Done (Full (σ .sim .steps)))) ↔ PlainFull m s σ
     plain-stands = (λ e. plain-full rule fuel σ σ (σ .sim .steps) e .stops .next, stands-full)
 
-  -- ---- and more fuel does not go past it
+  -- ---- more fuel does not go past a full step
 
   module _ (rule : StopRule) (a b : ℕ) (σ τ : Conf) (n : ℕ) (done : runAnswer m s rule a σ ≡ given τ (Ans.Done (OutOfFuel n)))
       (accepted : runCheck m s (a + b) σ ≡ Accepted) (more : 0 < b) (next : PlainFull m s τ) where
@@ -196,7 +196,7 @@ module _ (m : Machine) (s : List ℕ) (bytes : Bytes s) where
     pub plain-step-full : (τ ≡ σ) × PlainFull m s σ
     plain-step-full = (step-still, step-lacks refl (step-holds m s bytes σ τ Step.Full done))
 
-  -- the next step is full exactly where the step says so, and leaves the engine and every cell as they were
+  -- the next step is full exactly where the step answers full and leaves the engine and every cell as they were
   module _ (σ : Conf) (accepted : runCheck m s 1 σ ≡ Accepted) where
     step-stands : PlainFull m s σ → stepAnswer m s σ ≡ stepGiven σ (StepAns.Done Step.Full)
     step-stands g =

@@ -1,4 +1,4 @@
--- The plain engine under a timeline: its advance, and what it reads from a slot. Assumes nothing.
+-- The plain engine under a timeline: its advance, and its reading of a slot. Assumes nothing.
 use mathlib.Core.Path.{_≡_, refl, sym, ap, _∙_, subst, subst⁻¹}
 use mathlib.Core.Logic.{_↔_}
 use mathlib.Core.Bool.{Bool, true, false}
@@ -79,7 +79,7 @@ module _ (m : Machine) (s : List ℕ) (bytes : Bytes s) (n : ℕ) (σ : Conf) (c
   back-config : configOf m back ≡ configOf m (ending .at)
   back-config = sym (config-bare m back) ∙ ap (configOf m) here
 
-  -- the never test's verdict there is not that there is no space
+  -- the never test's verdict there is not Full
   asked : (j : ℕ) → ¬ (ranFrom m s true 0 back .outcome ≡ Full j)
   unfolding ranFrom
   asked j = not-full-verdict _ _ _ _ (verdict-exact (task m s true Rule.Never) refl (bareOf m back) bare-again _ .1 refl) j
@@ -111,7 +111,7 @@ module _ (m : Machine) (s : List ℕ) (bytes : Bytes s) (n : ℕ) (σ : Conf) (c
     full = full-by (ran .answers);
   }
 
--- ---- a tape found to fit a part of a slot, in its buffer
+-- ---- a tape that fits a part of a slot, copied to its buffer
 
 module _ (k : ℕ) (t : Tape) (part c : List ℕ) (short : length part ≤ length c) (fits : tapeFits k t part ≡ true) where
   len-in : t .len ≤ length part
@@ -135,7 +135,7 @@ module _ (k : ℕ) (t : Tape) (part c : List ℕ) (short : length part ≤ lengt
   poured-tape : tapeOf (held t poured) ≡ tapeOf (held t part)
   poured-tape = tape-≡ (tapeOf (held t poured)) (tapeOf (held t part)) (cell-same t poured part poured-cells) refl refl refl
 
--- the same of a tape that the machine may lack
+-- the same for a tape that the machine may lack
 record Poured (b : Bool) (k : ℕ) (t : Tape) (part c : List ℕ) : Type 0 where
   size : length (fillIf b t part c) ≡ length c
   fits : b ≡ true → tapeFits k t (fillIf b t part c) ≡ true
@@ -157,7 +157,7 @@ pick-again false t u v = refl
 -- ---- a slot's bytes, and the buffers of σ
 
 module _ (m : Machine) (b : List ℕ) (σ : Conf) where
-  -- the engine that they show, with σ's own fields for the tapes that the machine lacks
+  -- the engine that they encode, with σ's own fields for the tapes that the machine lacks
   seen : Conf
   seen =
       conf (simIn m b (σ .sim)) (part0 (length (σ .c0)) b) (part1 m (length (σ .c0)) (length (σ .c1)) b)

@@ -1,4 +1,4 @@
--- The plain engine's rule of a full step, and what its run and its step look at. Assumes nothing.
+-- The plain engine's rule of a full step, and the tests of its run and its step. Assumes nothing.
 use mathlib.Core.Path.{_≡_, refl, ap, _∙_}
 use mathlib.Core.Bool.{Bool, true, false}
 use mathlib.Core.List.{List}
@@ -100,7 +100,7 @@ both-first : (a b : Bool) → a ≡ false → both a b ≡ false
 unfolding both
 both-first a b e = rw e
 
--- ---- the engine: space for a step is lacking on one of its tapes
+-- ---- the engine: a step lacks space on one of its tapes
 
 module _ (m : Machine) (σ : Conf) (a : Action) where
   pub lacks-some : EngineFits m (bareOf m σ) → ActionOf m a → roomyOf (bareOf m σ) a ≡ false → OnSomeTape m σ a
@@ -139,7 +139,7 @@ module _ (k : Task) (σ : Conf) (f : EngineFits (k .machine) σ) (a : Action) (r
       by (loops p t v) = let e = verdict-unique _ _ _ _ _ v going in let z : _≡_ {A = ℕ} 0 1 = cc in absurd (omega arith)
       by (goes-on b e u) = let q : b ≡ a = same-act (entry (tableIn k) (heldBy k σ)) a b e reads in pick-false _ _ _ (ap (roomyOf σ) q ∙ lacks)
 
--- the step asks for no verdict
+-- the step makes no never test
 pub full-once : (m : Machine) (s : List ℕ) (σ : Conf) → EngineFits m σ → (a : Action) → entry (tableOf m s) (configOf m σ) ≡ Defined a → roomyOf σ a ≡ false
     → onceOf m s σ ≡ once σ Step.Full
 unfolding onceOf
@@ -151,7 +151,7 @@ full-once m s σ f a reads lacks = by (look-sees (task m s false Rule.Never) σ 
     by (loops p t v) = absurd (clash t refl)
     by (goes-on b e u) = let q : b ≡ a = same-act (entry (tableOf m s) (configOf m σ)) a b e reads in pick-false _ _ _ (ap (roomyOf σ) q ∙ lacks)
 
--- a step that says full has changed nothing
+-- a step that answers full has changed nothing
 pub once-full : (m : Machine) (s : List ℕ) (σ : Conf) → onceOf m s σ .status ≡ Step.Full → onceOf m s σ .at ≡ σ
 unfolding onceOf
 once-full m s σ = by (lookWith m s false σ)

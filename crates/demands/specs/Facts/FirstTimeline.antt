@@ -1,4 +1,4 @@
--- A timeline over any kind of engine turns away what its lists say, and changes nothing then. Assumes nothing.
+-- A timeline over any kind of engine refuses by its lists of tests, and a refusal changes nothing. Assumes nothing.
 use mathlib.Core.Path.{_≡_, refl, sym, ap, _∙_, subst, subst⁻¹}
 use mathlib.Core.Bool.{Bool, true}
 use mathlib.Core.Option.{Option, none, some}
@@ -31,14 +31,14 @@ use Rattle.demands.specs.FirstTimeline.{ofReply, isThere, plainEngineTes
 use Rattle.demands.specs.FirstSlots.{Meaning}
 use Rattle.demands.specs.Facts.FirstTimelineSpace.{Slots, Engine, slot-says, call-stops}
 
--- ---- tests before an operation that itself turns away
+-- ---- tests before an operation with its own tests
 
 pub numbers-add : (a b : List Test) → numbersOf (a ++ b) ≡ numbersOf a ++ numbersOf b
 unfolding numbersOf
 numbers-add [] b = refl
 numbers-add (t ∷ a) b = ap (λ l. refusalNumber (t .why) ∷ l) (numbers-add a b)
 
--- `left` is what it does where the tests a all hold, and b is what it turns away then
+-- `on Accepted` is the result where the tests a all pass; b is the list of the tests after them
 turns-after : {X : Type 0} (na nb : List ℕ) (a b : List Test) (refusal : X → Checked) (asItWas : Refusal → X) (on : Checked → X) (c : Checked)
     → numbersOf a ≡ na → c ≡ firstOf a → TurnsAway nb b refusal asItWas (on Accepted) → ((why : Refusal) → on (Refused why) ≡ asItWas why)
     → ((why : Refusal) → refusal (asItWas why) ≡ Refused why) → TurnsAway (na ++ nb) (a ++ b) refusal asItWas (on c)
@@ -84,7 +84,7 @@ module _ (X : Kind) (numbers : List ℕ) (engineTests : Machine → (table : Lis
       abbrev Left : Type 0
       Left = Reply Outcome × TimelineOf X
 
-      -- the call to t, once nothing before 16 turned it away
+      -- the call to t, where no test before 16 fails
       abbrev GoesTo : ℕ → Bool → Left → Type 0
       GoesTo t b x = TurnsAway (16 ∷ []) (or b Why.Slot ∷ []) (λ (x : Left). ofReply (x .0)) (λ why. (refused why, w)) x
 

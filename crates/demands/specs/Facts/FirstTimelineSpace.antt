@@ -42,9 +42,9 @@ unfolding pick
 there-says true x r q = (refl, cc)
 there-says false x r q = let z : _≡_ {A = ℕ} 0 1 = cc in absurd (omega arith)
 
--- ---- what a kind of engine is asked for
+-- ---- the requirements on a kind of engine
 
--- how long a slot is, and what its test says of the engine that the slot's bytes show
+-- the size of a slot, and the meaning of its test for the engine that the slot's bytes encode
 pub record Slots (X : Kind) (M : Meaning X) (m : Machine) : Type 0 where
   pub size : (e : X .State) → X .slotSize m e ≡ M .slotSize m e
   pub shows : (b : List ℕ) (p : ℕ) (e : X .State) → (isThere (X .unpack m b p e) ≡ true) ↔ ((X .now (M .shown m b e) ≡ p) × M .Fits m (M .shown m b e))
@@ -97,7 +97,7 @@ module _ (X : Kind) (M : Meaning X) (m : Machine) (S : Slots X M m) (w : Timelin
   )
 
 module _ (X : Kind) (M : Meaning X) (m : Machine) (s : List ℕ) (E : Engine X M m s) where
-  -- a way to t from e that answered Full n and left e′
+  -- a call or a part of it that goes from e towards t, answers Full n and leaves e′
   abbrev Stops : (t n : ℕ) → (e e′ : X .State) → Type 0
   Stops t n e e′ = StopsFull (tableOf m s) (M .config m e) (M .config m e′) t n (M .NextFull m s e′)
 
@@ -108,7 +108,7 @@ module _ (X : Kind) (M : Meaning X) (m : Machine) (s : List ℕ) (E : Engine X M
       let f = E .advances 0 e a (omega arith) .full n q in
       omega (arith, f .0)
 
-  -- ---- one advance, and a way from there
+  -- ---- one advance, then the rest
 
   module _ (t j : ℕ) (e e′ : X .State) (o : Outcome) (short : X .now e + j ≤ t) (a : Advanced X M m s j e o e′) where
     advance-stops : (n : ℕ) → o ≡ Full n → Stops t n e e′
@@ -155,7 +155,7 @@ module _ (X : Kind) (M : Meaning X) (m : Machine) (s : List ℕ) (E : Engine X M
       leg : Advanced X M m s j e (stride O t (recordDue O w) .0) (turned O t w .engine)
       leg = E .advances j e (ap (X .check m s) same ∙ accepted) (omega (arith, short))
 
-      -- the turn that ends the loop, or what comes after it
+      -- the claim about a result x of the loop from w on
       abbrev Claim : Outcome × TimelineOf X → Type 0
       Claim x = (n : ℕ) → x .0 ≡ Full n → Stops t n (w .engine) (x .1 .engine)
 
@@ -195,7 +195,7 @@ module _ (X : Kind) (M : Meaning X) (m : Machine) (s : List ℕ) (E : Engine X M
     abbrev P : Ops Outcome
     P = opsFor X m s (w .engine)
 
-    -- a call's part that left x, having gone on from e
+    -- the claim about a part of a call that goes on from e and leaves x
     abbrev Says : (t : ℕ) → X .State → Reply Outcome × TimelineOf X → Type 0
     Says t e x = x ≡ (answered (Full n), w′) → Stops t n e (w′ .engine)
 

@@ -1,4 +1,4 @@
--- What document 01 accepts, the plain engine and the packing of a table answer. Assumes nothing.
+-- The plain engine and the packing of a table answer every input that document 01 accepts. Assumes nothing.
 use mathlib.Core.Path.{_≡_, refl, sym, ap, _∙_}
 use mathlib.Core.Bool.{Bool, true}
 use mathlib.Core.List.{List}
@@ -49,7 +49,7 @@ use Rattle.sim.specs.Model.Questions.{heldAt, questionCheck, getAnswer, extentA
 use Rattle.sim_refines.specs.Facts.MissingTapes.{fits-bare}
 use Rattle.demands.specs.Accepts.{WordOf, FreshCells, PlainTaken, PackedOf, Packs}
 
--- a test of a tape is passed where the machine lacks it, or where it holds
+-- the test of a tape passes where the machine lacks the tape, or where the test is true
 if-has : (b test : Bool) → (b ≡ true → test ≡ true) → ifHas b test ≡ true
 if-has b test h = pick-cases b test true (λ x. x ≡ true) h (λ _. refl)
 
@@ -121,7 +121,7 @@ module _ (m : Machine) (s : List ℕ) (σ : Conf) (t : PlainTaken m s σ) where
         let e : Given = ranBack m σ (runOf (task m s true rule) fuel (bareOf m σ)) in
         (e .at, runOf (task m s true rule) fuel (bareOf m σ) .outcome, ap (λ c. answerOf c m s true rule fuel σ) run-passes)
 
-    -- the words that document 01 names are those that the check takes
+    -- the check accepts the words that document 01 names
     module _ (words : List ℕ) (p : PackedOf m s words) where
       count-is : m .states * m .symbols ≡ entryCount m
       count-is = ap (λ (n : ℕ). m .states * n) (stride-one (m .tapes) (m .symbols) (p .single))

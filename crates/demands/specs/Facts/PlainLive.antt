@@ -27,7 +27,7 @@ use Rattle.sim_refines.specs.Facts.LiveCells.{Alike, alike-reads, cell-same, no
 use Rattle.sim_refines.specs.Facts.NeverRead.{alive0, alive1, alive2, engine-check-same}
 use Rattle.demands.specs.Facts.PlainQuestions.{asked-says, has-1, has-2}
 
--- ---- the tape of a number
+-- ---- the tape with a given number
 
 numbered : (a b : Bool) → Held → Held → Held → Held
 numbered a b x y z = held (pick a (x .tape) (pick b (y .tape) (z .tape))) (pick a (x .cells) (pick b (y .cells) (z .cells)))
@@ -44,7 +44,7 @@ module _ (m : Machine) (s : List ℕ) (i : ℕ) (σ τ : Conf) (a : SameLive m �
   held-alike there = alike-cases (eqb i 0) (eqb i 1) (tape0 σ) (tape1 σ) (tape2 σ) (tape0 τ) (tape1 τ) (tape2 τ) (alive0 m σ τ a)
       (λ b. alive1 m σ τ a (has-1 m s i τ there b)) (λ c b. alive2 m σ τ a (has-2 m s i τ there c b))
 
-  -- ---- a question of what the first cells show
+  -- ---- a question that reads only the first cells
 
   check-same : questionCheck m s i σ ≡ questionCheck m s i τ
   unfolding questionCheck

@@ -1,4 +1,4 @@
--- What the plain engine's questions answer, as they are called: what tape i of the configuration that it holds has. Assumes nothing.
+-- The answers of the plain engine's questions: they read tape i of the configuration that it holds. Assumes nothing.
 use mathlib.Core.Path.{_≡_, refl, sym, ap, _∙_, subst}
 use mathlib.Core.Bool.{Bool, true, false}
 use mathlib.Core.List.{List}
@@ -57,7 +57,7 @@ found-located : (c : Checked) (y x : Spot) → askedOn c Located.Refused (Locate
 found-located (Refused why) y x e = let z : _≡_ {A = ℕ} 0 1 = cc in absurd (omega arith)
 found-located Accepted y x e = (refl, cc)
 
--- ---- the tape of a number
+-- ---- the tape with a given number
 
 tape-cases : (a b : Bool) (x y z : Tape) (c d e : List ℕ) (p q r : Cells) → tapeOf (held x c) ≡ p → (a ≡ false → b ≡ true → tapeOf (held y d) ≡ q)
     → (a ≡ false → b ≡ false → tapeOf (held z e) ≡ r) → tapeOf (held (pick a x (pick b y z)) (pick a c (pick b d e))) ≡ pick a p (pick b q r)
@@ -72,7 +72,7 @@ len-cases true b x y z n f g h = f
 len-cases false true x y z n f g h = g refl refl
 len-cases false false x y z n f g h = h refl refl
 
--- a tape that the machine has is within its buffer, and that within 2^30
+-- a tape that the machine has lies in its buffer, and the buffer has at most 2^30 cells
 fits-has : (b : Bool) (k : ℕ) (t : Tape) (c : List ℕ) → b ≡ true → FitsIf b k (held (pick b t noTape) c) → t .len ≤ length c
 unfolding pick
 fits-has true k t c e f = f .most
@@ -84,7 +84,7 @@ most-has true n e f = leb-true n cellsMost f
 most-has false n e f = absurd (clash e refl)
 
 module _ (m : Machine) (s : List ℕ) (i : ℕ) (σ : Conf) where
-  -- the machine has the tape that is asked for, and the engine fits
+  -- the machine has the tape with this number, and the engine fits
   pub asked-says : questionCheck m s i σ ≡ Accepted → (i < m .tapes) × Passed m s σ
   unfolding questionCheck
   asked-says c =

@@ -1,4 +1,4 @@
--- A window's places past i64 are blank, whatever engine is asked. Assumes nothing.
+-- A window's places past i64 are blank, for both engines. Assumes nothing.
 use mathlib.Core.Path.{_≡_, _∙_}
 use mathlib.Core.List.{List}
 use Prim.Native.Nat.{ℕ, suc, _+_, _≤_, _<_, _^_}
@@ -21,7 +21,7 @@ use Rattle.rle.specs.Model.Engine as Chain
 use Rattle.rle.specs.Fits.{engineCheck}
 use Rattle.rle.specs.Model.Questions.{windowCell, windowFrom, windowOn, windowAll, windowInto}
 
--- the position j places on
+-- the position j places to the right
 places-on : (z : ℤ) (j : ℕ) → up (z +ℤ pos j) + dn z ≡ up z + j + dn (z +ℤ pos j)
 unfolding _⊖_
 places-on (pos a) j = omega arith

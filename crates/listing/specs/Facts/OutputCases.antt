@@ -1,4 +1,4 @@
--- What the code of the listing passes on, one fact for each return. Assumes nothing.
+-- Facts for the code of the listing, one for each return. Assumes nothing.
 use Prim.Native.Nat.{ℕ, _+_, _≤_, _<_}
 use mathlib.Core.Path.{_≡_, refl, sym, ap, _∙_, subst}
 use mathlib.Core.List.{List, _++_}

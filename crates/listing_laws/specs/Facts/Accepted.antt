@@ -1,4 +1,4 @@
--- What is asked is answered by rows: for a listing without a bad line neither the fresh engine nor the timeline is refused. Assumes nothing.
+-- A listing without a bad line is answered by rows: neither the fresh engine nor the timeline is refused. Assumes nothing.
 use mathlib.Core.Path.{_≡_, refl, ap, _∙_}
 use mathlib.Core.Bool.{true, false}
 use mathlib.Core.List.{List, []}

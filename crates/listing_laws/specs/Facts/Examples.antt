@@ -1,4 +1,4 @@
--- Document 01's input and one other, answered by the definitions: their outputs, computed. Assumes nothing.
+-- The outputs for document 01's input and for one other, computed from the definitions. Assumes nothing.
 use mathlib.Core.Path.{_≡_, refl}
 use Rattle.listing_text.specs.Text.{bytes}
 use Rattle.notation.specs.Choice.{pick, both}
@@ -30,10 +30,10 @@ use Rattle.listing_rows.specs.Rows.{rowOf, rowsOn, refusedLine, rowLine, rowLin
 use Rattle.listing.specs.Output.{blankCells, blankStore, turned, answerOn, answerWith, answerOf, answerFor, answerTo}
 
 pub record Examples : Type 0 where
-  -- document 01's
+  -- document 01's input
   pub whole : answerTo (bytes "tapes symbols states start\n1 2 3 0\nstate read write move next\n0 0 1 R 1\n0 1 1 L 1\n1 0 1 L 0\n1 1 1 R 2\nword\n\ncall number\nseek 3\nforward 100\nback 2\nseek 0\n")
       ≡ bytes "answer steps state head low high score\nfuel 3 1 -1 -1 1 2\nhalted 6 2 0 -2 1 4\nfuel 4 0 -2 -2 1 3\nfuel 0 0 0 0 0 0\n"
-  -- state 0 on blank writes 1, moves R, stays in 0: a slot recorded at step 16, a way back over it, a target over 2^62
+  -- state 0 on blank writes 1, moves R and stays in 0: a slot recorded at step 16, a call back, a target over 2^62
   pub walker : answerTo (bytes "tapes symbols states start\n1 2 1 0\nstate read write move next\n0 0 1 R 0\nword\n\ncall number\nseek 0\nseek 20\nback 1\nforward 4611686018427387904\n")
       ≡ bytes "answer steps state head low high score\nnever 0 0 0 0 0 0\nnever 20 0 20 0 20 20\nnever 19 0 19 0 19 19\nrefused 13\n"
 

@@ -1,4 +1,4 @@
--- What the entry lines of an accepted listing make of its table, line by line. Assumes nothing.
+-- How the entry lines of an accepted listing fill its table, line by line. Assumes nothing.
 use Prim.Native.Nat.{ℕ, zero, suc, _+_, _*_, _^_, _≤_, _<_}
 use mathlib.Core.Path.{_≡_, refl, sym, ap, _∙_}
 use mathlib.Core.Bool.{false}
@@ -30,7 +30,7 @@ use Rattle.listing_reader.specs.Facts.Table.{define-length, define-same, define
 use Rattle.listing_laws.specs.EntryLines.{joined, letterOf, machineText, entryText, Gives}
 use Rattle.listing_laws.specs.Facts.Text.{show-of, letter-of, joined-fields, fields-joined, plain-show, plain-letter}
 
--- ---- a line's text, from what was read of it
+-- ---- a line's text, from the numbers read from it
 
 number-of : (top : ℕ) (f : List ℕ) (v : ℕ) → below top f ≡ Value v → number f ≡ Value v
 unfolding below
@@ -117,7 +117,7 @@ unfolding entryText fiveOf
 entry-fields q a w d r =
     fields-joined (show q) (show a ∷ show w ∷ letterOf d ∷ show r ∷ []) (plain-show q, (plain-show a, (plain-show w, (plain-letter d, (plain-show r, tt)))))
 
--- the rule that was read of the line `q a w d r`
+-- the rule that was read from the line `q a w d r`
 module _ (m : Machine) (g : Good m) (l : List ℕ) (e : Rule) (p : entryLine m l ≡ some e) (q a w : ℕ) (d : Dir) (r : ℕ) (t : Gives m l q a w d r) where
   o : RuleOk m e
   o = rule-ok m l e p
@@ -161,7 +161,7 @@ Filled m t [] t′ = t′ ≡ t
 Filled m t (l ∷ es) t′ = (e : Rule) × (entryLine m l ≡ some e) × (given m t e ≡ false) × Filled m (define m t e) es t′
 
 module _ (m : Machine) (g : Good m) where
-  -- an entry that is there stays
+  -- a defined entry stays
   stays : (es : List (List ℕ)) (t t′ : List ℕ) → length t ≡ 4096 → Filled m t es t′ → (i : ℕ) → flagAt t i ≡ 1 → (j : ℕ) → j < 8 → byteAt t′ i j ≡ byteAt t i j
   unfolding given place
   stays [] t t′ n f i h j k = ap (λ (u : List ℕ). byteAt u i j) f
@@ -173,7 +173,7 @@ module _ (m : Machine) (g : Good m) where
       sym (flag-is (define m t e) i) ∙ define-other m t e g o n i z 0 (omega arith) ∙ flag-is t i ∙ h in
       stays es (define m t e) t′ (define-length m t e g o n) (f .3) i b j k ∙ define-other m t e g o n i z j k
 
-  -- each line's entry is made
+  -- each line's entry is written
   pub made : (es : List (List ℕ)) (t t′ : List ℕ) → length t ≡ 4096 → Filled m t es t′ → (i : ℕ) → i < length es
       → (e : Rule) × (entryLine m (getD es i []) ≡ some e) × ((j : ℕ) → j < 8 → byteAt t′ (numberIn m e) j ≡ getD (entryBytes (Defined (actionOf e))) j 0)
   made [] t t′ n f i h = absurd (omega arith)
@@ -186,7 +186,7 @@ module _ (m : Machine) (g : Good m) where
       let o : RuleOk m (f .0) = rule-ok m l (f .0) (f .1) in
       made es (define m t (f .0)) t′ (define-length m t (f .0) g o n) (f .3) i (omega arith)
 
-  -- a place that no line gives is left
+  -- a place that no line gives is unchanged
   pub left : (es : List (List ℕ)) (t t′ : List ℕ) → length t ≡ 4096 → Filled m t es t′ → (p : ℕ)
       → ((i : ℕ) (e : Rule) → i < length es → entryLine m (getD es i []) ≡ some e → ¬ (p ≡ numberIn m e)) → (j : ℕ) → j < 8 → byteAt t′ p j ≡ byteAt t p j
   left [] t t′ n f p h j k = ap (λ (u : List ℕ). byteAt u p j) f

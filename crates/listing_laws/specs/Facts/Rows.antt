@@ -1,4 +1,4 @@
--- The rows of a listing say what Rows has: the theorem, from the third demand of the plain engine. Assumes nothing.
+-- The theorem that the rows of a listing say what Rows states, from the third demand of the plain engine. Assumes nothing.
 use Prim.Native.Nat.{ℕ}
 use mathlib.Core.Path.{_≡_, refl, ap, subst}
 use mathlib.Core.List.{List, [], _∷_, _++_}
@@ -20,7 +20,7 @@ use Rattle.listing_laws.specs.Rows.{rowAt, RowsSay}
 use Rattle.listing_laws.specs.Facts.Accepted.{asked-begins, asked-rows}
 use Rattle.listing_laws.specs.Facts.TableBytes.{kept-bytes}
 
--- the rows of a list, taken apart at one call
+-- the rows of a list, split at one call
 rows-at : (m : Machine) (s : List ℕ) (v : TimelineOf plainKind) (before rest : List Call) (c : Call)
     → rowsOf m s v (before ++ (c ∷ rest))
     ≡ rowsOf m s v before ++ (rowAt m s (afterOn plainEngine m s v before) c ∷ rowsOf m s (callOn plainKind m s (afterOn plainEngine m s v before) c .1) rest)

@@ -1,4 +1,4 @@
--- The table that entry lines fill holds bytes. Assumes nothing.
+-- The table that entry lines fill contains only bytes. Assumes nothing.
 use Prim.Native.Nat.{ℕ, zero, suc, _+_, _*_, _/_, _%_, _≤_, _<_}
 use mathlib.Core.Path.{_≡_, sym, ap, _∙_, subst}
 use native.Mathlib.Omega.{arith}
@@ -22,7 +22,7 @@ small-dir L = omega arith
 small-dir R = omega arith
 small-dir N = omega arith
 
--- an entry of the machine is eight bytes
+-- the eight numbers of an entry of the machine are bytes
 entry-small : (m : Machine) → m .symbols ≤ 256 → m .states ≤ 65536 → (e : Entry) → EntryOf m e → (j : ℕ) → j < 8 → getD (entryBytes e) j 0 < 256
 entry-small m k n Undefined o zero h = omega arith
 entry-small m k n Undefined o (suc zero) h = omega arith

@@ -1,4 +1,4 @@
--- THE TABLE OF AN ACCEPTED LISTING: each entry line makes its entry, and no other entry is defined. Assumes nothing.
+-- THE TABLE OF AN ACCEPTED LISTING: each entry line defines its entry, and no other entry is defined. Assumes nothing.
 use Prim.Native.Nat.{ℕ, _+_, _*_, _/_, _%_, _^_, _<_}
 use mathlib.Core.Path.{_≡_, refl, sym, ap, _∙_, subst}
 use mathlib.Core.Bool.{true, false}
@@ -38,7 +38,7 @@ use Rattle.listing_laws.specs.Facts.FilledTable.{entry-text, machine-tex
 no-asked : {n : ℕ} {x : Sofar} → refused n ≡ asked x → ⊥
 no-asked p = let z : _≡_ {A = ℕ} 0 1 = cc in omega arith
 
--- ---- past the line `word` the machine and the table stay
+-- ---- after the line `word` the machine and the table do not change
 
 record Same (x y : Sofar) : Type 0 where
   machine-same : y .machine ≡ x .machine
@@ -85,7 +85,7 @@ module _ (y : Sofar) where
   late-end n Heading x h p = absurd (no-asked p)
   late-end n Calls x h p = let e : x ≡ y = cc in subst (Same x) e (itself x)
 
-  -- what a first line leads to
+  -- the result of a first line
   leads : (n : ℕ) (d : Due) (x : Sofar) (l : List ℕ) (ls : List (List ℕ)) → readFrom n d x (l ∷ ls) ≡ asked y
       → (z : Next) → line d x l ≡ z → onNext z (refused n) (λ d′ x′. readFrom (n + 1) d′ x′ ls) ≡ asked y
   unfolding readFrom
@@ -223,7 +223,7 @@ module _ (x : Sofar) (k : Kept x) (q a : ℕ) (h : q < x .machine .states) (g : 
       ∙ entry-read (tableIn x) at e (omega (arith, inside, long))
       (λ j l. getD-take (8 * (x .machine .states * x .machine .symbols)) (x .table) (8 * at + j) 0 (omega (arith, inside)) ∙ stands j l)
 
--- before the first line no entry is there
+-- before the first line no entry is defined
 blank-at : (p j : ℕ) → p < 4096 → j < 8 → getD (nothing .table) p 0 ≡ getD (entryBytes Undefined) j 0
 unfolding nothing
 blank-at p j h b = getD-replicate 4096 p 0 0 h ∙ sym (getD-replicate 8 j 0 0 b)

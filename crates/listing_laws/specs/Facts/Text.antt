@@ -1,4 +1,4 @@
--- Text read and text printed: a number, a letter and a line have one text each. Assumes nothing.
+-- Text read and text printed: each number, letter and line has exactly one text. Assumes nothing.
 use Prim.Native.Nat.{ℕ, zero, suc, _+_, _*_, _-_, _/_, _%_, _^_, _≤_, _<_}
 use mathlib.Core.Path.{_≡_, refl, sym, ap, _∙_}
 use mathlib.Core.Bool.{Bool, true, false}
@@ -46,7 +46,7 @@ value-ok (b ∷ s) u v p =
     let r = value-ok s (u * 10 + (b - 48)) v (q .2) in
     (omega (arith, r .0), r .1)
 
--- a digit taken off
+-- the last digit split off
 digit-off : (f u b : ℕ) (after : List ℕ) → 48 ≤ b → b ≤ 57 → 0 < u → showOn (suc f) (u * 10 + (b - 48)) after ≡ showOn f u (b ∷ after)
 unfolding showOn
 digit-off f u b after h g k =
@@ -56,7 +56,7 @@ digit-off f u b after h g k =
     pick-false (ltb w 10) ((48 + w % 10) ∷ after) (showOn f (w / 10) ((48 + w % 10) ∷ after)) (le-ltb w 10 (omega arith))
     ∙ (λ i. showOn f (x i) (y i ∷ after))
 
--- the digits that follow u, taken off one after another
+-- the digits after u, split off one by one
 spelled : (s : List ℕ) (u v f : ℕ) (after : List ℕ) → 0 < u → digits u s ≡ Value v → showOn (f + length s) v after ≡ showOn f u (s ++ after)
 spelled [] u v f after h p =
     let q = last-is u v p in
@@ -69,7 +69,7 @@ spelled (b ∷ s) u v f after h p =
     ∙ spelled s (u * 10 + (b - 48)) v (suc f) after (omega arith) (q .2)
     ∙ digit-off f u b (s ++ after) (q .0) (q .1) h
 
--- no more digits are shown than there are
+-- a larger bound on the digits shows no more digits
 enough-turn : (f g v : ℕ) (after : List ℕ) → (10 ≤ v → showOn g (v / 10) ((48 + v % 10) ∷ after) ≡ showOn f (v / 10) ((48 + v % 10) ∷ after))
     → showOn (suc g) v after ≡ showOn (suc f) v after
 unfolding showOn
@@ -138,7 +138,7 @@ letter-of f v p = go (sameList f (bytes "L")) refl (sameList f (bytes "R")) refl
     go false x false y true z p = let k : 2 ≡ v = cc in rw (← k) (same-is f (bytes "N") z)
     go false x false y false z p = absurd (no-value p)
 
--- ---- a line is its fields, parted by spaces
+-- ---- a line is its fields, with a space between them
 
 joined-onto : (b : ℕ) (ps : List (List ℕ)) → (length ps ≡ 0 → ⊥) → joined (onto b ps) ≡ b ∷ joined ps
 unfolding joined onto

@@ -1,4 +1,4 @@
--- Forms read and written down, one fact for each way through the code; and the rules by which `search` goes through a chain of forms. Assumes nothing.
+-- Facts for the code that reads and writes forms, one for each path through it; and rules for `search` on a chain of forms. Assumes nothing.
 use Prim.Native.Nat.{ℕ, zero, suc, _+_, _*_, _/_, _%_, _≤_, _<_}
 use mathlib.Core.Path.{_≡_, refl, sym, ap, _∙_}
 use mathlib.Core.Bool.{true, false}
@@ -35,7 +35,7 @@ use Rattle.listing_lines.specs.Forms.{onSome, machineLine, entryLine, sy
 use Rattle.listing_lines.specs.Model.{machineIn, ruleIn, countOf, over, readWord, callIn, callCode, callsOf, Small, RuleOk}
 use Rattle.listing_lines.specs.Facts.Forms.{below-lt, rule-ok, machine-good, good-small}
 
--- ---- what a callee read
+-- ---- the result of a callee
 
 module _ {A : Type 0} (x out : A) where
   pub machine-out : (r : MachineLine) (n : Option Machine) (go : Machine → A) → machineIn r ≡ n → r ≡ ML.Bad → x ≡ out → x ≡ onSome n out go
@@ -72,7 +72,7 @@ pub machine-small : (l : List ℕ) (m : Machine) (r : MachineLine) → machineIn
 unfolding machineIn
 machine-small l m r p q = good-small (machine-good l m (sym p ∙ ap machineIn q))
 
--- an answer that is its call's numbers
+-- an answer that contains its call's numbers
 pub coded : (r : CallLine) (x : Option Call) → r ≡ callCode (callIn r) → callIn r ≡ x → (r ≡ callCode x) × (callIn r ≡ x)
 coded r x e p = (e ∙ ap callCode p, p)
 
@@ -133,7 +133,7 @@ word-start k l w n h e f z g =
       rest = refl;
     }
 
--- the bytes where i symbols are read
+-- the bytes after i symbols are read
 left-over : (v w w₀ : List ℕ) (i : ℕ) → take i w ≡ v → drop i w ≡ drop i w₀ → i ≤ length w → w ≡ over v w₀
 left-over v w w₀ i e r h =
     let z : length v ≡ i = ap length (sym e) ∙ length-take-le i w h in

@@ -1,4 +1,4 @@
--- What a form that was read says of its numbers. Assumes nothing.
+-- The ranges of the numbers in a form that was read. Assumes nothing.
 use Prim.Native.Nat.{ℕ, _*_, _≤_, _<_}
 use mathlib.Core.Path.{_≡_}
 use mathlib.Core.Bool.{Bool, true, false}
@@ -65,7 +65,7 @@ rule-ok m l e p =
 
 -- ---- the machine of line 2
 
--- one that passes the table check's ranges, with one tape and at most 512 entries
+-- a machine within the table check's ranges, with one tape and at most 512 entries
 pub record Good (m : Machine) : Type 0 where
   pub one : m .tapes ≡ 1
   pub some-symbols : 1 ≤ m .symbols

@@ -1,4 +1,4 @@
--- What an accepted listing asks: its table and its word pass the checks of every operation that takes them. Assumes nothing.
+-- The table and the word of an accepted listing pass the checks of every operation that takes them. Assumes nothing.
 use Prim.Native.Nat.{ℕ, suc, zero, _+_, _*_, _-_, _^_, _≤_, _<_}
 use mathlib.Core.Path.{_≡_, refl, sym, ap, _∙_, subst}
 use mathlib.Core.List.{List, [], _∷_, _++_}
@@ -37,7 +37,7 @@ use Rattle.listing_reader.specs.Invariants.{sofar, ReaderOk}
 use Rattle.listing_reader.specs.Facts.Word.{AllBelow, word-good}
 use Rattle.listing_reader.specs.Facts.Table.{Laid, laid-blank, define-length, laid-define}
 
--- ---- what the lines keep, once line 2 is read
+-- ---- the invariant of the lines after line 2
 
 pub record Kept (x : Sofar) : Type 0 where
   pub good : Good (x .machine)
@@ -188,7 +188,7 @@ module _ (s : List ℕ) (x : Sofar) (e : listing s ≡ asked x) where
       ∙ ap (answerAt Why.WordSymbol) (clean-none (symbolIn (x .machine .symbols) (x .word)) (length (x .word)) 0
       (λ i a b. lt-ltb (getD (x .word) i 0) (x .machine .symbols) (k .in-range i (omega arith))))
 
--- ---- what `read` hands back, taken apart
+-- ---- the parts of what `read` returns
 
 no-asked : {n : ℕ} {x : Sofar} → refused n ≡ asked x → ⊥
 no-asked p = let z : _≡_ {A = ℕ} 0 1 = cc in omega arith
@@ -235,7 +235,7 @@ unfolding callsOf numbersOf
 calls-back [] zs = refl
 calls-back (c ∷ cs) zs = call-first (length cs) (kindOf c) (sizeOf c) (numbersOf cs ++ zs) ∙ (λ i. call-back c i ∷ calls-back cs zs i)
 
--- what is asked stands in the arrays
+-- the arrays contain what the input asks for
 asked-back : (x : Sofar) → sofar (readerOf x) (placesOf x .0) (placesOf x .1) (placesOf x .2) ≡ x
 unfolding sofar placesOf filled
 asked-back x = λ i. record {

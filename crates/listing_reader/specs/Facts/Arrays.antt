@@ -1,4 +1,4 @@
--- The places of the three arrays, line after line: the first hold what was read, the others 0. Assumes nothing.
+-- The places of the three arrays, line after line: the first hold what was read, the others hold 0. Assumes nothing.
 use Prim.Native.Nat.{ℕ, zero, suc, _+_, _*_, _-_, _≤_, _<_}
 use mathlib.Core.Path.{_≡_, refl, sym, ap, _∙_, subst}
 use mathlib.Core.List.{List, [], _∷_, _++_, append-assoc}
@@ -34,7 +34,7 @@ drop-zeros zero m = let z : m ≡ m - 0 = omega arith in ap zeros z
 drop-zeros (suc n) zero = let z : 0 ≡ 0 - suc n = omega arith in ap zeros z
 drop-zeros (suc n) (suc m) = let z : m - n ≡ suc m - suc n = omega arith in drop-zeros n m ∙ ap zeros z
 
--- what is written over zeros
+-- v written over zeros
 over-zeros : (n : ℕ) (v : List ℕ) → over v (filled n []) ≡ filled n v
 unfolding filled
 over-zeros n v =
@@ -62,7 +62,7 @@ unfolding numbersOf
 numbers-more [] k = refl
 numbers-more (c ∷ cs) k = ap (λ (u : List ℕ). kindOf c ∷ sizeOf c ∷ u) (numbers-more cs k)
 
--- one call more
+-- one more call
 put-filled : (cs : List Call) (k : Call) (m : ℕ) → 2 * length cs + 2 ≤ m
     → set (set (filled m (numbersOf cs)) (2 * length cs) (kindOf k)) (2 * length cs + 1) (sizeOf k) ≡ filled m (numbersOf (cs ++ (k ∷ [])))
 unfolding filled
@@ -188,7 +188,7 @@ module _ (x : Reader) (t w c l t′ w′ c′ : List ℕ) (p : Placed (sofar x t
           s .2 u,
         )
 
-  -- a bad one
+  -- a bad line
   table-kept : (d : Due) → Leaves d T.Bad x l t w c t′ w′ c′ → t′ ≡ t
   table-kept Names q = q .0
   table-kept Numbers q = q .0

@@ -1,4 +1,4 @@
--- Document 01's listing, and inputs that differ from it in one place, computed: what is asked, or the number of the first bad line. Assumes nothing.
+-- Document 01's listing, and inputs that differ from it in one place: what each asks for, or its first bad line, computed. Assumes nothing.
 use Prim.Native.Nat.{ℕ, zero, suc}
 use mathlib.Core.Path.{_≡_, refl}
 use mathlib.Core.List.{List, [], _∷_, _++_}
@@ -30,7 +30,7 @@ unfoldable pub times : ℕ → List ℕ → List ℕ
 times zero s = []
 times (suc n) s = s ++ times n s
 
--- ---- what is looked at: the bad line, 0 where there is none; of the table the six entries; word, calls
+-- ---- what is compared: the bad line, 0 where there is none; the six entries of the table; word, calls
 
 unfoldable pub badLine : Listing → ℕ
 badLine (refused n) = n
@@ -49,7 +49,7 @@ calls (refused n) = []
 calls (asked x) = x .calls
 
 pub record Examples : Type 0 where
-  -- document 01's
+  -- document 01's input
   pub whole-table : entries (listing (upTo10 ++ bytes "seek 3\nforward 100\nback 2\nseek 0\n"))
       ≡ 1 ∷ 1 ∷ 0 ∷ 1 ∷ 0 ∷ 0 ∷ 25 ∷ 0 ∷ 1 ∷ 1 ∷ 0 ∷ 1 ∷ 0 ∷ 0 ∷ 24 ∷ 0 ∷ 1 ∷ 0 ∷ 0 ∷ 1 ∷ 0 ∷ 0 ∷ 24 ∷ 0 ∷ 1 ∷ 2 ∷ 0 ∷ 1 ∷ 0 ∷ 0 ∷ 25 ∷ 0
       ∷ 0 ∷ 0 ∷ 0 ∷ 0 ∷ 0 ∷ 0 ∷ 0 ∷ 0 ∷ 0 ∷ 0 ∷ 0 ∷ 0 ∷ 0 ∷ 0 ∷ 0 ∷ 0 ∷ []

@@ -29,9 +29,9 @@ use Rattle.listing_reader.specs.Facts.ParseCases.{readAt, parse-long}
 use Rattle.listing_reader.specs.Facts.Table.{define-same, define-other}
 use Rattle.listing_reader.specs.Facts.Accepted.{Ready, ReadyNext, some-cases, keeps}
 
--- ---- how many lines may still come
+-- ---- how many good lines can still follow
 
--- of the first n places, those whose entry is not yet given
+-- the number of the first n places whose entry is not yet given
 unfoldable blanks : List ℕ → ℕ → ℕ
 blanks t zero = 0
 blanks t (suc n) = pick (eqb (flagAt t n) 1) 0 1 + blanks t n
@@ -160,7 +160,7 @@ cut-lines b s h g =
     ∙ ap (λ p. p ∷ lines (drop (suc (upTo 10 s)) (take b s))) (take-take (upTo 10 s) b s (omega arith))
     ∙ ap (λ p. take (upTo 10 s) s ∷ lines p) (sym (part-drop (suc (upTo 10 s)) (b - suc (upTo 10 s)) s (omega arith) ∙ ap (λ n. drop (suc (upTo 10 s)) (take n s)) e))
 
--- ---- b bytes decide where at most c lines may still come: each good one takes at most 81 bytes, and a bad one shows in 81
+-- ---- b bytes decide where at most c good lines can still follow: each takes at most 81 bytes, and a bad line shows within 81
 
 module _ (c b n : ℕ) (d : Due) (x : Sofar) (s : List ℕ) (r : Ready d x) (h : left d x ≤ c) (g : 81 * c + 81 ≤ b) where
   turn : ((k : ℕ) (d′ : Due) (x′ : Sofar) (u : List ℕ) → Ready d′ x′ → left d′ x′ < c → 81 * c ≤ k → readFrom (n + 1) d′ x′ (lines (take k u)) ≡ readFrom (n + 1) d′ x′ (lines u))
@@ -188,7 +188,7 @@ near : (c b n : ℕ) (d : Due) (x : Sofar) (s : List ℕ) → Ready d x → left
 near zero b n d x s r h g = turn zero b n d x s r h g (λ k d′ x′ u r′ l g′. absurd (omega arith))
 near (suc c) b n d x s r h g = turn (suc c) b n d x s r h g (λ k d′ x′ u r′ l g′. near c k (n + 1) d′ x′ u r′ (omega arith) (omega arith))
 
--- of an input the first 65,536 bytes decide
+-- the first 65,536 bytes of an input decide
 pub first-64k : (s : List ℕ) → listing (take 65536 s) ≡ listing s
 unfolding listing
 first-64k s = near 582 65536 1 Names nothing s refl (omega arith) (omega arith)

@@ -1,4 +1,4 @@
--- The reader's loop over the lines, one fact for each way through it. Assumes nothing.
+-- The reader's loop over the lines, one fact for each path through it. Assumes nothing.
 use Prim.Native.Nat.{ℕ, suc, _+_, _-_, _≤_, _<_, min}
 use mathlib.Core.Path.{_≡_, refl, sym, ap, _∙_}
 use mathlib.Core.List.{List, [], _∷_}
@@ -25,7 +25,7 @@ use Rattle.listing_reader.specs.Contents.{brokenOff, readUpTo, lastRead,
 use Rattle.listing_reader.specs.Invariants.{sofar, nextOf, Leaves, ReaderOk, TurnOk, LentOk}
 use Rattle.listing_reader.specs.Facts.Arrays.{Unheard, Placed, placed-next, placed-bad, placed-end}
 
--- the listing from index `at` on, where n, d and x are what the lines before it led to
+-- the listing from index `at` on, where n, d and x are the result of the lines before it
 unfoldable pub readAt : ℕ → Due → Sofar → List ℕ → ℕ → Listing
 readAt n d x s at = readFrom n d x (lines (drop at s))
 
@@ -75,7 +75,7 @@ module _ (s : List ℕ) (at e : ℕ) (f : e ≡ at + upTo 10 (drop at s)) (h : a
     unfolding readFrom readAt pick nextOf onNext
     parse-next r t w c v a q z g k = simp (len, le-leb (e - at) 80 g, ← q, z) at (turn a k)
 
-  -- the same of what is read
+  -- the same for what is read
   module _ (d : Due) (x y : Sofar) (p : readOn d x s at ≡ y) where
     turn-on : (a : ℕ) → a ≡ min (e + 1) (length s) → readUpTo d x (take (e - at) (drop at s) ∷ lines (drop a s)) ≡ y
     unfolding readOn

@@ -17,7 +17,7 @@ use Rattle.listing_lines.specs.Forms.{numberIn, place, actionOf, define}
 use Rattle.listing_lines.specs.Model.{RuleOk}
 use Rattle.listing_lines.specs.Facts.Forms.{Good, good-small, number-ok}
 
--- the entries of one tape
+-- every entry of a table of one tape is laid out
 abbrev pub Laid : Machine → List ℕ → Type 0
 Laid m t = (i : ℕ) → i < m .states * m .symbols → LaidOut m t i
 

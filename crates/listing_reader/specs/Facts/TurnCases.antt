@@ -1,4 +1,4 @@
--- The turns of the reader that write a lent slice, one fact for each way through them. Assumes nothing.
+-- The turns of the reader that write a lent slice, one fact for each path through them. Assumes nothing.
 use Prim.Native.Nat.{ℕ, _+_, _*_, _≤_, _<_}
 use mathlib.Core.Path.{_≡_, refl, sym, ap, _∙_}
 use mathlib.Core.Bool.{Bool, true, false}
@@ -43,7 +43,7 @@ module _ (x : Reader) (t w c l : List ℕ) (b : Bool) (n : b ≡ sameList l word
   unfolding line nextOf sofar pick onSome ruleIn
   entries-on z = simp (← n, nz, ← f, q, ← p .0, z) (rw (p .1, z))
 
--- an entry that was given before leaves the table as it was
+-- an entry that was given before leaves the table unchanged
 pub given-left : (g : Bool) (t d t′ : List ℕ) → t′ ≡ pick g t d → g ≡ true → t′ ≡ t
 unfolding pick
 given-left g t d t′ p z = simp z at p

@@ -17,7 +17,7 @@ use Rattle.listing_text.specs.declared.Num.the-variants.{Value}
 use Rattle.listing_lines.specs.Forms.{symbolsOf, wordOf, symbolsBefore, wordBefore}
 use Rattle.listing_lines.specs.Facts.Forms.{no-some, below-lt}
 
--- ---- a line's bytes are those of its fields and one space less than it has fields
+-- ---- a line's bytes are those of its fields, and one space fewer than there are fields
 
 unfoldable sizes : List (List ℕ) → ℕ
 sizes [] = 0
@@ -51,7 +51,7 @@ below-more k w a h g i l = by (decLt i (length w))
         let e : i ≡ length w = omega (arith, length-append w (a ∷ []), q) in
         rw (e, getD-append-seam w a [] 0) g
 
--- a number has a digit
+-- a number has at least one digit
 digit-there : (k : ℕ) (f : List ℕ) (a : ℕ) → below k f ≡ Value a → 1 ≤ length f
 unfolding below number onNum
 digit-there k [] a p = absurd (no-value p)

@@ -1,4 +1,4 @@
--- A call leaves an engine that passes its check, where it was made on one. Assumes nothing.
+-- A call on an engine that passes its check leaves an engine that passes its check. Assumes nothing.
 use mathlib.Core.Path.{_≡_, refl}
 use mathlib.Core.List.{List}
 use mathlib.Core.Option.{Option, none, some}
@@ -81,7 +81,7 @@ module _ (m : Machine) (s : List ℕ) where
   unfolding callOn
   call-kept w c a = call-fits plainKind m s (slotSize m (w .engine)) (Fits m s (slotSize m (w .engine))) (plain-sound m s (slotSize m (w .engine))) w c a refl .accepted
 
-  -- its tape 0 may be looked at
+  -- its tape 0 has its numbers in range
   pub tape-ok : (σ : Conf) → engineCheck m s σ ≡ Accepted → TapeOk (σ .sim .t0) (σ .c0)
   unfolding sizesFit
   tape-ok σ a =

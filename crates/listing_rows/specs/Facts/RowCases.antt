@@ -1,4 +1,4 @@
--- What the code that prints rows passes on: one row, and the rows of calls one after another. Assumes nothing.
+-- Facts for the code that prints rows: one row, and the rows of calls one after another. Assumes nothing.
 use Prim.Native.Nat.{ℕ, zero, suc, _+_, _*_, _≤_, _<_}
 use mathlib.Core.Path.{_≡_, refl, sym, ap, _∙_}
 use mathlib.Core.List.{List, [], _∷_, _++_, append-assoc, append-nil}
@@ -65,7 +65,7 @@ wrote-same cs w e = rw e at w
 regroup : (a b c h l u d e : List ℕ) → a ++ b ++ c ++ (h ++ l ++ u) ++ d ++ e ≡ a ++ b ++ c ++ h ++ l ++ u ++ d ++ e
 regroup a b c h l u d e = simp append-assoc
 
--- the row of an answer, whose score is c
+-- the row of an answer, with score c
 pub row-done : (o : List ℕ) (at : ℕ) (a : Outcome) (v : Simulator) (cells : List ℕ) (c : ℕ) (o₁ o₂ o₃ o₄ o₅ o₆ : List ℕ) (r₁ r₂ r₃ r₄ r₅ r₆ : ℕ)
     → c ≡ countOf (held (v .t0) cells)
     → Wrote o at (said a) o₁ r₁ × (r₁ ≤ at + 6) → Wrote o₁ r₁ (32 ∷ show (v .steps)) o₂ r₂ × (r₂ ≤ r₁ + 21) → Wrote o₂ r₂ (32 ∷ show (v .state .0)) o₃ r₃ × (r₃ ≤ r₂ + 21)
@@ -103,7 +103,7 @@ module _ (o : List ℕ) (at : ℕ) (o′ : List ℕ) (r : ℕ) (a : Answer) (v :
 
 -- ---- rows one after another
 
--- all is to be printed into o from `at` on; this far, r is the index after what is printed, and rest is left
+-- `all` must be printed into o from `at` on; so far, r is the index after the printed part, and `rest` is left
 pub record Printing (o : List ℕ) (at : ℕ) (all rest o′ : List ℕ) (r : ℕ) : Type 0 where
   pub done : List ℕ
   pub wrote : Wrote o at done o′ r
@@ -129,7 +129,7 @@ printing-end {all = all} p = wrote-same all (p .wrote) (sym (append-nil (p .done
 
 -- ---- the loop over the calls: i of n are made, from w₀ on, and the timeline is at w
 
--- the calls from call i on: their rows, and what the last one hands back
+-- the calls from call i on: their rows, and the timeline after the last
 abbrev rowsFrom : Machine → (s calls : List ℕ) (n i : ℕ) → TimelineOf plainKind → List Row × TimelineOf plainKind
 rowsFrom m s calls n i w = rowsOn m s w (drop i (callsOf n calls))
 

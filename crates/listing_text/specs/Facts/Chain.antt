@@ -1,4 +1,4 @@
--- A chain of readings, each left by its own return: rules for `search`. Assumes nothing.
+-- Rules for `search` on a chain of reads, each with its own early return. Assumes nothing.
 use Prim.Native.Nat.{ℕ}
 use mathlib.Core.Path.{_≡_, refl}
 use mathlib.Core.Bool.{Bool, true, false}
@@ -31,7 +31,7 @@ module _ {A : Type 0} (x out : A) where
 
 pub ruleset chain = (num-out, num-go, count-ne, count-eq, tests, via)
 
--- ---- back, from a chain to what it says
+-- ---- the converse: from the result of a chain to its parts
 
 pub no-value : {v : ℕ} → _≡_ {A = Num} Bad (Value v) → ⊥
 no-value p = let z : _≡_ {A = ℕ} 0 1 = cc in omega arith

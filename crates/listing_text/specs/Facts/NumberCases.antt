@@ -1,4 +1,4 @@
--- What the code that reads a number needs of `digits`, one fact for each way through it. Assumes nothing.
+-- Facts on `digits` for the code that reads a number, one for each path through it. Assumes nothing.
 use Prim.Native.Nat.{ℕ, suc, _+_, _*_, _-_, _^_, _≤_, _<_}
 use mathlib.Core.Path.{_≡_, refl, sym, ap, _∙_}
 use mathlib.Core.Bool.{Bool, true, false}
@@ -17,14 +17,14 @@ use Rattle.listing_text.specs.Facts.Chain.{no-value}
 use Rattle.listing_text.specs.declared.Num.{Num}
 use Rattle.listing_text.specs.declared.Num.the-variants.{Value, Bad}
 
--- past 64 bits no further byte makes it good again
+-- a number past 64 bits stays bad, whatever bytes follow
 digits-big : (v : ℕ) (s : List ℕ) → 2 ^ 64 ≤ v → digits v s ≡ Bad
 unfolding digits
 digits-big v [] h = pick-false (ltb v (2 ^ 64)) (Value v) Bad (le-ltb v (2 ^ 64) h)
 digits-big v (b ∷ s) h =
     pick-cases (isDigit b) (digits (v * 10 + (b - 48)) s) Bad (λ r. r ≡ Bad) (λ _. digits-big (v * 10 + (b - 48)) s (omega arith)) (λ _. refl)
 
--- one digit more, by the two tests of `addDigit`: a digit, and within 64 bits
+-- one more digit, by the two tests of `addDigit`: a digit, and within 64 bits
 module _ (v b : ℕ) where
   more : ℕ
   more = v * 10 + (b - 48)
@@ -54,7 +54,7 @@ module _ (v b : ℕ) where
 pub digits-fit : (v b w : ℕ) (r : Num) → r ≡ addDigit v b → r ≡ Value w → w < 2 ^ 64
 digits-fit v b w r e q = digit-good v b [] w (sym e ∙ q) .1
 
--- ---- the loop of `read_digits`, for any x that it stands for
+-- ---- the loop of `read_digits`, for any result x
 module _ (s : List ℕ) (i v : ℕ) (x r : Num) (e : r ≡ addDigit v (getD s i 0)) (h : i < length s) where
   pub digits-next : (w : ℕ) → r ≡ Value w → digits v (drop i s) ≡ x → digits w (drop (i + 1) s) ≡ x
   digits-next w q p = sym (rw (drop-cons s i 0 h, ← add-one i) (digit-good v (getD s i 0) (drop (i + 1) s) w (sym e ∙ q) .0)) ∙ p

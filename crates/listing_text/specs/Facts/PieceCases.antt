@@ -1,4 +1,4 @@
--- What the code that cuts lines and fields needs of `pieces`, one fact for each way through it. Assumes nothing.
+-- Facts on `pieces` for the code that cuts lines and fields, one for each path through it. Assumes nothing.
 use Prim.Native.Nat.{ℕ, zero, suc, _+_, _-_, _≤_, _<_}
 use mathlib.Core.Path.{_≡_, refl, sym, ap}
 use mathlib.Core.Bool.{Bool, true, false}
@@ -35,7 +35,7 @@ pieces-cut sep last (b ∷ s) h = go (eqb b sep) (pieces-cut sep last s) h
     go true f h = refl
     go false f h = rw (f (omega arith))
 
--- no separator: all that is left is one piece, if there is anything
+-- no separator: all that is left is one piece, if anything is left
 tail-one : (sep b : ℕ) (last : List (List ℕ)) (s : List ℕ) (t : Bool) → onto b (pieces sep last s) ≡ (b ∷ s) ∷ []
     → pick t 0 (suc (upTo sep s)) ≡ suc (length s) → pick t ([] ∷ pieces sep last s) (onto b (pieces sep last s)) ≡ (b ∷ s) ∷ []
 unfolding pick
@@ -97,7 +97,7 @@ first-field sep (b ∷ s) = go (eqb b sep) (pieces sep ([] ∷ []) s) (some-fiel
     go false [] n e = absurd (n refl)
     go false (p ∷ ps) n e = ap (λ (q : List ℕ). b ∷ q) e
 
--- ---- the loop of `find`, for any x that it stands for
+-- ---- the loop of `find`, for any result x
 module _ (s : List ℕ) (i sep x : ℕ) where
   pub find-hit : getD s i 0 ≡ sep → i < length s → i + upTo sep (drop i s) ≡ x → i ≡ x
   unfolding upTo pick

@@ -1,4 +1,4 @@
--- What the code that prints needs: text written after text, and the digits of a number. Assumes nothing.
+-- Facts for the code that prints: text written after text, and the digits of a number. Assumes nothing.
 use Prim.Native.Nat.{ℕ, zero, suc, _+_, _-_, _/_, _%_, _≤_, _<_}
 use mathlib.Core.Path.{_≡_, refl, sym, ap, _∙_}
 use mathlib.Core.List.{List, [], _∷_, _++_, append-assoc}

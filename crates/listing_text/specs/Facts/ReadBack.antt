@@ -1,4 +1,4 @@
--- What is printed is read back: `number (show n)` is n, for every number of 64 bits. Assumes nothing.
+-- A printed number is read back: `number (show n)` is n, for every number of 64 bits. Assumes nothing.
 use Prim.Native.Nat.{ℕ, zero, suc, _+_, _*_, _-_, _/_, _%_, _^_, _≤_, _<_}
 use mathlib.Core.Path.{_≡_, refl, ap, _∙_}
 use mathlib.Core.Bool.{Bool, true, false}

@@ -1,4 +1,4 @@
--- What an accepted check says of the machine's numbers, of the table and of its entries. Assumes nothing.
+-- What follows from an accepted check for the machine's numbers, the table and its entries. Assumes nothing.
 use mathlib.Core.Path.{_≡_, refl, sym, _∙_}
 use mathlib.Core.Bool.{Bool, true, false, not}
 use mathlib.Core.Option.{Option}
@@ -36,7 +36,7 @@ on-says (Refused why) rest h = let z : _≡_ {A = ℕ} 0 1 = cc in absurd (omega
 pub within-says : (low high x : ℕ) → within low high x ≡ true → (low ≤ x) × (x ≤ high)
 within-says low high x h = (leb-true low x (both-split h .0), leb-true x high (both-split h .1))
 
--- the same of a Bool that a callee returned, and that the code has tested
+-- the same for a Bool that a callee returned and the code has tested
 pub within-passed : (r : Bool) (low high x : ℕ) → r ≡ within low high x → not r ≡ false → (low ≤ x) × (x ≤ high)
 within-passed r low high x e h = within-says low high x (sym e ∙ not-false r h)
 
@@ -82,7 +82,7 @@ ranges m s h =
 
 -- ---- its entries
 
--- what the check has found of a defined entry beside its flag
+-- a defined entry that passed the check: its bytes apart from the flag
 pub record PassedEntry (m : Machine) (s : List ℕ) (i : ℕ) : Type 0 where
   pub next-in : byteAt s i 1 + 256 * byteAt s i 2 < m .states
   pub moves-in : byteAt s i 6 < 27

@@ -26,7 +26,7 @@ use Rattle.machine.specs.Layout.{strideOf, entryNumber, byteAt, dirOf, a
 use Rattle.machine.specs.Model.Check.{answerAt, sizeCheck, tableCheck, lookupOf}
 pub use Rattle.table_bytes.specs.Facts.EntryCases.{count-fits, count-small, stride-one}
 
--- ---- the entry of a number
+-- ---- the entry with a given number
 
 module _ (s : List ℕ) (i : ℕ) where
   pub action-made : (q : State) (d0 d1 d2 : Dir) → q ≡ stateOf (byteAt s i 1 + 256 * byteAt s i 2)

@@ -1,4 +1,4 @@
--- The parts of a packed word, and what a checked table of one tape says in each of its entries. Assumes nothing.
+-- The parts of a packed word, and the entries of a checked table of one tape. Assumes nothing.
 use mathlib.Core.Path.{_≡_}
 use mathlib.Core.List.{List}
 use Prim.Native.Nat.{ℕ, _*_, _/_, _%_, _^_, _≤_, _<_}
@@ -44,7 +44,7 @@ module _ (a : Action) (stride : ℕ) (write : a .write0 .0 < 256) (next : a .nex
       let d = number-small (a .dir0) in
       record { dir-is = omega arith; write-is = omega arith; next-is = omega arith; row-is = omega arith }
 
-  -- so does every word that is not undefined
+  -- every word that is not undefined holds them too
   pub word-parts : (actionWord a stride ≡ undefinedWord → ⊥)
       → Parts (actionWord a stride) (dirNumber (a .dir0)) (a .write0 .0) (a .next .0) (a .next .0 * stride)
   unfolding actionWord
@@ -54,7 +54,7 @@ module _ (a : Action) (stride : ℕ) (write : a .write0 .0 < 256) (next : a .nex
 
 -- ---- a table of one tape that has passed the check
 
--- an action that leaves the tapes that are lacking as they are
+-- an action with its write and next state in range, which moves no tape but the first
 pub record OneTape (a : Action) : Type 0 where
   pub write-in : a .write0 .0 < 256
   pub next-in : a .next .0 < 65536

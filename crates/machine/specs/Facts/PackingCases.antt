@@ -54,7 +54,7 @@ pub pack-turn : (s : List ℕ) (stride n i w : ℕ) (e : Entry) (out x : List �
 unfolding wordAt
 pack-turn s stride n i w e out x p h q r = fill-next (wordAt s stride) n i w out x p h (r ∙ ap (λ (y : Entry). packWord y stride) q)
 
--- the answer, and what the output then holds
+-- the answer, and the output afterwards
 pub record Packs (m : Machine) (s out out₁ : List ℕ) (r : Checked) : Type 0 where
   pub answer : r ≡ packCheck m s (length out)
   pub holds : out₁ ≡ packInto m s out

@@ -1,4 +1,4 @@
--- What an accepted word is. Assumes nothing.
+-- What follows from an accepted word check. Assumes nothing.
 use mathlib.Core.Path.{_≡_}
 use mathlib.Core.List.{List}
 use Prim.Native.Nat.{ℕ, _≤_, _<_}
@@ -10,7 +10,7 @@ use Rattle.machine.specs.declared.Checked.the-variants.{Accepted}
 use Rattle.machine.specs.Model.Word.{symbolIn, symbolsCheck, wordCheck}
 use Rattle.machine.specs.Facts.Check.{demand-says, scan-says}
 
--- it is short, and all its symbols are the machine's
+-- an accepted word has at most 1,048,576 symbols, and each is below k
 pub word-says : (k : ℕ) (w : List ℕ) → wordCheck k w ≡ Accepted → (length w ≤ 1048576) × ((i : ℕ) → i < length w → getD w i 0 < k)
 unfolding wordCheck symbolsCheck
 word-says k w e =

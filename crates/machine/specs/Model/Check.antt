@@ -1,4 +1,4 @@
--- The table check: refusals 1 to 6 in document 01's order, of 6 the lowest entry. Definitions only.
+-- The table check: refusals 1 to 6 in document 01's order; 6 gives the lowest bad entry. Definitions only.
 use mathlib.Core.Bool.{Bool}
 use mathlib.Core.Option.{Option, none, some}
 use mathlib.Core.List.{List}
@@ -20,21 +20,21 @@ use Rattle.machine.specs.Layout.{strideOf, entryCount, entryNumber, entr
 use Rattle.table_bytes.specs.Model.Entries.{entryFor}
 pub use Rattle.table_bytes.specs.Model.Entries.{within, zeroAt, headOk, tapeOk, writesOk}
 
--- where the test fails the refusal, else the rest
+-- the refusal where the test fails, else the rest
 abbrev pub demand : Bool → Refusal → Checked → Checked
 demand test why rest = pick test rest (Refused why)
 
--- after a check: its refusal, else the rest
+-- the refusal of a check, or the rest where the check accepts
 abbrev pub checkedOn : Checked → Checked → Checked
 checkedOn (Refused why) rest = Refused why
 checkedOn Accepted rest = rest
 
--- after a scan: the refusal with the place found, if there is one
+-- the answer after a scan: the refusal with the place found, if there is one, else accepted
 abbrev pub answerAt : (ℕ → Refusal) → Option ℕ → Checked
 answerAt why none = Accepted
 answerAt why (some i) = Refused (why i)
 
--- what an output holds after a check: what it held where that refuses, else what is written
+-- the output after a check: unchanged where the check refuses, else filled
 abbrev pub filledOn : Checked → (out filled : List ℕ) → List ℕ
 filledOn (Refused why) out filled = out
 filledOn Accepted out filled = filled

@@ -62,7 +62,7 @@ packCheck m s room =
     checkedOn (tableCheck m s)
     (demand (eqb (m .tapes) 1) Why.PackedWords (demand (leb (entryCount m) room) Why.OutputSize Accepted))
 
--- what the output holds afterwards: place i the word of entry i; after a refusal what it held
+-- the output afterwards: place i holds the word of entry i; after a refusal the output is unchanged
 unfoldable pub packInto : Machine → List ℕ → List ℕ → List ℕ
 packInto m s out =
     filledOn (packCheck m s (length out)) out

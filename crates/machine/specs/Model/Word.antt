@@ -1,4 +1,4 @@
--- The check of an input word: refusals 9 and 10, of 10 the first place. Definitions only.
+-- The check of an input word: refusals 9 and 10; 10 gives the first place. Definitions only.
 use mathlib.Core.List.{List}
 use Prim.Native.Nat.{ℕ}
 use lib.Dec.{leb}

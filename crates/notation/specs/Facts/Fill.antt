@@ -1,4 +1,4 @@
--- A loop that writes: one turn, for any list x that the loop stands for, and what the list then holds at each place. Assumes nothing.
+-- A loop that writes: one turn of the loop, where x is the loop's result, and the contents of each place of the result. Assumes nothing.
 use mathlib.Core.Path.{_≡_, refl, sym, ap, _∙_}
 use mathlib.Core.List.{List}
 use Prim.Native.Nat.{ℕ, zero, suc, _+_, _-_, _≤_, _<_}
@@ -51,7 +51,7 @@ fill-in f (suc n) i out j d a b h = by (ℕ-discrete i j) (fill-in f n (i + 1) (
     by (yes e) r = rw (← e) (fill-before f n (i + 1) (set out i (f i)) i d (omega arith) ∙ getD-set-same out i (f i) d (omega arith))
     by (no g) r = r (omega arith) (omega arith) (simp length-set h)
 
--- a store below the places that are written may come first
+-- a write below the places that are filled gives the same list before or after the fill
 pub set-fill : (f : ℕ → ℕ) (n i : ℕ) (out : List ℕ) (j w : ℕ) → j < i → set (fillFrom f n i out) j w ≡ fillFrom f n i (set out j w)
 unfolding fillFrom
 set-fill f zero i out j w h = refl

@@ -1,5 +1,5 @@
--- `omega` reads no integer, so each integer z is read as the difference of two naturals, up z and dn z.
--- Every fact about positions is then a fact about naturals: `diff` and its kin turn an equation or a move into one, `same` turns one back. Assumes nothing.
+-- `omega` does not read integers, so each integer z is read as the difference of two naturals, up z and dn z.
+-- Every fact about positions is then a fact about naturals: `diff` and similar lemmas turn an equation or a move into one, `same` turns one back. Assumes nothing.
 use mathlib.Core.Path.{_≡_, refl, sym, ap, subst}
 use mathlib.Core.Bool.{Bool, true, false}
 use Prim.Native.Nat.{ℕ, zero, suc, _+_, _-_, _≤_, _<_}
@@ -22,7 +22,7 @@ same (pos a) (negsuc b) h = absurd (omega arith)
 same (negsuc a) (pos b) h = absurd (omega arith)
 same (negsuc a) (negsuc b) h = ap negsuc (omega arith)
 
--- ---- the tests and the order likewise
+-- ---- the tests and the order of positions, likewise
 
 pub eqZ-true : (x y : ℤ) → eqZ x y ≡ true → x ≡ y
 eqZ-true (pos a) (pos b) t = ap pos (eqb-true a b t)
@@ -80,7 +80,7 @@ pub <ℤ-diff : (x y : ℤ) → x <ℤ y → up x + dn y < up y + dn x
 pub diff-<ℤ : (x y : ℤ) → up x + dn y < up y + dn x → x <ℤ y
 diff-<ℤ x y h = ltZ-yes (subst T (sym (lt-ltZ x y h)) tt)
 
--- `omega ints` reads and proves these statements about integers. What a move or an index does to an integer is listed beside it
+-- `omega ints` reads and proves these statements about integers. A lemma on a move or an index is added by name, as in `omega (ints, diff-suc h)`
 pub ruleset ints = (arith, diff, same, ≤ℤ-diff, diff-≤ℤ, <ℤ-diff, diff-<ℤ, leZ-true, leZ-false, le-leZ, ltZ-true, lt-ltZ)
 
 -- ---- what a move and an index do to the difference

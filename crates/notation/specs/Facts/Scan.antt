@@ -1,4 +1,4 @@
--- Scans: one turn of a loop over each shape, for any value x that the loop stands for, and what the scan's answer says. Assumes nothing.
+-- Scans: one turn of a loop for each scan, where x is the loop's result, and what follows from the scan's answer. Assumes nothing.
 use mathlib.Core.Path.{_≡_, refl, sym, ap, _∙_}
 use mathlib.Core.Bool.{Bool, true, false}
 use mathlib.Core.Option.{Option, none, some}
@@ -53,7 +53,7 @@ first-end p to i x e h =
 
 -- ---- what the answer says
 
--- the test holds of each of the n numbers from i on
+-- the test holds for each of the n numbers from i on
 abbrev pub Holds : (ℕ → Bool) → ℕ → ℕ → Type 0
 Holds p n i = (j : ℕ) → i ≤ j → j < i + n → p j ≡ true
 
@@ -74,7 +74,7 @@ unfolding allIn
 all-holds p zero i h = refl
 all-holds p (suc n) i h = both-true (h i (omega arith) (omega arith)) (all-holds p n (i + 1) (λ j a b. h j (omega arith) (omega arith)))
 
--- the scan's answer by cases: it holds of all, or j is the lowest of which it does not
+-- the scan's answer by cases: the test holds for all, or j is the lowest number for which it fails
 pub data Scanned (p : ℕ → Bool) (n i : ℕ) : Option ℕ → Type 0 where
   clean : Holds p n i → Scanned p n i none
   failed : (j : ℕ) → i ≤ j → j < i + n → p j ≡ false → ((k : ℕ) → i ≤ k → k < j → p k ≡ true) → Scanned p n i (some j)

@@ -1,4 +1,4 @@
--- Scans downward and counts: one turn of a loop over each, for any value x that the loop stands for, and what the answer says. Assumes nothing.
+-- Scans downward and counts: one turn of a loop for each, where x is the loop's result, and what follows from the answer. Assumes nothing.
 use mathlib.Core.Path.{_≡_, sym, ap, _∙_}
 use mathlib.Core.Bool.{Bool, true, false}
 use mathlib.Core.Option.{Option, none, some}
@@ -48,7 +48,7 @@ unfolding countFails
 count-most p zero = omega arith
 count-most p (suc n) = pick-cases (p n) 0 1 (λ w. countFails p n + w ≤ suc n) (λ t. omega (arith, count-most p n)) (λ t. omega (arith, count-most p n))
 
--- the scan's answer by cases: it holds of all below n, or j is the highest of which it does not
+-- the scan's answer by cases: the test holds for all numbers below n, or j is the highest for which it fails
 pub data ScannedDown (p : ℕ → Bool) (n : ℕ) : Option ℕ → Type 0 where
   clean : ((j : ℕ) → j < n → p j ≡ true) → ScannedDown p n none
   failed : (j : ℕ) → j < n → p j ≡ false → ((k : ℕ) → j < k → k < n → p k ≡ true) → ScannedDown p n (some j)

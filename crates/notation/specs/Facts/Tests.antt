@@ -1,4 +1,4 @@
--- What tests say, and how a chain of them is gone through. Assumes nothing.
+-- What follows from tests, and lemmas for each test of a chain. Assumes nothing.
 use mathlib.Core.Path.{_≡_, refl}
 use mathlib.Core.Bool.{Bool, true, false}
 use Prim.Native.Nat.{ℕ}
@@ -6,7 +6,7 @@ use native.Mathlib.Omega.{arith}
 use borrow.Author.Tests.{not-true, not-false, lt-ltb, le-ltb, le-leb, lt-leb, eq-eqb, ne-eqb}
 use Rattle.notation.specs.Choice.{pick, both}
 
--- ---- a chain of tests, each left by its own return
+-- ---- a chain of tests, each with its own return
 
 pub both-no : (a b : Bool) → a ≡ false → false ≡ both a b
 unfolding both
@@ -49,7 +49,7 @@ pick-no-via r a x b c p q e = simp (← p, q, e)
 
 pub ruleset via = (both-no-via, both-go-via, pick-yes-via, pick-no-via, not-true, not-false)
 
--- ---- back, from a chain of tests to what it says
+-- ---- from a chain of tests to what follows from it
 
 pub both-split : {a b : Bool} → both a b ≡ true → (a ≡ true) × (b ≡ true)
 unfolding both
@@ -68,7 +68,7 @@ pub by-test {ℓ} : {P : Type ℓ} (b : Bool) → (b ≡ true → P) → (b ≡ 
 by-test true f g = f refl
 by-test false f g = g refl
 
--- what holds of either choice, each with what its test says, holds of the choice
+-- a property of both values, each under its result of the test, is a property of the choice
 pub pick-cases : {A : Type 0} (b : Bool) (x y : A) (P : A → Type 0) → (b ≡ true → P x) → (b ≡ false → P y) → P (pick b x y)
 unfolding pick
 pick-cases true x y P f g = f refl

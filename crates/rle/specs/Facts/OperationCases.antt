@@ -29,7 +29,7 @@ use Rattle.rle.specs.Invariants.{SidesOk, CountsOk, RunOk}
 use Rattle.rle.specs.Fits.{zeroAt, sideFits, headFits, countsFit, chainFits, placesFit, valueCheck, engineCheck, runCheck}
 use Rattle.rle.specs.Model.Operations.{given, runAnswer, runsOf, wordOf, freshSizes, freshCheck, startSim, Made, made, newAnswer}
 
--- ---- a value that passed
+-- ---- a value that passed the check
 
 pub record Passed (m : Machine) (s : List ℕ) (σ : Conf) : Type 0 where
   pub table : tableCheck m s ≡ Accepted
@@ -54,7 +54,7 @@ run-says m s fuel σ e =
     let t = on-says _ _ e in
     (engine-says m s σ (t .0), fuel-says _ fuel (demand-says _ _ _ (t .1) .0))
 
--- ---- gives the run its bounds
+-- ---- the bounds of a run, from the check
 
 side-says : (k most : ℕ) (ss ls : List ℕ) (n : ℕ) → sideFits k (placesOf ss ls) most (side ss ls n) ≡ true → SideOk (placesOf ss ls) most (side ss ls n)
 unfolding sideFits

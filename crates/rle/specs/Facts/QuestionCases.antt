@@ -49,13 +49,13 @@ module _ (v : ChainSim) (ls ll rs rl : List ℕ) where
   unfolding blankTape both
   blank-right e h = rw (eq-eqb (v .tape .cur) 0 e, eq-eqb (v .tape .left) 0 h)
 
--- not every cell is blank: where all else is, the last part is not
+-- where some cell is not blank, the head's cell is blank and the left side has no runs, the right side has runs
 some-right : (σ : Conf) → blankTape σ ≡ false → σ .sim .tape .cur ≡ 0 → σ .sim .tape .left ≡ 0 → σ .sim .tape .right ≡ 0 → ⊥
 unfolding blankTape
 some-right σ h c l r = clash (both-true (eq-eqb _ 0 c) (both-true (eq-eqb _ 0 l) (eq-eqb _ 0 r))) h
 
 module _ (σ : Conf) (ok : AskOk σ) (some : blankTape σ ≡ false) where
-  -- what is measured of a side is all of it
+  -- the cells counted on a side are all its cells
   pub left-sum : (n : ℕ) → n ≡ min (cellsOf (leftOf σ)) (σ .sim .steps + 1048576 + 1) → (n ≡ cellsOf (leftOf σ)) × (n ≤ σ .sim .tape .head)
   left-sum n e = (omega (arith, e, ok .sides .left .cells-in), omega (arith, e, ok .sides .left .cells-in, ok .counts .steps-in, ok .left-far))
 
@@ -137,7 +137,7 @@ module _ (m : Machine) (s : List ℕ) (σ : Conf) (r : Checked) (checked : r ≡
           right-far = leb-true (σ .sim .tape .head + cellsOf (rightOf σ)) (zeroAt + σ .sim .steps + slack) (both-split (reach p) .1);
         }
 
-    -- what the questions on the sides ask for
+    -- what the questions on the sides require
     pub asked-places : (σ .sim .tape .left ≤ length (σ .ls)) × (σ .sim .tape .left ≤ length (σ .ll)) × (σ .sim .tape .right ≤ length (σ .rs)) × (σ .sim .tape .right ≤ length (σ .rl))
     asked-places = (
       omega (arith, asked-ok .sides .left .live, asked-ok .sides .left .symbols-in),

@@ -1,4 +1,4 @@
--- What `left` and `right` answer and write: one fact for each return, and what the walks ask. Assumes nothing.
+-- What `left` and `right` answer and write: one fact for each return, and what their proofs by hand require. Assumes nothing.
 use mathlib.Core.Path.{_≡_, refl}
 use mathlib.Core.List.{List}
 use Prim.Native.Nat.{ℕ, _≤_}
@@ -34,7 +34,7 @@ module _ (m : Machine) (s : List ℕ) (count room : ℕ) (σ : Conf) (r : Checke
   unfolding sideAnswer
   list-room x e p = rw (← checked, e) p
 
--- ---- what an answer says of the number of records it writes
+-- ---- the number of records that an answer writes
 
 abbrev Within : (ss ls : List ℕ) (room : ℕ) → Listed → Type 0
 Within ss ls room t = (writtenOf t ≤ length ss) × (writtenOf t ≤ length ls) × (writtenOf t ≤ room)
@@ -73,7 +73,7 @@ module _ (m : Machine) (s : List ℕ) (σ : Conf) (passed : engineCheck m s σ �
   right-live : rightOf σ .count ≤ placesOf (σ .rs) (σ .rl)
   right-live = sides-ok m σ (engine-says m s σ passed .fits) .right .live
 
--- ---- what the walks ask
+-- ---- what the proofs by hand require
 
 module _ (m : Machine) (s : List ℕ) (σ : Conf) (out : List Run) where
   pub left-fits : Within (σ .ls) (σ .ll) (length out) (leftAnswer m s (length out) σ)

@@ -1,4 +1,4 @@
--- A run is a macro step and then a run: what a macro step that is planned is, and that any number of macro steps above the fuel gives the same. Assumes nothing.
+-- A run is a macro step and then a run: properties of a planned macro step, and that every bound on macro steps above the fuel gives the same end. Assumes nothing.
 use mathlib.Core.Path.{_≡_, refl, sym, _∙_, ap, subst}
 use mathlib.Core.Bool.{Bool, false}
 use Prim.Native.Nat.{ℕ, zero, suc, _-_, _≤_, _<_}
@@ -23,7 +23,7 @@ use Rattle.rle.specs.declared.inner.Turn.{Turn}
 use Rattle.rle.specs.declared.inner.Turn.the-variants.{Ends, Takes}
 use Rattle.rle.specs.Model.Engine.{Conf, leftOf, rightOf, Macro, Plan, Stop, Go, loopsOf, fueledOf, provedOf, turnOn, turnOf, noPlace, chainFor, timesOf, planBy, planOf, macroOf, end, onPlan, runWithin, runOf}
 
--- ---- an entry is made only with fuel
+-- ---- an entry is followed only with fuel
 
 abbrev pub IfTakes : ℕ → Turn → Type 0
 IfTakes fuel (Ends o) = Unit {0}
@@ -47,7 +47,7 @@ turn-fuel k fuel v = takes-fuel (entryOf (k .machine) (k .table) (v .state) (v .
 
 -- ---- a macro step that is planned
 
--- it makes some steps, no more than the fuel, and its push has a place
+-- it makes at least one step and at most `fuel` steps, and its push has a place
 pub record Fine (fuel : ℕ) (σ : Conf) (j : Macro) : Type 0 where
   pub some-steps : 1 ≤ j .repeats
   pub no-more : j .repeats ≤ fuel
@@ -88,7 +88,7 @@ decided k fuel σ j e = subst (IfGoes fuel σ) e (plan-fine k fuel σ)
 
 -- ---- a run is a macro step and then a run
 
--- any number of macro steps above the fuel gives the same
+-- every bound on macro steps above the fuel gives the same end
 follow : (k : Task) (n n′ fuel : ℕ) (σ : Conf) (p : Plan) → IfGoes fuel σ p → fuel < suc n → fuel < suc n′
     → ((f : ℕ) (τ : Conf) → f < n → f < n′ → runWithin k n f τ ≡ runWithin k n′ f τ)
     → onPlan p (end σ) (λ j. runWithin k n (fuel - j .repeats) (macroOf j σ)) ≡ onPlan p (end σ) (λ j. runWithin k n′ (fuel - j .repeats) (macroOf j σ))

@@ -1,4 +1,4 @@
--- The arms of a run's loop: a fact for each return, and what a turn keeps. Assumes nothing.
+-- The branches of a run's loop: a fact for each return, and the invariant that a turn keeps. Assumes nothing.
 use mathlib.Core.Path.{_≡_, refl, sym, _∙_, ap, subst}
 use mathlib.Core.Bool.{true, false}
 use Prim.Native.Nat.{ℕ, _-_, min}
@@ -32,7 +32,7 @@ made-macro-steps L s σ n = refl
 made-macro-steps R s σ n = refl
 made-macro-steps N s σ n = refl
 
--- ---- the loop's arms
+-- ---- the loop's branches
 
 pub going-start : (k : Task) (stride lp rp : ℕ) (σ : Conf) (fuel : ℕ) → RunOk (k .machine) stride σ fuel → lp ≡ placesOf (σ .ls) (σ .ll) → rp ≡ placesOf (σ .rs) (σ .rl)
     → Going k stride lp rp σ fuel σ fuel

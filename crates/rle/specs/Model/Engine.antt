@@ -1,4 +1,4 @@
--- The run-length engine over its lent places, as the code goes: what a configuration is, what comes next, a macro step, the run. Definitions only.
+-- The run-length engine over its lent places, as the code runs it: the configuration, what comes next, a macro step, the run. Definitions only.
 use mathlib.Core.Bool.{Bool}
 use mathlib.Core.List.{List}
 use Prim.Native.Nat.{ℕ, zero, suc, _+_, _-_}
@@ -45,7 +45,7 @@ rightOf σ = side (σ .rs) (σ .rl) (σ .sim .tape .right)
 
 -- ---- what comes next: "halted, never, fuel", "the stop rule .. after fuel and before space", space, a macro step
 
--- a macro step: an entry of one tape, made so many times in a row
+-- a macro step: an entry of one tape, followed `repeats` times in a row
 pub record Macro : Type 0 where
   pub write : ℕ
   pub dir : Dir
@@ -57,24 +57,24 @@ pub data Plan : Type 0 where
   Stop : Outcome → Plan
   Go : Macro → Plan
 
--- an entry that is a proved loop keeps the state, and stays and rewrites what it read, or walks from a blank into blanks
+-- an entry is a proved loop if it keeps the state and either stays and rewrites the symbol read, or moves from a blank to a side without runs
 abbrev pub loopsOf : State → Action → (cur lefts rights : ℕ) → Bool
 loopsOf q a cur l r = both (eqb (a .next .0) (q .0)) (loopsFor (a .dir0) (a .write0 .0) cur l r)
 
 abbrev pub stepOf : (loops : Bool) → Action → State → Step
 stepOf loops a q = record { write = a .write0 .0; dir = a .dir0; next = a .next; keeps = eqb (a .next .0) (q .0); loops = loops }
 
--- before it is asked whether there is space, the run's end or the entry to make: fuel, then the stop rule
+-- the run's end or the entry to follow, before the test for space: fuel, then the stop rule
 unfoldable pub fueledOf : (loops : Bool) → StopRule → Action → ℕ → ChainSim → Turn
 fueledOf loops rule a fuel v =
     fuelThen Ends fuel (v .steps) (matches rule (v .state)) (Takes (stepOf loops a (v .state)))
 
--- before these a proved loop, where the never test is made
+-- first a proved loop, where the never test is made; then `fueledOf`
 unfoldable pub provedOf : (proves loops : Bool) → StopRule → Action → ℕ → ChainSim → Turn
 provedOf proves loops rule a fuel v =
     pick (both loops proves) (Ends (NeverHalts (v .steps) (proofOf (v .state) (a .dir0)))) (fueledOf loops rule a fuel v)
 
--- and before all no entry
+-- first an undefined entry; then `provedOf`
 unfoldable pub turnOn : Entry → (proves : Bool) → StopRule → ℕ → ChainSim → Turn
 turnOn Undefined proves rule fuel v = Ends (Halted (v .steps) (v .state))
 turnOn (Defined a) proves rule fuel v =
@@ -84,7 +84,7 @@ unfoldable pub turnOf : Task → ℕ → ChainSim → Turn
 turnOf k fuel v =
     turnOn (entryOf (k .machine) (k .table) (v .state) (v .tape .cur) 0 0) (k .proves) (k .rule) fuel v
 
--- the push of such a step has no place
+-- whether the push of a step that writes w and moves by d has no place
 abbrev pub noPlace : Dir → (write : ℕ) → Conf → Bool
 noPlace d w σ = fullFor d w (placesOf (σ .ls) (σ .ll)) (placesOf (σ .rs) (σ .rl)) (leftOf σ) (rightOf σ)
 
@@ -94,7 +94,7 @@ timesOf s fuel σ = timesFor (s .dir) (s .loops) (s .keeps) (σ .sim .tape .cur)
 abbrev pub macroBy : Step → ℕ → Macro
 macroBy s n = record { write = s .write; dir = s .dir; next = s .next; repeats = n }
 
--- then space, and the macro step
+-- then the test for space, and the macro step
 abbrev pub planBy : Turn → ℕ → Conf → Plan
 planBy (Ends o) fuel σ = Stop o
 planBy (Takes s) fuel σ = pick (noPlace (s .dir) (s .write) σ) (Stop (Full (σ .sim .steps))) (Go (macroBy s (timesOf s fuel σ)))
@@ -104,7 +104,7 @@ planOf k fuel σ = planBy (turnOf k fuel (σ .sim)) fuel σ
 
 -- ---- a macro step
 
--- the engine's numbers, and the engine that has such numbers
+-- the engine's numbers, and the engine with given numbers
 abbrev pub tallyOf : ChainSim → Tally
 tallyOf v = record { steps = v .steps; macros = v .macros; head = v .tape .head; lowest = v .lowest; highest = v .highest }
 
@@ -150,7 +150,7 @@ abbrev pub onPlan : {A : Type 0} → Plan → (Outcome → A) → (Macro → A) 
 onPlan (Stop o) s g = s o
 onPlan (Go j) s g = g j
 
--- at most `most` macro steps; any number above the fuel gives the same
+-- a run of at most `most` macro steps; every `most` above the fuel gives the same end
 unfoldable pub runWithin : Task → (most fuel : ℕ) → Conf → End
 runWithin k zero fuel σ = end σ (OutOfFuel (σ .sim .steps))
 runWithin k (suc n) fuel σ = onPlan (planOf k fuel σ) (end σ) (λ j. runWithin k n (fuel - j .repeats) (macroOf j σ))

@@ -21,7 +21,7 @@ use Rattle.rle.specs.declared.Fresh.the-variants as New
 use Rattle.rle.specs.Model.Engine.{Conf, End, runOf}
 use Rattle.rle.specs.Fits.{zeroAt, runCheck}
 
--- ---- the run: an answer, with the engine and the places as they are left
+-- ---- the run: its answer, with the engine and the places after it
 
 pub record Given : Type 0 where
   pub at : Conf
@@ -38,7 +38,7 @@ runAnswer m s rule fuel σ = runOn (runCheck m s fuel σ) σ (runOf (task m s tr
 
 -- ---- a fresh engine
 
--- with the symbol under the head, and how many runs the right side has
+-- the start value, with the symbol under the head and the number of runs on the right side
 abbrev pub startSim : Machine → (cur rights : ℕ) → ChainSim
 startSim m cur rights = record {
   state = stateOf (m .start);
@@ -52,7 +52,7 @@ startSim m cur rights = record {
 abbrev pub freshSim : Machine → List ℕ → ℕ → ChainSim
 freshSim m w rights = startSim m (getD w 0 0) rights
 
--- the answer, with the right side's places; the left side's are not looked at beyond their number
+-- the answer, with the right side's places; of the left side's places only the number is read
 pub record Made : Type 0 where
   pub answer : Fresh
   pub rs : List ℕ

@@ -29,14 +29,14 @@ use Rattle.rle.specs.Fits.{zeroAt, engineCheck}
 unfoldable pub raisedCell : Conf → (raised : ℕ) → ℕ
 raisedCell σ p = cellOn (σ .sim .tape .head) (σ .sim .tape .cur) (leftOf σ) (rightOf σ) p
 
--- the symbol j places above it; positions past i64 are blank
+-- the symbol j positions above the raised one; positions past i64 are blank
 unfoldable pub windowCell : Conf → (raised j : ℕ) → ℕ
 windowCell σ raised j = windowOn (σ .sim .tape .head) (σ .sim .tape .cur) (leftOf σ) (rightOf σ) raised j
 
 unfoldable pub windowFrom : Conf → (raised : ℕ) → List ℕ → List ℕ
 windowFrom σ raised out = windowAll (σ .sim .tape .head) (σ .sim .tape .cur) (leftOf σ) (rightOf σ) raised out
 
--- the lowest and the highest cell that is not blank, raised: the furthest of its side; else the head's; else the nearest of the other side
+-- the raised positions of the lowest and the highest non-blank cell: the furthest of that side; else the head's; else the nearest of the other side
 unfoldable pub lowestOf : Conf → ℕ
 lowestOf σ =
     pick (eqb (σ .sim .tape .left) 0)
@@ -58,7 +58,7 @@ spanOf σ = pick (blankTape σ) Empty (Cells (lowestOf σ ⊖ zeroAt) (highestOf
 unfoldable pub countOf : Conf → ℕ
 countOf σ = countOn (σ .sim .tape .cur) (leftOf σ) (rightOf σ)
 
--- ---- the operations: the table check, 8, 11, 12
+-- ---- the operations: the table check, refusals 8, 11, 12, then the answer
 
 unfoldable pub getAnswer : Machine → List ℕ → ℤ → Conf → Got
 getAnswer m s z σ = askedOn (engineCheck m s σ) Got.Refused (Got.Found (symbolOf (raisedCell σ (raisedOf z))))
@@ -69,6 +69,6 @@ extentAnswer m s σ = askedOn (engineCheck m s σ) Extent.Refused (Extent.Found 
 unfoldable pub countAnswer : Machine → List ℕ → Conf → Counted
 countAnswer m s σ = askedOn (engineCheck m s σ) Counted.Refused (Counted.Found (countOf σ))
 
--- what the window's lent slice holds afterwards: after a refusal what it held
+-- the window's lent slice afterwards; a refusal leaves it unchanged
 unfoldable pub windowInto : Machine → List ℕ → ℤ → Conf → List ℕ → List ℕ
 windowInto m s z σ out = askedOn (engineCheck m s σ) (λ why. out) (windowFrom σ (raisedOf z) out)

@@ -14,7 +14,7 @@ use Rattle.rle_records.specs.Model.{recordsOf, roomFor}
 use Rattle.rle.specs.Model.Engine.{Conf, leftOf, rightOf}
 use Rattle.rle.specs.Fits.{engineCheck}
 
--- after a check: its refusal, else the rest
+-- the refusal of a check, else `rest`
 abbrev pub listedOn : Checked → Listed → Listed
 listedOn (Refused why) rest = List′.Refused why
 listedOn Accepted rest = rest
@@ -23,7 +23,7 @@ listedOn Accepted rest = rest
 unfoldable pub sideAnswer : Machine → List ℕ → (count room : ℕ) → Conf → Listed
 sideAnswer m s count room σ = listedOn (engineCheck m s σ) (roomFor count room)
 
--- the slice afterwards: the side's runs in its first places, the rest as it was; after a refusal all as it was
+-- the slice afterwards: the side's runs in its first places, the rest unchanged; a refusal leaves it all unchanged
 abbrev pub sideInto : Listed → Side → List Run → List Run
 sideInto (List′.Filled count) x out = recordsOf x out
 sideInto (List′.Refused why) x out = out

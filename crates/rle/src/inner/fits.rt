@@ -1,4 +1,4 @@
-// The parts of the test whether an engine's value fits that look at the value alone.
+// The tests of a fitting engine that read its value alone, not its places.
 use super::super::ChainSim;
 use machine::Machine;
 use run_checks::inner::sizes;

@@ -1,4 +1,4 @@
--- The numbers of a run-length engine, one fact for each way through the code. Assumes nothing.
+-- The numbers of a run-length engine, a lemma for each path through the code. Assumes nothing.
 use mathlib.Core.Path.{_≡_}
 use mathlib.Core.Bool.{Bool, true, false}
 use Prim.Native.Nat.{ℕ, _+_, min, max}

@@ -1,4 +1,4 @@
--- How many cells a side has where it fits, and what that says of both sides. Assumes nothing.
+-- How many cells a side has where it fits, and whether both sides fit. Assumes nothing.
 use mathlib.Core.Path.{_≡_, sym, _∙_}
 use mathlib.Core.Bool.{Bool, true, false}
 use Prim.Native.Nat.{ℕ, _+_, _≤_, _<_, min}
@@ -42,7 +42,7 @@ module _ (k p most : ℕ) (x : Side) where
   unfolding sideFits
   side-in t = leb-true (cellsOf x) most (both-split (both-split t .1) .1)
 
-  -- what a measure says of the side
+  -- whether the side fits, by its measure
   measured-over : (r : ℕ) → r ≡ measured k p most x → most < r → sideFits k p most x ≡ false
   measured-over r e h = by-test (sideFits k p most x)
       (λ t. absurd (omega (arith, e ∙ pick-true (sideFits k p most x) (cellsOf x) (most + 1) t, side-in t)))

@@ -62,7 +62,7 @@ runs-none : (w : List ℕ) (top count : ℕ) → runsOf w 0 top count ≡ count
 unfolding runsOf
 runs-none w top count = refl
 
--- pushing never makes fewer
+-- the runs never become fewer
 runs-grow : (w : List ℕ) (n top count : ℕ) → count ≤ runsOf w n top count
 runs-grow w zero top count = omega (arith, runs-none w top count)
 runs-grow w (suc n) top count =
@@ -140,7 +140,7 @@ module _ (w : List ℕ) (p : ℕ) (x₀ x : Side) (i : ℕ) (g : Laying w p x₀
               ≡ runsOf w (i - 1 - 1) (getD w (i - 1) 0) (moreOf (x .count) (topOf x) (getD w (i - 1) 0))
           again j = runsOf w (i - 1 - 1) (push-top p (length w - i) (getD w (i - 1) 0) 1 x (g .ok) laying-place j) (push-count (getD w (i - 1) 0) 1 x j)
 
--- what the push asks for
+-- what the push requires
 pub laying-asks : (w ss ls : List ℕ) (p n i : ℕ) (x₀ : Side) → Laying w p x₀ (side ss ls n) i → 1 < i → length w ≤ 1048576
     → ((n ≤ length ss) × (n ≤ length ls)) × ((lacks (placesOf ss ls) (getD w (i - 1) 0) (side ss ls n) ≡ false) × (sumOf ls n + 1 < 18446744073709551616))
 laying-asks w ss ls p n i x₀ g h b = (

@@ -1,4 +1,4 @@
--- The numbers of a run-length engine: what comes before space, and what a macro step makes of them. Definitions only.
+-- The numbers of a run-length engine: the tests before the test for space, and the numbers after a macro step. Definitions only.
 use mathlib.Core.Bool.{Bool}
 use Prim.Native.Nat.{ℕ, _+_, min, max}
 use lib.Dec.{eqb}

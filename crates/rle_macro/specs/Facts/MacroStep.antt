@@ -1,4 +1,4 @@
--- A macro step with a place, and one without. Assumes nothing.
+-- A macro step whose push has a place, and one whose push has none. Assumes nothing.
 use mathlib.Core.Path.{_≡_, refl, ap}
 use mathlib.Core.Bool.{Bool, true, false}
 use Prim.Native.Nat.{ℕ}
@@ -10,7 +10,7 @@ use Rattle.rle_stack.specs.Model.{Side, lacks}
 use Rattle.rle_macro.specs.declared.inner.macro_step.Step.{Step}
 use Rattle.rle_macro.specs.Model.MacroStep.{chainFor, timesFor, fullFor, reachOf, gone, goneBy, goOf, Made, moved, leftGone, rightGone, makeTo}
 
--- n steps that way
+-- n steps in a direction
 abbrev pub movedBy : Dir → (write n : ℕ) → (left right : Side) → Made
 movedBy L w n l r = leftGone (goneBy w n r l)
 movedBy R w n l r = rightGone (goneBy w n l r)

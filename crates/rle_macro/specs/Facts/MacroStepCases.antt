@@ -25,7 +25,7 @@ pub walks-meets : (cur n : ℕ) → cur ≡ 0 → eqb n 0 ≡ walksOn cur n
 unfolding both
 walks-meets cur n e = rw (eq-eqb cur 0 e)
 
--- what is so of a given direction is so of d
+-- the result for d, by which direction it is
 module _ (d : Dir) (w cur l r : ℕ) where
   pub loops-left : (x : Bool) → x ≡ walksOn cur l → d ≡ L → x ≡ loopsFor d w cur l r
   unfolding loopsFor

@@ -1,4 +1,4 @@
--- A macro step on two sides of runs, as the code goes. Definitions only.
+-- The model of the code for a macro step on two sides of runs. Definitions only.
 use mathlib.Core.Path.{_≡_}
 use mathlib.Core.Bool.{Bool, false}
 use Prim.Native.Nat.{ℕ, _+_, _-_, _≤_, _<_, min}
@@ -12,13 +12,13 @@ use Rattle.outcome.specs.declared.NonHaltProof.the-variants.{StayLoop, ChainToI
 use Rattle.rle_stack.specs.Model.{Side, placesOf, topOf, aheadOf, pushOf, lacks, takeOf, cellsOf}
 use Rattle.rle_macro.specs.declared.inner.macro_step.Step.{Step}
 
--- ---- a proved loop, of an entry that keeps the state
+-- ---- when an entry that keeps the state is a proved loop
 
--- it walks from a blank into blanks
+-- the head moves from a blank into a side without runs
 abbrev pub walksOn : (cur runs : ℕ) → Bool
 walksOn cur n = both (eqb cur 0) (eqb n 0)
 
--- or it stays and rewrites what it read
+-- or the entry stays and rewrites what it read
 unfoldable pub loopsFor : Dir → (write cur lefts rights : ℕ) → Bool
 loopsFor L w cur l r = walksOn cur l
 loopsFor R w cur l r = walksOn cur r
@@ -47,13 +47,13 @@ fullFor L w lp rp l r = lacks rp w r
 fullFor R w lp rp l r = lacks lp w l
 fullFor N w lp rp l r = false
 
--- to one side
+-- the number of steps of a macro step to one side
 unfoldable pub reachOf : (loops keeps : Bool) → (cur fuel : ℕ) → (ahead : Side) → ℕ
 reachOf loops keeps cur fuel x = pick loops fuel (pick keeps (min (aheadOf cur x + 1) fuel) 1)
 
--- ---- the step
+-- ---- the macro step
 
--- n cells are written behind the head, and n taken from the side ahead, the last of them under the head
+-- n cells are written behind the head, and n are taken from the side ahead; the last of these is then under the head
 pub record Carried : Type 0 where
   pub behind : Side
   pub cur : ℕ
@@ -66,7 +66,7 @@ unfoldable pub carryOf : (write n : ℕ) → (behind ahead : Side) → Carried
 carryOf w n b a =
     carried (pushOf w n b) (topOf (takeOf (n - 1) a)) (takeOf 1 (takeOf (n - 1) a))
 
--- with the number of steps
+-- the same, with the number of steps
 pub record Went : Type 0 where
   pub behind : Side
   pub cur : ℕ
@@ -80,12 +80,12 @@ abbrev pub goneBy : (write n : ℕ) → (behind ahead : Side) → Went
 goneBy w n b a =
     gone (carryOf w n b a .behind) (carryOf w n b a .cur) (carryOf w n b a .ahead) n
 
--- where there is no place nothing is done, in no steps
+-- where the push has no place, nothing changes and no step is made
 unfoldable pub goOf : (places : ℕ) → Step → (cur fuel : ℕ) → (behind ahead : Side) → Went
 goOf p s cur fuel b a =
     pick (lacks p (s .write) b) (gone b cur a 0) (goneBy (s .write) (reachOf (s .loops) (s .keeps) cur fuel a) b a)
 
--- by left and right
+-- the same, by left and right
 pub record Made : Type 0 where
   pub left : Side
   pub cur : ℕ
@@ -114,7 +114,7 @@ headFor L h n = h - n
 headFor R h n = h + n
 headFor N h n = h
 
--- what a macro step asks for: the live runs have places, their cells can be counted, and there is fuel
+-- what a macro step requires: the live runs have places, each side's cells and the fuel sum to less than 2^63, and there is fuel
 pub record MakeOk (lp rp fuel : ℕ) (l r : Side) : Type 0 where
   pub lefts : lp ≡ placesOf (l .symbols) (l .lengths)
   pub rights : rp ≡ placesOf (r .symbols) (r .lengths)

@@ -7,13 +7,13 @@ use Rattle.notation.specs.Choice.{pick}
 use Rattle.notation.specs.Fill.{fillFrom}
 use Rattle.rle_stack.specs.Model.{Side, cellAt, writtenOf}
 
--- the symbol at position raised − 2^63: under the head, or so far to one side
+-- the symbol at position raised − 2^63: the one under the head, or one of a side
 unfoldable pub cellOn : (head cur : ℕ) → (left right : Side) → (raised : ℕ) → ℕ
 cellOn h c l r p =
     pick (eqb p h) c
     (pick (ltb p h) (cellAt l (h - p - 1)) (cellAt r (p - h - 1)))
 
--- positions past i64, from 2^64 on, are blank
+-- raised positions from 2^64 on lie past i64, and are blank
 unfoldable pub windowOn : (head cur : ℕ) → (left right : Side) → (raised j : ℕ) → ℕ
 windowOn h c l r raised j = pick (ltb (raised + j) (2 ^ 64)) (cellOn h c l r (raised + j)) 0
 

@@ -1,6 +1,5 @@
-// A macro step: whether its entry is a proved loop, whether there is a place for its push, how many steps it covers, and
-// the step itself. The direction is looked at once, and nothing is packed into an answer and taken out of it again: that
-// is what makes the loop of a run fast.
+// A macro step: whether its entry is a proved loop, whether its push has a place, how many steps it covers, and the
+// step itself. `make` matches the direction once and returns plain numbers: this makes the loop of a run fast.
 use outcome::NonHaltProof;
 use rle_stack::inner as stack;
 use symbol::Dir;
@@ -13,7 +12,7 @@ ghost use Rattle.notation.specs.Choice.{pick};
 ghost use Rattle.rle_stack.specs.Model.{side, placesOf, lacks, sumOf};
 ghost use Rattle.rle_macro.specs.Model.MacroStep.{walksOn, loopsFor, proofOf, reachOf, gone, goneBy, goOf, moved, makeOf, headFor, MakeOk};
 
-// An entry of one tape that a macro step makes: whether it keeps the state, and whether it is a proved loop.
+// The entry that a macro step makes, whether it keeps the state, and whether it is a proved loop.
 pub struct Step {
     pub write: u8,
     pub dir: Dir,
@@ -22,8 +21,8 @@ pub struct Step {
     pub loops: bool,
 }
 
-// The live runs behind and ahead after a macro step, the symbol that is then under the head, and how many steps it was;
-// none where there was no place.
+// After a macro step: the numbers of live runs behind and ahead, the symbol under the head, and the number of steps,
+// 0 where the push had no place.
 pub struct Gone {
     pub behind: usize,
     pub cur: u8,
@@ -57,7 +56,7 @@ pub fn upper(a: u64, b: u64) -> u64
     a
 }
 
-// Whether a walk goes from a blank into a side without runs.
+// Whether the head moves from a blank into a side without runs.
 fn walks(cur: u8, runs: usize) -> bool
     ensures { λ r. ⌜ r ≡ walksOn cur runs ⌝ }
 {
@@ -84,7 +83,7 @@ pub fn loops(dir: Dir, write: u8, cur: u8, left: usize, right: usize) -> bool
     }
 }
 
-// What a proved loop is.
+// The proof that a proved loop never halts.
 pub fn proof_of(q: State, dir: Dir) -> NonHaltProof
     ensures { λ r. ⌜ r ≡ proofOf q dir ⌝ }
 {
@@ -107,7 +106,8 @@ pub fn proof_of(q: State, dir: Dir) -> NonHaltProof
     }
 }
 
-// How many steps a macro step to one side covers: a proved loop takes all the fuel, a chain the run ahead plus one.
+// How many steps a macro step to one side covers: all the fuel for a proved loop; the run ahead plus one, or the fuel
+// if less, for an entry that keeps the state; else one.
 fn reach(
     loops: bool,
     keeps: bool,
@@ -131,8 +131,8 @@ fn reach(
     lower(run + 1, fuel)
 }
 
-// Writes n cells behind the head (symbols bs, lengths bl) and takes n off the side ahead (fs, fl), the last of them to
-// stand under the head.
+// Writes n cells behind the head (symbols bs, lengths bl) and takes n off the side ahead (fs, fl); the last of these is
+// then under the head.
 fn carry(
     bs: &mut [u8],
     bl: &mut [u64],
@@ -161,7 +161,7 @@ fn carry(
     }
 }
 
-// A macro step to one side, where its push has a place.
+// Makes a macro step to one side, where its push has a place.
 fn go(
     bs: &mut [u8],
     bl: &mut [u64],
@@ -248,7 +248,7 @@ pub fn make(
     }
 }
 
-// Where the head is after n steps.
+// The head's position after n steps.
 pub fn head_for(dir: Dir, head: u64, n: u64) -> u64
     requires { ⌜ (n ≤ head) × (head + n < 18446744073709551616) ⌝ }
     ensures { λ r. ⌜ r ≡ headFor dir head n ⌝ }

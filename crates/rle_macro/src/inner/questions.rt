@@ -1,4 +1,4 @@
-// The tape questions on two sides: the head's position is raised by 2^63.
+// The questions on a tape of two sides. The head's position is raised by 2^63.
 use rle_stack::inner as stack;
 ghost use mathlib.Core.Path.{_≡_};
 ghost use Prim.Native.Nat.{_≤_, _<_};
@@ -53,7 +53,7 @@ fn window_cell(
     cell(head, cur, ls, ll, left, rs, rl, right, raised + above)
 }
 
-// The symbols from a raised position on, into the whole of `out`.
+// Writes the symbols from a raised position on into the whole of `out`.
 pub fn fill_window(
     head: u64,
     cur: u8,

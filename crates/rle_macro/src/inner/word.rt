@@ -9,7 +9,7 @@ ghost use lib.ListN.{length, getD};
 ghost use Rattle.rle_stack.specs.Model.{side, placesOf};
 ghost use Rattle.rle_counts.specs.Model.Words.{wordOf, runsOf, freshSizes, freshCheck, moreOf};
 
-// A run more where a symbol differs from the one on top.
+// The number of runs after a push of `s`: one more where `s` differs from the symbol on top.
 fn more(count: usize, top: u8, s: u8) -> usize
     requires { ⌜ count ≤ 1048576 ⌝ }
     ensures { λ r. ⌜ (r ≡ moreOf count top s) × (r ≤ count + 1) ⌝ }
@@ -36,7 +36,7 @@ fn runs_in(word: &[u8]) -> usize
     count
 }
 
-// Pushes the word past its first symbol, from its end; how many runs that makes.
+// Pushes the word past its first symbol, from its end, and returns the number of runs.
 pub fn lay(symbols: &mut [u8], lengths: &mut [u64], word: &[u8]) -> usize
     requires { ⌜ length (now word) ≤ 1048576 ⌝ }
     requires { ⌜ runsOf (now word) (length (now word) - 1) 0 0 ≤ placesOf (now symbols) (now lengths) ⌝ }
@@ -51,7 +51,7 @@ pub fn lay(symbols: &mut [u8], lengths: &mut [u64], word: &[u8]) -> usize
     count
 }
 
-// Whether there are places for the word's runs, and no more than may be lent.
+// Whether there are places for the word's runs, and neither side has more places than the limit.
 fn fresh_sizes(word: &[u8], lefts: usize, rights: usize) -> bool
     requires { ⌜ length (now word) ≤ 1048576 ⌝ }
     ensures { λ r. ⌜ r ≡ freshSizes (now (word .entry)) lefts rights ⌝ }
@@ -65,7 +65,7 @@ fn fresh_sizes(word: &[u8], lefts: usize, rights: usize) -> bool
     runs_in(word) <= rights
 }
 
-// The table check, 8, the word's 9 and 10, then 11.
+// The table check, then refusal 8, the word's refusals 9 and 10, then refusal 11.
 pub fn fresh_check(m: Machine, table: &[u8], word: &[u8], lefts: usize, rights: usize) -> Checked
     ensures { λ r. ⌜ r ≡ freshCheck m (now (table .entry)) (now (word .entry)) lefts rights ⌝ }
 {
@@ -94,7 +94,7 @@ pub fn fresh_check(m: Machine, table: &[u8], word: &[u8], lefts: usize, rights: 
     }
 }
 
-// The word's first symbol; that of no word is blank.
+// The word's first symbol; for an empty word the blank.
 pub fn first(word: &[u8]) -> u8
     ensures { λ r. ⌜ r ≡ getD (now (word .entry)) 0 0 ⌝ }
 {

@@ -1,4 +1,4 @@
--- What a slice of records holds afterwards, place by place, and what the walk of the code asks. Assumes nothing.
+-- What a slice of records holds after `fill`, place by place, and the lemmas that the proofs of the code need. Assumes nothing.
 use mathlib.Core.Path.{_≡_, refl, sym, _∙_, ap}
 use mathlib.Core.List.{List}
 use Prim.Native.Nat.{ℕ, zero, suc, _+_, _<_, _≤_}

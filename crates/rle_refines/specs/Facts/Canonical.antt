@@ -1,4 +1,4 @@
--- The stack rule makes the stacks canonical: the configuration held decides them, and so whether a step is full. Assumes nothing.
+-- The stack rule makes the stacks canonical: the configuration held determines them, and with them whether a step is full. Assumes nothing.
 use mathlib.Core.Path.{_≡_, refl, sym, ap, _∙_, subst, fun-ext}
 use mathlib.Core.Logic.{_↔_}
 use mathlib.Core.Bool.{true, false}
@@ -60,7 +60,7 @@ module _ (k : ℕ) where
 -- ---- one pair of stacks for a tape
 
 module _ (k : ℕ) (t : Tape) (l r l′ r′ : Stack) (s : Stacked k t l r) (s′ : Stacked k t l′ r′) where
-  -- both look the same at every distance
+  -- both pairs have the same cell at every distance
   alike : (z : ℤ) (x : ℤ) → distance (t .head) z ≡ x → look (stream l) (readT t) (stream r) x ≡ look (stream l′) (readT t) (stream r′) x
   alike z x e = subst (λ y. look (stream l) (readT t) (stream r) y ≡ look (stream l′) (readT t) (stream r′) y) e (sym (s .cells z) ∙ s′ .cells z)
 
@@ -75,7 +75,7 @@ module _ (k : ℕ) (t : Tape) (l r l′ r′ : Stack) (s : Stacked k t l r) (s�
   pub one-pair : (l ≡ l′) × (r ≡ r′)
   one-pair = (one-stack k l l′ (s .lefts) (s′ .lefts) left-alike, one-stack k r r′ (s .rights) (s′ .rights) right-alike)
 
--- ---- an engine that fits holds its tape by them
+-- ---- the stacks of an engine that fits are those of its tape
 
 height-is : (ss ls : List ℕ) (n : ℕ) → height (stackUpto ss ls n) ≡ n
 height-is ss ls zero = refl
@@ -88,7 +88,7 @@ held-stacks m σ f = record {
   cells = λ z. ap (λ c. look (streamOf (leftOf σ)) c (streamOf (rightOf σ)) (distance (tapeOf σ .head) z)) (sym (read-held σ));
 }
 
--- two engines that hold one configuration
+-- two engine values that hold one configuration are alike
 pub one-value : (m : Machine) (σ τ : Conf) → ChainFits m σ → ChainFits m τ → configOf σ ≡ configOf τ → Alike σ τ
 one-value m σ τ f g e =
     let t : tapeOf σ ≡ tapeOf τ = ap (λ (c : Config). c .tape0) e in
@@ -112,7 +112,7 @@ one-value m σ τ f g e =
 
 -- ---- full
 
--- with the places lent to σ
+-- a step from a configuration is full, with the places lent to σ
 abbrev pub FullIn : Machine → Table → Conf → Config → Type 0
 FullIn m d σ c = FullAt m d (placesOf (σ .ls) (σ .ll)) (placesOf (σ .rs) (σ .rl)) c
 
@@ -148,7 +148,7 @@ module _ (σ : Conf) (w lp rp : ℕ) where
 pub same-action : (x : Entry) (a b : Action) → x ≡ Defined a → x ≡ Defined b → a ≡ b
 same-action x a b h k = cc
 
--- the engine's test goes by the configuration and the places alone
+-- the engine's test depends on the configuration and the places alone
 module _ (m : Machine) (d : Table) (σ : Conf) (f : ChainFits m σ) (a : Action) (e : entry d (configOf σ) ≡ Defined a) where
   pub full-exact : (isFull σ a ≡ true) ↔ FullIn m d σ (configOf σ)
   full-exact = (to, back)
@@ -173,7 +173,7 @@ module _ (m : Machine) (d : Table) (σ : Conf) (f : ChainFits m σ) (a : Action)
   pub not-full : isFull σ a ≡ false → ¬ (FullIn m d σ (configOf σ))
   not-full t g = clash (full-exact .1 g) t
 
--- and lists of the same lengths have the same places
+-- lists of the same lengths have the same places
 pub full-same : (m : Machine) (d : Table) (σ τ : Conf) → Kept m σ τ → (c : Config)
     → FullIn m d σ c ↔ FullIn m d τ c
 full-same m d σ τ k c = (subst (λ n. n) same, subst (λ n. n) (sym same))

@@ -1,4 +1,4 @@
--- The run-length engine's tape by position: how a position lies from the head, what stands there, and that the code's cell is that one. Assumes nothing.
+-- The run-length engine's tape by position: where a position lies from the head, its symbol, and that the code finds this symbol. Assumes nothing.
 use mathlib.Core.Path.{_≡_, refl, sym, ap, _∙_}
 use Prim.Native.Nat.{ℕ, zero, suc, _+_, _-_, _≤_, _^_}
 use native.Mathlib.Omega.{arith}
@@ -19,11 +19,11 @@ use Rattle.rle_refines.specs.Facts.Tape.{diff-distance, cell-left, cell-
 use Rattle.rle_refines.specs.Facts.MacroStep.{read-held}
 use Rattle.rle_refines.specs.Facts.SideCells.{cell-at, past-cells}
 
--- past the live runs of a side all is blank
+-- past the live runs of a side all cells are blank
 pub side-past : (x : Side) (d : ℕ) → cellsOf x ≤ d → streamOf x d ≡ 0
 side-past x d l = past-cells (stackOf x) d (omega (arith, total-is (x .symbols) (x .lengths) (x .count)))
 
--- position z is the head's, or d + 1 places to one side; what stands there
+-- position z is the head's, or lies d + 1 cells to one side; the last index is its symbol
 pub data Seen (l : Stream) (c : ℕ) (r : Stream) (h : ℕ) (z : ℤ) : ℕ → Type 0 where
   here : up z + 2 ^ 63 ≡ h + dn z → Seen l c r h z c
   leftward : (d : ℕ) → up z + 2 ^ 63 + suc d ≡ h + dn z → Seen l c r h z (l d)
@@ -69,11 +69,11 @@ module _ (σ : Conf) where
         let q : z ≡ (head + suc d) ⊖ 2 ^ 63 = omega (ints, diff-⊖ (head + suc d) (2 ^ 63)) in
         ap (λ y. tapeOf σ .cell y) q ∙ cell-right left right cur head (σ .sim .lowest) (σ .sim .highest) d
 
-  -- the furthest cell to the left is a position of 64 bits
+  -- the furthest cell to the left has a position of 64 bits
   pub left-in : (m : Machine) → ChainFits m σ → cellsOf (leftOf σ) ≤ head
   left-in m f = omega (arith, f .left-far, f .steps-in)
 
-  -- the code's cell, of any engine value
+  -- the code finds the tape's cell, for any engine value
   pub cell-is : (p : ℕ) → raisedCell σ p ≡ tapeOf σ .cell (p ⊖ 2 ^ 63)
   unfolding raisedCell cellOn
   cell-is p = pick-cases (eqb p head) cur _ (λ x. x ≡ tapeOf σ .cell (p ⊖ 2 ^ 63))
@@ -83,7 +83,7 @@ module _ (σ : Conf) where
       (λ u. cell-at _ _ _ (head - p - 1) ∙ sym (at-left (p ⊖ 2 ^ 63) (head - p - 1) (omega (arith, diff-⊖ p (2 ^ 63), ltb-true p head u))))
       (λ u. cell-at _ _ _ (p - head - 1) ∙ sym (at-right (p ⊖ 2 ^ 63) (p - head - 1) (omega (arith, diff-⊖ p (2 ^ 63), ltb-false p head u, n)))))
 
-  -- z of 64 bits
+  -- the same for a position z of 64 bits
   pub raised-is : (z : ℤ) → dn z ≤ 2 ^ 63 → raisedCell σ (raisedOf z) ≡ tapeOf σ .cell z
   raised-is z low =
       let e : raisedOf z ⊖ 2 ^ 63 ≡ z = omega (ints, diff-⊖ (raisedOf z) (2 ^ 63)) in

@@ -1,4 +1,4 @@
--- How many cells of the run-length engine's tape are not blank: those of the runs that are not, and the head's. Assumes nothing.
+-- How many cells of the run-length engine's tape are not blank: those of the runs that are not blank, and the head's if it is not. Assumes nothing.
 use mathlib.Core.Path.{_≡_, refl, ap, _∙_}
 use mathlib.Core.Bool.{Bool, true, false}
 use mathlib.Core.List.{List}
@@ -20,7 +20,7 @@ use Rattle.rle_refines.specs.Meaning.{stackUpto, Stream, stream, tapeOf,
 use Rattle.rle_refines.specs.Facts.SideCells.{prepend-in, prepend-past}
 use Rattle.rle_refines.specs.Facts.Cells.{here, leftward, rightward, left, right, Stands, seen, at-head, at-left, at-right, side-past, left-in}
 
--- ---- counts of the numbers of which a test fails
+-- ---- the number of indexes that fail a test
 
 count-same : (p q : ℕ → Bool) (n : ℕ) → ((i : ℕ) → i < n → p i ≡ q i) → countFails p n ≡ countFails q n
 unfolding countFails
@@ -30,7 +30,7 @@ count-same p q (suc n) h =
     let b : p n ≡ q n = h n (omega arith) in
     λ i. a i + pick (b i) 0 1
 
--- first a of them, then b
+-- the first a indexes, then b more
 count-add : (p : ℕ → Bool) (a b : ℕ) → countFails p (a + b) ≡ countFails p a + countFails (λ i. p (a + i)) b
 unfolding countFails
 count-add p a zero =
@@ -40,7 +40,7 @@ count-add p a (suc b) =
     let e : a + suc b ≡ suc (a + b) = omega arith in
     omega (arith, ap (countFails p) e, count-add p a b)
 
--- all alike
+-- the test has the same result for all
 count-alike : (p : ℕ → Bool) (b : Bool) (n : ℕ) → ((i : ℕ) → i < n → p i ≡ b) → countFails p n ≡ pick b 0 n
 unfolding countFails pick
 count-alike p true zero h = refl
@@ -48,7 +48,7 @@ count-alike p false zero h = refl
 count-alike p true (suc n) h = rw (h n (omega arith), count-alike p true n (λ i l. h i (omega arith))) (omega arith)
 count-alike p false (suc n) h = rw (h n (omega arith), count-alike p false n (λ i l. h i (omega arith))) (omega arith)
 
--- from the other end
+-- counted from the other end
 count-back : (p : ℕ → Bool) (n : ℕ) → countFails (λ i. p (n - 1 - i)) n ≡ countFails p n
 unfolding countFails
 count-back p zero = refl
@@ -80,13 +80,13 @@ weight-is ss ls (suc n) =
 
 -- ---- the tape
 
--- of the n cells from a raised position on, `count` are not blank; every other cell is
+-- of the n cells from a raised position on, `count` are not blank; every other cell is blank
 pub record CountedIn (cell : ℤ → ℕ) (from n count : ℕ) : Type 0 where
   pub inside : countFails (λ i. eqb (cell ((from + i) ⊖ 2 ^ 63)) 0) n ≡ count
   pub below : (z : ℤ) → z <ℤ (from ⊖ 2 ^ 63) → cell z ≡ 0
   pub above : (z : ℤ) → ((from + n) ⊖ 2 ^ 63) ≤ℤ z → cell z ≡ 0
 
--- from the furthest cell of the left side to that of the right, both sides' cells and the head's
+-- the same for the cells from the furthest of the left side to the furthest of the right side
 abbrev pub CountedOn : Conf → (count : ℕ) → Type 0
 CountedOn σ n = CountedIn (tapeOf σ .cell) (σ .sim .tape .head - cellsOf (leftOf σ)) (cellsOf (leftOf σ) + 1 + cellsOf (rightOf σ)) n
 

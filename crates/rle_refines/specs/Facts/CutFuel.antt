@@ -1,4 +1,4 @@
--- The configuration, the places and the fuel decide a run: how the fuel was cut leaves no trace but the number of macro steps. Assumes nothing.
+-- The configuration, the places and the fuel determine a run; a split of the fuel changes macro steps and what lies past the live runs only. Assumes nothing.
 use mathlib.Core.Path.{_≡_, refl, sym, ap, _∙_, subst}
 use mathlib.Core.Bool.{true, false}
 use Prim.Native.Nat.{ℕ, _+_, _≤_, _<_, _^_}
@@ -21,7 +21,7 @@ use Rattle.rle_refines.specs.Facts.Refinement.{refines-later, run-refine
 
 -- ---- one answer
 
--- where the never test proves nothing, a verdict is out of fuel, and given only where the fuel is used up
+-- where the never test proves nothing, the verdict is out of fuel, and all the fuel is used
 unproved-spent : (k : Task) (c : Config) (o : Outcome) {made fuel : ℕ} → k .proves ≡ true → Judged k c o → ((n : ℕ) → o ≡ OutOfFuel n → made ≡ fuel) → Unproved k c → made ≡ fuel
 unproved-spent k c o t v g u = g _ (verdict-unique _ _ _ _ _ v (u t))
 
@@ -53,7 +53,7 @@ module _ (k : Task) (fuel made : ℕ) (e : Conf) where
   one-answer (full a l h u q x) (stopped b m g v r) = absurd (clash r q)
   one-answer (full a l h u q x) (full b m g v r y) = refl
 
--- the answer goes by the configuration and the places
+-- the answer depends on the configuration and the places alone
 module _ (k : Task) (fuel made : ℕ) (e τ : Conf) (fits : ChainFits (k .machine) e) (other : ChainFits (k .machine) τ) (same : configOf e ≡ configOf τ)
     (places : FullIn (k .machine) (tableIn k) e (configOf e) → FullIn (k .machine) (tableIn k) τ (configOf e)) where
   answers-same : {o : Outcome} → Answers k fuel made e o → Answers k fuel made τ o
@@ -72,7 +72,7 @@ module _ (k : Task) (fuel made : ℕ) (e τ : Conf) (fits : ChainFits (k .machin
 -- ---- one run
 
 module _ (k : Task) (fuel : ℕ) (σ : Conf) where
-  -- none ends where the other goes on
+  -- neither run ends before the other
   no-earlier : (x y : End) (r : Refines k fuel σ x) (s : Refines k fuel σ y) → ¬ (r .made < s .made)
   no-earlier x y r s l = by (r .answers)
     where
@@ -100,7 +100,7 @@ module _ (k : Task) (fuel : ℕ) (σ : Conf) where
     same-config : configOf (x .at) ≡ configOf (y .at)
     same-config = r .went .holds ∙ ap (λ n. after k n σ) same-made ∙ sym (s .went .holds)
 
-    -- the same answer, and the same engine but for the number of macro steps
+    -- the answers are the same, and the engine values are alike
     pub one-run : (x .outcome ≡ y .outcome) × Alike (x .at) (y .at)
     one-run = (
       one-answer k fuel (s .made) (y .at)
@@ -134,6 +134,6 @@ module _ (k : Task) (table : TableOf (k .machine) (tableIn k)) (single : k .mach
   second : Refines k (a + b) σ (runOf k b first)
   second = refines-later k a b σ first (runOf k b first) went (run-refines k table single b first (went .kept .fits) (omega (arith, went .counted)))
 
-  -- fuel a and then b, or a + b at once
+  -- a run with fuel a and then b ends like one with fuel a + b
   pub run-twice : (runOf k b first .outcome ≡ runOf k (a + b) σ .outcome) × Alike (runOf k b first .at) (runOf k (a + b) σ .at)
   run-twice = one-run k (a + b) σ (runOf k b first) (runOf k (a + b) σ) second (run-refines k table single (a + b) σ f small)

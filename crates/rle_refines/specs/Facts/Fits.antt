@@ -1,4 +1,4 @@
--- The check's rule of fitting says, and is said by, the plain facts of Meaning. Assumes nothing.
+-- The check's test whether an engine fits is true exactly where it fits by Meaning. Assumes nothing.
 use mathlib.Core.Path.{_≡_, sym, _∙_}
 use mathlib.Core.Bool.{Bool, true, false, not}
 use mathlib.Core.List.{List}
@@ -105,7 +105,7 @@ module _ (m : Machine) (σ : Conf) where
 
 -- ---- "its furthest cell's distance from 0"
 
--- index i near index o, as a position where o is 0
+-- an index i near index o, as a position: it is near 0, where index o is position 0
 near-zero : (n i o : ℕ) → o ≤ i + n → i ≤ o + n → Near n (i ⊖ o)
 near-zero n i o low high = by (i ⊖ o) (diff-⊖ i o)
   where
@@ -113,7 +113,7 @@ near-zero n i o low high = by (i ⊖ o) (diff-⊖ i o)
     by (pos x) e = (omega arith, omega arith)
     by (negsuc x) e = (omega arith, omega arith)
 
--- away from the head it is left-far and right-far; towards 0 and past it, that the head is near
+-- the bound away from the head is left-far or right-far; the opposite bound follows from that of the head
 pub ends-near : (m : Machine) (σ : Conf) → ChainFits m σ → Near (σ .sim .steps + 2 ^ 20) (leftEnd σ) × Near (σ .sim .steps + 2 ^ 20) (rightEnd σ)
 ends-near m σ f = (
   near-zero _ _ _ (omega (arith, f .left-far)) (omega (arith, f .head-high, f .high-near)),

@@ -30,7 +30,7 @@ use Rattle.rle_refines.specs.Facts.Tape.{diff-distance}
 
 -- ---- the runs that a word makes
 
--- no fewer than there are
+-- the runs never become fewer
 runs-more : (w : List ℕ) (n top count : ℕ) → count ≤ runsOf w n top count
 unfolding runsOf
 runs-more w zero t c = omega arith
@@ -65,7 +65,7 @@ module _ (k : ℕ) (w : List ℕ) (word : (i : ℕ) → getD w i 0 < k) (x : Sid
     next-top : topOf next ≡ s
     next-top = top-is (next .symbols) (next .lengths) (next .count) ∙ ap top is ∙ top-push s 1 (stackOf y)
 
-    -- the runs are as many as were counted
+    -- the push does not change the counted number of runs
     next-runs : runsOf w n (topOf next) (next .count) ≡ runsOf w (suc n) (topOf y) (y .count)
     unfolding runsOf
     next-runs = (λ i. runsOf w n (next-top i) (push-count s 1 y i)) ∙ by-test (eqb s (topOf y))
@@ -156,7 +156,7 @@ module _ (m : Machine) (w ls ll rs rl : List ℕ) (word : (i : ℕ) → getD w i
     right-far = omega (arith, done .sum);
   }
 
--- a symbol past a word's end is the blank
+-- every symbol of a word is below k; past its end the symbol is the blank
 pub word-all : (k : ℕ) (w : List ℕ) → 1 ≤ k → ((i : ℕ) → i < length w → getD w i 0 < k) → (i : ℕ) → getD w i 0 < k
 word-all k w l h i = by (decLt i (length w))
   where

@@ -1,4 +1,4 @@
--- Inside a macro step: all the configurations on its way stand before the same entry, and none is a proved loop if the first is none. Assumes nothing.
+-- Inside a macro step: all the configurations on its way have the same entry, and none is a proved loop if the first is not. Assumes nothing.
 use mathlib.Core.Path.{_≡_, refl, sym, ap, _∙_, subst, fun-ext}
 use mathlib.Core.Bool.{false}
 use Prim.Native.Nat.{ℕ, zero, suc, _+_, _-_, _≤_, _<_, _^_}
@@ -36,7 +36,7 @@ prepend-last : (n a : ℕ) (f : Stream) → prepend (suc n) a f n ≡ a
 prepend-last zero a f = refl
 prepend-last (suc n) a f = prepend-last n a f
 
--- where j + 1 cells of a come first, a is what j of them leave first
+-- where j + 1 cells of symbol a come first, a is the first cell after `take j`
 next-cell : (a j : ℕ) (r : Stack) → Reach a j r → Reach a (suc j) r → stream (take j r) 0 ≡ a
 next-cell a j r p q = sym (prepend-next j a (stream (take j r))) ∙ ap (λ (f : Stream). f j) (sym p ∙ q) ∙ prepend-last j a (stream (take (suc j) r))
 
@@ -90,14 +90,14 @@ module _ (j : Macro) (σ : Conf) where
   unfolding macroTo
   after-macro-still = refl
 
--- where the symbol behind is the one to be written, there is no need of a place
+-- where the symbol behind is the one to be written, the push needs no place
 merges : (w : ℕ) (τ : Conf) (x : Dir) → (Sideways x → topOf (behindOf x τ) ≡ w) → noPlace x w τ ≡ false
 unfolding fullFor lacks
 merges w τ L e = pick-true (eqb w (topOf (rightOf τ))) _ _ (eq-eqb _ _ (sym (e tt)))
 merges w τ R e = pick-true (eqb w (topOf (leftOf τ))) _ _ (eq-eqb _ _ (sym (e tt)))
 merges w τ N e = refl
 
--- an entry that is unproved is of neither pattern
+-- an unproved entry has neither of the never patterns
 unproved-says : (k : Task) (c : Config) (a : Action) → entry (tableIn k) c ≡ Defined a → Judged k c (outOfFuelAt c) → ¬ (Stays c a) × ((x : Dir) → ¬ (Walks (k .machine .tapes) c a x))
 unproved-says k c a e (goes b h s w) = let p = same-action _ b a h e in (rw p at s, rw p at w)
 
@@ -164,7 +164,7 @@ module _ (k : Task) (table : TableOf (k .machine) (tableIn k)) (single : k .mach
         let c : Kept (k .machine) σ (cut j) = cut-kept j before in
         not-full (k .machine) (tableIn k) (cut j) (c .fits) a cut-entry cut-merges (full-same (k .machine) (tableIn k) σ (cut j) c (configOf (cut j)) .0 g)
 
-    -- if all is blank ahead now, it was before
+    -- if all cells ahead are blank after these steps, they were blank at the start
     blank-before : (s : Sideways (a .dir0)) → σ .sim .tape .cur ≡ 0 → streamOf (aheadOn (a .dir0) (cut j)) ≡ blanks → streamOf (aheadOn (a .dir0) σ) ≡ blanks
     blank-before s z b =
         let st : Stack = stackOf (aheadOn (a .dir0) σ) in
@@ -191,7 +191,7 @@ module _ (k : Task) (table : TableOf (k .machine) (tableIn k)) (single : k .mach
               walks-says k single σ f a of-machine x (w .sideways) keeps-state (w .moves) z
               (subst (λ y. streamOf (aheadOn y σ) ≡ blanks) (w .moves) (blank-before s z (subst (λ y. streamOf (aheadOn y (cut j)) ≡ blanks) (sym (w .moves)) b)))
 
-  -- what holds of the first configuration, and of each on the way that stands before the same entry in the same state
+  -- what holds of the first configuration, and of each later one inside the macro step, holds of all
   all-along : (P : Config → Type 0) → P (configOf σ) → ((j : ℕ) → suc j < n → P (configOf (cut j))) → (j : ℕ) → j < n → P (after k j σ)
   unfolding run
   all-along P h g zero l = h

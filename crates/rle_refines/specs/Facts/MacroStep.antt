@@ -1,4 +1,4 @@
--- A macro step of n repeats is n steps of the table machine, and keeps what fits. Assumes nothing.
+-- A macro step of n repeats is n steps of the table machine, and the engine still fits after it. Assumes nothing.
 use mathlib.Core.Path.{_≡_, refl, sym, ap, _∙_, subst}
 use mathlib.Core.Bool.{false}
 use Prim.Native.Nat.{ℕ, suc, _+_, _-_, _≤_, _<_, _^_, min, max}
@@ -31,7 +31,7 @@ by-way L f g = f tt
 by-way R f g = f tt
 by-way N f g = g refl
 
--- the symbol read, and the entry
+-- the configuration held has the engine's symbol read, and its entry
 pub read-held : (σ : Conf) → readT (tapeOf σ) ≡ σ .sim .tape .cur
 read-held σ = read-around (streamOf (leftOf σ)) (streamOf (rightOf σ)) (σ .sim .tape .cur) (σ .sim .tape .head) (σ .sim .lowest) (σ .sim .highest)
 
@@ -79,7 +79,7 @@ over-reach L s w k σ o = o
 over-reach R s w k σ o = o
 over-reach N s w k σ o = absurd s
 
--- a macro step that ends by step 2^62 takes no position below 0
+-- a macro step that ends by step 2^62 takes no raised position below 0
 high-enough : (m : Machine) (σ : Conf) → ChainFits m σ → (n : ℕ) → σ .sim .steps + n ≤ 2 ^ 62 → n ≤ σ .sim .tape .head
 high-enough m σ f n small = omega (arith, f .low-head, f .low-near)
 
@@ -146,7 +146,7 @@ module _ (m : Machine) (d : Table) (table : TableOf m d) (single : m .tapes ≡ 
       pub macro-holds : configOf (macroOf (macro a (suc k)) σ) ≡ run d (suc k) (configOf σ)
       macro-holds = by-way (a .dir0) moves stays
 
-    -- ---- what it keeps
+    -- ---- what a macro step keeps
 
     pub macro-keeps : Kept m σ (macroOf (macro a (suc k)) σ)
     unfolding macroTo

@@ -1,4 +1,4 @@
--- The lowest and the highest cell that is not blank, by the furthest and the nearest of the two sides. Assumes nothing.
+-- The lowest and the highest cell that is not blank, from the furthest and the nearest such cells of the two sides. Assumes nothing.
 use mathlib.Core.Path.{_≡_, refl, sym, ap, _∙_}
 use mathlib.Core.Bool.{true, false}
 use Prim.Native.Nat.{ℕ, _+_, _-_}
@@ -21,7 +21,7 @@ use Rattle.rle_refines.specs.Meaning.{stackUpto, stream, streamOf, tapeO
 use Rattle.rle_refines.specs.Facts.SideCells.{Bounds, side-ends}
 use Rattle.rle_refines.specs.Facts.Cells.{here, leftward, rightward, left, right, cur, head, Stands, seen, at-head, at-left, at-right, left-in}
 
--- the last cell that way that is not blank
+-- a is the last cell in direction x that is not blank
 pub record Last (x : Dir) (cell : ℤ → ℕ) (a : ℤ) : Type 0 where
   pub written : ¬ (cell a ≡ 0)
   pub beyond : (y : ℤ) → Beyond x a y → cell y ≡ 0
@@ -50,7 +50,7 @@ module _ (m : Machine) (σ : Conf) (f : ChainFits m σ) where
   unfolding blankTape
   not-all t c l r = clash (both-true (eq-eqb _ _ c) (both-true (eq-eqb _ _ l) (eq-eqb _ _ r))) t
 
-  -- the last cells either way, by where they lie
+  -- the last cell in each direction, by where it lies
   module _ (p : ℕ) where
     abbrev place : ℤ
     place = p ⊖ zeroAt
@@ -58,7 +58,7 @@ module _ (m : Machine) (σ : Conf) (f : ChainFits m σ) where
     abbrev IsLast : Dir → Type 0
     IsLast x = Last x (tapeOf σ .cell) place
 
-    -- what lies beyond, as seen from the head
+    -- every cell beyond is blank, by where it lies from the head
     abbrev Off : Dir → Type 0
     Off x = (y : ℤ) (v : ℕ) → Beyond x place y → Stands σ y v → v ≡ 0
 

@@ -1,4 +1,4 @@
--- The run-length engine's operations, as they are called, are the table machine's. Assumes nothing.
+-- The proof of the claims of Operations about `new` and `run`. Assumes nothing.
 use mathlib.Core.Path.{_≡_, refl, ap, _∙_, subst}
 use mathlib.Core.Bool.{true}
 use mathlib.Core.List.{List}
@@ -40,7 +40,7 @@ use Rattle.rle_refines.specs.Facts.Fits.{fits-holds, holds-fits}
 use Rattle.rle_refines.specs.Facts.Fresh.{fresh-sizes, fresh-holds, fresh-fits, word-all}
 use Rattle.rle_refines.specs.Operations.{RunHolds, NewHolds}
 
--- ---- what a passed check says
+-- ---- what follows from a passed check
 
 pub record Passed (m : Machine) (s : List ℕ) (σ : Conf) : Type 0 where
   pub table : tableCheck m s ≡ Accepted
@@ -64,7 +64,7 @@ module _ (m : Machine) (s : List ℕ) (σ : Conf) where
       let p = Code.run-says m s fuel σ e in
       (held (p .0), p .1)
 
--- places of lists of the same lengths
+-- the check of the places depends on their numbers alone
 places-kept : (σ τ : Conf) → placesOf (τ .ls) (τ .ll) ≡ placesOf (σ .ls) (σ .ll) → placesOf (τ .rs) (τ .rl) ≡ placesOf (σ .rs) (σ .rl) → placesFit σ ≡ true → placesFit τ ≡ true
 unfolding placesFit
 places-kept σ τ l r e = rw (l, r) e
@@ -111,7 +111,7 @@ module _ (m : Machine) (s : List ℕ) (bytes : Bytes s) (rule : StopRule) (fuel 
         });
       }
 
-  -- "`never` means never": nor at any later step, nor from where the run began
+  -- "`never` means never": from where the run began, the table machine halts at no step
   pub run-never-halts : (n : ℕ) (p : NonHaltProof) → o ≡ NeverHalts n p → (j : ℕ) → ¬ (Halted (tableOf m s) (run (tableOf m s) j (configOf σ)))
   run-never-halts n p e = never-halts m s bytes (passed .0 .table) (passed .0 .single) true rule fuel σ (passed .0 .fits) (passed .1) n p (says-is ∙ e)
 

@@ -1,4 +1,4 @@
--- The never patterns as the engine sees them: an empty side is exactly a blank one, and the test of an entry says what the table machine's configuration is. Assumes nothing.
+-- The never patterns as the engine tests them: a side is empty exactly where it is blank, and an entry's test is true exactly for the patterns. Assumes nothing.
 use mathlib.Core.Path.{_≡_, refl, sym, ap, _∙_, subst}
 use mathlib.Core.Logic.{_↔_}
 use mathlib.Core.Bool.{Bool, true, false}
@@ -58,7 +58,7 @@ module _ (m : Machine) (σ : Conf) (f : ChainFits m σ) where
 
 -- ---- the two patterns
 
--- what the test of an entry says of the configuration held
+-- what the result of an entry's test means for the configuration held
 pub data Sees (k : Task) (σ : Conf) (a : Action) : Bool → Type 0 where
   unsure : ¬ (Stays (configOf σ) a) → ((x : Dir) → ¬ (Walks (k .machine .tapes) (configOf σ) a x)) → Sees k σ a false
   stay : Stays (configOf σ) a → Sees k σ a true
@@ -92,7 +92,7 @@ module _ (k : Task) (single : k .machine .tapes ≡ 1) (σ : Conf) (f : ChainFit
   pub walks-empty : (x : Dir) → Walks (k .machine .tapes) (configOf σ) a x → stackOf (aheadOn x σ) ≡ empty
   walks-empty x w = empty-of-blank (k .machine .symbols) (stackOf (aheadOn x σ)) (ahead-runs (k .machine) σ f x) (walks-blank x w)
 
-  -- "all tapes stay and rewrite", or "the cell read is blank .. and every cell strictly beyond the head that way is blank": an empty side, and no other
+  -- "all tapes stay and rewrite", or "the cell read is blank .. and every cell strictly beyond the head that way is blank": the side is empty exactly then
   pattern-sees : (x : Dir) → a .dir0 ≡ x → a .next .0 ≡ σ .sim .state .0
       → Sees k σ a (loopsFor x (a .write0 .0) (σ .sim .tape .cur) (σ .sim .tape .left) (σ .sim .tape .right))
   unfolding loopsFor

@@ -1,4 +1,4 @@
--- What the engine plans is what the table machine's configuration asks for. Assumes nothing.
+-- The engine's plan is the right one for the table machine's configuration. Assumes nothing.
 use mathlib.Core.Path.{_≡_, refl, sym, _∙_, subst}
 use mathlib.Core.Bool.{Bool, true, false}
 use Prim.Native.Nat.{ℕ, _≤_, _<_}
@@ -31,7 +31,7 @@ use Rattle.rle_refines.specs.Facts.Patterns.{Sees, unsure, stay, walk, w
 
 -- ---- how many repeats
 
--- n repeats of an entry: of each shorter number there is a macro step too
+-- an entry can be made n times in a row, and each smaller number of times too
 pub record Repeats (σ : Conf) (a : Action) (fuel n : ℕ) : Type 0 where
   pub some : 1 ≤ n
   pub within : n ≤ fuel
@@ -130,7 +130,7 @@ module _ (k : Task) (table : TableOf (k .machine) (tableIn k)) (single : k .mach
         (λ g. lacks-place a e u l r g)
         (λ g. macro-steps a _ e u r g (repeats-right k single σ f a of-machine fuel l s))))
 
-    -- a proved loop, told where the never test is made
+    -- a proved loop is answered where the never test is made
     loop-plans : Sees k σ a true → Judged k (configOf σ) (NeverHalts (σ .sim .steps) (proofOf (σ .sim .state) (a .dir0))) → PlansBy (provedOf (k .proves) true (k .rule) a fuel (σ .sim))
     unfolding provedOf both
     loop-plans s v = pick-cases (k .proves) _ _ PlansBy (λ t. loops _ t v) (λ t. fuel-plans s (λ y. absurd (clash y t)))

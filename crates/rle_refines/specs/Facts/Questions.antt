@@ -47,7 +47,7 @@ unfolding windowFrom windowAll windowCell
 window-length σ z out = length-fill (windowCell σ (raisedOf z)) (length out) 0 out
 
 module _ (m : Machine) (σ : Conf) (f : ChainFits m σ) (z : ℤ) (out : List ℕ) where
-  -- past i64 all is blank: no engine that fits has runs there
+  -- past i64 all cells are blank: no engine that fits has runs there
   far-blank : (y : ℤ) → 2 ^ 63 + dn y ≤ up y → tapeOf σ .cell y ≡ 0
   far-blank y h = by (seen σ y)
     where

@@ -23,7 +23,7 @@ use Rattle.rle_refines.specs.Facts.Plan as P
 use Rattle.rle_refines.specs.Facts.Plan.{Repeats, Plans, plan-right}
 use Rattle.rle_refines.specs.Facts.InsideMacroStep.{after-macro-steps, after-macro-macros, cut-holds, cut-kept, way-entry, way-unproved, way-unmatched, way-roomy}
 
--- ---- what is kept through one change and another
+-- ---- what two changes in a row keep
 
 kept-none : (m : Machine) (σ : Conf) → ChainFits m σ → Kept m σ σ
 kept-none m σ f = record { fits = f; same-ls = refl; same-ll = refl; same-rs = refl; same-rl = refl }
@@ -63,14 +63,14 @@ module _ (k : Task) (fuel : ℕ) (σ : Conf) where
   ends-here : (o : Outcome) → ChainFits (k .machine) σ → Plans k fuel σ (Stop o) → Refines k fuel σ (end σ o)
   ends-here o f p = record { made = 0; within = omega arith; went = stands f; answers = answers-here p }
 
--- ---- one way, and another from there
+-- ---- two runs in a row
 
 module _ (k : Task) (n made : ℕ) (σ τ e : Conf) (w : Went k n σ τ) (v : Went k made τ e) where
-  -- i steps after the first way
+  -- i steps after the first run
   later : (i : ℕ) → after k i τ ≡ after k (n + i) σ
   later i = ap (run (tableIn k) i) (w .holds) ∙ sym (run-add (tableIn k) n i (configOf σ))
 
-  -- what holds of all on the first way, and on the second, holds of all
+  -- what holds of all configurations of the first run, and of the second, holds of all
   all-along : (P : Config → Type 0) → ((i : ℕ) → i < n → P (after k i σ)) → ((i : ℕ) → i < made → P (after k i τ)) → (i : ℕ) → i < n + made → P (after k i σ)
   all-along P h g i l = by (decLt i n)
     where

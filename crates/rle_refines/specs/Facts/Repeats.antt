@@ -1,4 +1,4 @@
--- Steps of the table machine on a tape seen from its head: one entry, met once or many times in a row. Assumes nothing.
+-- Steps of the table machine on a tape seen from its head: one entry, made once or many times in a row. Assumes nothing.
 use mathlib.Core.Path.{_≡_, ap, _∙_}
 use Prim.Native.Nat.{ℕ, zero, suc, _+_, _≤_, min, max}
 use native.Mathlib.Omega.{arith}
@@ -25,7 +25,7 @@ read-facing L b a c h lo hi = read-around a b c h lo hi
 read-facing R b a c h lo hi = read-around b a c h lo hi
 read-facing N b a c h lo hi = read-around b a c h lo hi
 
--- ---- the extremes of a motion in one direction are those of its last place
+-- ---- the extremes of a motion in one direction are decided by its last position
 
 onward-twice : (d : Dir) (k h : ℕ) → Sideways d → onward d (suc k) (onward d 1 h) ≡ onward d (suc (suc k)) h
 onward-twice L k h s = omega arith
@@ -65,7 +65,7 @@ module _ (m : Machine) (d : Table) (table : TableOf m d) (single : m .tapes ≡ 
       })
 
   module _ (q c : ℕ) (reads : d q c 0 0 ≡ Defined a) where
-    -- k + 1 steps over k + 1 cells of c, of an entry that moves; it keeps the state if there is more than one
+    -- k + 1 steps of an entry that moves, over k + 1 cells of c; for more than one step it must keep the state
     pub walk : Sideways (a .dir0) → (k s : ℕ) (b f : Stream) (h lo hi : ℕ) → (1 ≤ k → a .next .0 ≡ q) → suc k ≤ h → lo ≤ h → h ≤ hi
         → run d (suc k) (at q s (facing (a .dir0) b c (prepend k c f) h lo hi))
         ≡ at (a .next .0) (s + suc k) (arrived (a .dir0) (prepend (suc k) (a .write0 .0) b) (f 0) (tail f) (onward (a .dir0) (suc k) h) lo hi)
@@ -91,7 +91,7 @@ module _ (m : Machine) (d : Table) (table : TableOf m d) (single : m .tapes ≡ 
           ∙ ap (λ x. at (a .next .0) (suc s) (update (tapeAround l c r h lo hi) (a .write0 .0) x)) still
           ∙ ap (at (a .next .0) (suc s)) (update-still l r c (a .write0 .0) h lo hi)
 
-      -- k + 1 steps of an entry that stays; it keeps the state and rewrites what it read if there is more than one
+      -- k + 1 steps of an entry that stays; for more than one step it must keep the state and rewrite what it read
       pub stand : (k s lo hi : ℕ) → (1 ≤ k → (a .next .0 ≡ q) × (a .write0 .0 ≡ c))
           → run d (suc k) (at q s (tapeAround l c r h lo hi)) ≡ at (a .next .0) (s + suc k) (tapeAround l (a .write0 .0) r h (min lo h) (max hi h))
       unfolding run

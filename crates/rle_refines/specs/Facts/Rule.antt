@@ -1,4 +1,4 @@
--- "a `from` state, one not below n never matching": by such a rule the run answers as without a rule. Assumes nothing.
+-- "a `from` state, one not below n never matching": with such a rule the run answers as without a rule. Assumes nothing.
 use mathlib.Core.Path.{_≡_, refl, ap, _∙_}
 use mathlib.Core.Bool.{Bool, true}
 use mathlib.Core.List.{List}

@@ -1,4 +1,4 @@
--- What follows for a run: without fuel its answer is the verdict, and `never` is sound. Assumes nothing.
+-- Consequences for a run: without fuel its answer is the verdict, and `never` is sound. Assumes nothing.
 use mathlib.Core.Path.{_≡_, refl, subst}
 use mathlib.Core.Logic.{_↔_}
 use mathlib.Core.Bool.{Bool, true}
@@ -29,10 +29,10 @@ use Rattle.rle_refines.specs.Facts.Plan.{Plans, plan-right}
 use Rattle.rle_refines.specs.Facts.Refinement.{chain-refines}
 
 module _ (k : Task) (table : TableOf (k .machine) (tableIn k)) (single : k .machine .tapes ≡ 1) where
-  -- ---- without fuel the run stands, and its answer is the verdict, and no other
+  -- ---- without fuel the run makes no step, and its answer is exactly the verdict
 
   module _ (σ : Conf) (f : ChainFits (k .machine) σ) where
-    -- what a plan without fuel is
+    -- a plan without fuel is a stop
     stop-says : (Q : End → Type 0) → ((o : Outcome) → Plans k 0 σ (Stop o) → Q (end σ o)) → Q (runOf k 0 σ)
     unfolding runOf runWithin
     stop-says Q h = by (plan-right k table single 0 σ f)
@@ -75,12 +75,12 @@ module _ (m : Machine) (s : List ℕ) (bytes : Bytes s) (accepted : tableCheck m
   abbrev stands : Conf
   stands = runOf (task m s proves rule) fuel σ .at
 
-  -- from where it stands the table machine halts at no step
+  -- from where the run ended, the table machine halts at no step
   pub never-onward : (j : ℕ) → ¬ (Halted (tableOf m s) (run (tableOf m s) j (configOf stands)))
   never-onward = never-sound-bare m (tableOf m s) (accepted-table m s bytes accepted) (configOf stands) (bare-config (m .tapes) stands) n p
       (never-verdict (subst (Answers (task m s proves rule) fuel (refined .made) stands) says (refined .answers)))
 
-  -- nor from where it began
+  -- nor from where the run began
   pub never-halts : (j : ℕ) → ¬ (Halted (tableOf m s) (run (tableOf m s) j (configOf σ)))
   never-halts j = by (decLt j (refined .made))
     where

@@ -1,4 +1,4 @@
--- The cells of a side by their distance: as the code walks to one, and the nearest and the furthest that is not blank. Assumes nothing.
+-- The cells of a side by their distance: the code finds each one; the nearest and the furthest cell that is not blank. Assumes nothing.
 use mathlib.Core.Path.{_≡_, refl, sym, ap, _∙_}
 use mathlib.Core.List.{List}
 use Prim.Native.Nat.{ℕ, zero, suc, _+_, _-_, _≤_, _<_}
@@ -27,7 +27,7 @@ prepend-past (suc n) a f (suc d) h =
     let e : d - n ≡ suc d - suc n = omega arith in
     prepend-past n a f d (omega arith) ∙ ap f e
 
--- ---- the code's walk comes to the cell
+-- ---- the code finds the cell
 
 pub cell-at : (ss ls : List ℕ) (n d : ℕ) → symbolIn ss ls n d ≡ stream (stackUpto ss ls n) d
 unfolding symbolIn
@@ -36,7 +36,7 @@ cell-at ss ls (suc n) d = pick-cases (ltb d (getD ls n 0)) (getD ss n 0) _ (λ x
     (λ t. sym (prepend-in _ _ _ d (ltb-true _ _ t)))
     (λ t. cell-at ss ls n (d - getD ls n 0) ∙ sym (prepend-past _ _ _ d (ltb-false _ _ t)))
 
--- ---- past the stack all is blank, and its last cell is not
+-- ---- past the stack all cells are blank, and its last cell is not
 
 pub past-cells : (r : Stack) (d : ℕ) → total r ≤ d → stream r d ≡ 0
 past-cells empty d h = refl
@@ -49,7 +49,7 @@ module _ (k : ℕ) where
       let q : n + (m + total r) - 1 - n ≡ m + total r - 1 = omega (arith, f .3 .0) in
       last-cell t m r (f .3) (sym (prepend-past n s (stream (over t m r)) (n + (m + total r) - 1) (omega (arith, f .3 .0)) ∙ ap (stream (over t m r)) q) ∙ e)
 
--- ---- the nearest cell that is not blank, and the furthest: how far they lie, the next cell at 1
+-- ---- the distances of the nearest cell that is not blank, and of the furthest; the next cell is at distance 1
 
 pub record Bounds (f : Stream) (near far : ℕ) : Type 0 where
   pub some : 1 ≤ near
@@ -64,7 +64,7 @@ module _ (k : ℕ) where
   some-cells empty f h = absurd (h refl)
   some-cells (over s n r) f h = omega (arith, f .0)
 
-  -- a blank run on top lies over another
+  -- the run under a blank top run is not blank
   stack-ends : (s n : ℕ) (r : Stack) → RunsFit k (over s n r) → Bounds (stream (over s n r)) (pick (eqb s 0) (n + 1) 1) (n + total r)
   stack-ends s n r f = pick-cases (eqb s 0) (n + 1) 1 (λ x. Bounds (stream (over s n r)) x (n + total r))
       (λ t. record {

@@ -55,7 +55,7 @@ place s x e n = leb-false _ _ (sym (pick-false (eqb s (topOf x)) false _ (ne-eqb
 
 -- ---- push
 
--- a place at or past the live ones does not show
+-- a change at or past place n does not change the first n runs
 past-symbols : (n j v : ℕ) (ss ls : List ℕ) → n ≤ j → stackUpto (set ss j v) ls n ≡ stackUpto ss ls n
 past-symbols zero j v ss ls h = refl
 past-symbols (suc n) j v ss ls h = λ i. over (getD-set-other ss j n v 0 (omega arith) i) (getD ls n 0) (past-symbols n j v ss ls (omega arith) i)
@@ -118,7 +118,7 @@ take-live n x l =
 
 -- ---- a macro step's two sides
 
--- n cells of w written behind, and n taken ahead, of which the last is under the head
+-- n cells of w are written behind, and n are taken ahead; the last of these is then under the head
 pub record Carries (k w n later : ℕ) (b a : Side) (c : Carried) : Type 0 where
   pub behind-cells : streamOf (c .behind) ≡ prepend n w (streamOf b)
   pub read : c .cur ≡ stream (take (n - 1) (stackOf a)) 0

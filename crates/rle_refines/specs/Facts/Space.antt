@@ -1,4 +1,4 @@
--- "A call ends for lack of space exactly when a step on its way is full by its engine's rule": of a run without the never test and the stop rule,
+-- "A call ends for lack of space exactly when a step on its way is full by its engine's rule": for a run without the never test and the stop rule,
 -- as the timeline makes it. Assumes nothing.
 use mathlib.Core.Path.{_≡_, refl, sym, ap, _∙_, subst}
 use mathlib.Core.Logic.{_↔_}
@@ -36,7 +36,7 @@ module _ (k : Task) (quiet : k .proves ≡ false) (unruled : (q : State) → mat
     kept : Kept (k .machine) σ (e .at)
     kept = r .went .kept
 
-    -- the step from where the run ended, with the places of the start
+    -- a full step from where the run ended is full with the places of the start
     full-here : FullIn (k .machine) (tableIn k) τ (configOf (e .at)) → FullAfter k (r .made) σ
     full-here g = subst (FullIn (k .machine) (tableIn k) σ) (r .went .holds)
         (full-same (k .machine) (tableIn k) σ τ kept (configOf τ) .1 g)
@@ -55,7 +55,7 @@ module _ (k : Task) (quiet : k .proves ≡ false) (unruled : (q : State) → mat
     spent-through : r .made ≡ fuel → ((n : ℕ) → ¬ (e .outcome ≡ Full n)) → Ends e
     spent-through q n = goes-through n (r .went .holds ∙ ap (λ j. after k j σ) q) (λ j l. r .went .roomy j (omega arith))
 
-    -- the answer by cases
+    -- by cases of the answer
     ends-by : {o : Outcome} → e .outcome ≡ o → Answers k fuel (r .made) (e .at) o → Ends e
     ends-by q (verdict _ t v g) = absurd (clash t quiet)
     ends-by q (halted t h) = halted-through h (λ n p. let z : _≡_ {A = ℕ} 0 1 = cc in omega arith)

@@ -32,7 +32,7 @@ prepend-add (suc m) n a f = ap (λ k. prepend k a f) (suc-add m n) ∙ ap (cons 
 
 -- ---- push and take
 
--- how many cells
+-- the number of cells
 abbrev pub total : Stack → ℕ
 total empty = 0
 total (over s n r) = n + total r
@@ -41,21 +41,21 @@ abbrev pub grow : ℕ → Stack → Stack
 grow n empty = empty
 grow n (over t m r) = over t (m + n) r
 
--- n cells of symbol s on top
+-- n cells of symbol s are put on top
 unfoldable pub push : (s n : ℕ) → Stack → Stack
 push s n r = pick (eqb s (top r)) (grow n r) (over s n r)
 
--- a run of none is gone
+-- a run of length 0 is removed
 abbrev pub trim : (s n : ℕ) → Stack → Stack
 trim s zero r = r
 trim s (suc n) r = over s (suc n) r
 
--- n cells off the top run
+-- k cells are taken off the top run
 unfoldable pub take : ℕ → Stack → Stack
 take k empty = empty
 take k (over s n r) = trim s (n - k) r
 
--- what holds of both ways to push
+-- what holds in both cases of a push holds of the push
 push-cases : (P : Stack → Type 0) (s n : ℕ) (r : Stack) → (s ≡ top r → P (grow n r)) → (¬ (s ≡ top r) → P (over s n r)) → P (push s n r)
 unfolding push
 push-cases P s n r f g = pick-cases (eqb s (top r)) _ _ P (λ t. f (eqb-true _ _ t)) (λ t. g (eqb-false _ _ t))
@@ -73,7 +73,7 @@ trim-means : (s n : ℕ) (r : Stack) → stream (trim s n r) ≡ prepend n s (st
 trim-means s zero r = refl
 trim-means s (suc n) r = refl
 
--- k cells of a come first, and `take k` leaves what is behind them
+-- k cells of symbol a come first, and `take k` leaves the cells behind them
 abbrev pub Reach : (a k : ℕ) → Stack → Type 0
 Reach a k r = stream r ≡ prepend k a (stream (take k r))
 
@@ -97,7 +97,7 @@ module _ (k : ℕ) where
       let e : suc n - 1 ≡ n = omega arith in
       sym (trim-means s (suc n - 1) r ∙ ap (λ m. prepend m s (stream r)) e)
 
--- all blank exactly where empty
+-- a stack whose cells are all blank is empty
 
 prepend-blanks : (n s : ℕ) (f : Stream) → prepend n s f ≡ blanks → f ≡ blanks
 prepend-blanks zero s f e = e
@@ -138,7 +138,7 @@ reach-run a k (over s n r) h = pick-cases (eqb s a) n 0 (λ m. k ≤ m → Reach
     (λ t l. rw (← eqb-true s a t) (take-means k s n r l))
     (λ t l. let e : 0 ≡ k = omega arith in rw (← e) (reach-none a (over s n r))) h
 
--- what was pushed is on top, the blank on nothing too
+-- the pushed symbol is on top, also a blank pushed on an empty stack
 pub top-push : (s n : ℕ) (r : Stack) → top (push s n r) ≡ s
 top-push s n r = push-cases (λ x. top x ≡ s) s n r (λ e. grown r e) (λ _. refl)
   where
@@ -146,7 +146,7 @@ top-push s n r = push-cases (λ x. top x ≡ s) s n r (λ e. grown r e) (λ _. r
     grown empty e = sym e
     grown (over t m r) e = sym e
 
--- ---- what is kept: the stack rule, symbols below k
+-- ---- what is kept: the stack rule, with symbols below k
 
 module _ (k : ℕ) where
   pub push-fits : (s n : ℕ) (r : Stack) → 1 ≤ n → s < k → RunsFit k r → RunsFit k (push s n r)

@@ -33,7 +33,7 @@ distance-none h = omega (ints, diff-distance h h)
 distance-some : (h z : ℤ) → ¬ (z ≡ h) → ¬ (distance h z ≡ pos 0)
 distance-some h z n e = n (omega (ints, diff-distance h z))
 
--- ---- what stands under the head
+-- ---- the cell under the head
 
 module _ (l r : Stream) (c : ℕ) where
   pub read-around : (h lo hi : ℕ) → readT (tapeAround l c r h lo hi) ≡ c
@@ -67,19 +67,19 @@ look-left l r w (pos (suc d)) = refl
 look-left l r w (negsuc zero) = refl
 look-left l r w (negsuc (suc d)) = refl
 
--- the same tape with the cells behind a move, and those ahead
+-- the tape by the cells behind a move, and those ahead
 abbrev pub facing : Dir → (behind : Stream) → (cur : ℕ) → (ahead : Stream) → (head lowest highest : ℕ) → Tape
 facing L b c a h lo hi = tapeAround a c b h lo hi
 facing R b c a h lo hi = tapeAround b c a h lo hi
 facing N b c a h lo hi = tapeAround b c a h lo hi
 
--- n places on
+-- the head's position after n steps in a direction
 abbrev pub onward : Dir → (n head : ℕ) → ℕ
 onward L n h = h - n
 onward R n h = h + n
 onward N n h = h
 
--- having come to h
+-- the tape after the head has come to h
 abbrev pub arrived : Dir → (behind : Stream) → (cur : ℕ) → (ahead : Stream) → (head lowest highest : ℕ) → Tape
 arrived d b c a h lo hi = facing d b c a h (min lo h) (max hi h)
 
@@ -121,7 +121,7 @@ module _ (l r : Stream) (c h lo hi : ℕ) where
       = omega (ints, diff-distance (h ⊖ 2 ^ 63) (h ⊖ (2 ^ 63 + suc d)), diff-⊖ h (2 ^ 63), diff-⊖ h (2 ^ 63 + suc d)) in
       ap (look l c r) e
 
--- all blank ahead exactly where every cell beyond the head is
+-- the cells ahead are all blank exactly where every cell beyond the head is blank
 module _ (c h lo hi : ℕ) where
   abbrev BlankOn : Dir → (behind ahead : Stream) → Type 0
   BlankOn d b a = (z : ℤ) → Beyond d (h ⊖ 2 ^ 63) z → facing d b c a h lo hi .cell z ≡ 0

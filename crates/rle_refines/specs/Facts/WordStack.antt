@@ -1,4 +1,4 @@
--- The word's right stack: a word leaves one on the table machine's start tape, and the engine's count of a word's runs is its height. Assumes nothing.
+-- The word's right stack: the table machine's start tape has exactly one, and its height is the engine's count of the word's runs. Assumes nothing.
 use mathlib.Core.Path.{_≡_, refl, sym, ap, _∙_, subst, fun-ext}
 use mathlib.Core.List.{List}
 use Prim.Native.Nat.{ℕ, zero, suc, _+_, _-_, _≤_, _<_}
@@ -81,7 +81,7 @@ word-cells w = pushed-cells w (length w - 1) empty (fun-ext (λ d. sym (List·ge
 from-zero : (z : ℤ) → distance (pos 0) z ≡ z
 from-zero z = omega (ints, diff-distance (pos 0) z)
 
--- the start tape has it on the right, and nothing on the left
+-- the start tape has this stack on the right, and an empty one on the left
 pub word-stacked : (k : ℕ) (w : List ℕ) → ((i : ℕ) → suc i < length w → getD w (suc i) 0 < k) → Stacked k (startTape w) empty (wordStack w)
 unfolding wordStack
 word-stacked k w b = record {
@@ -95,7 +95,7 @@ word-stacked k w b = record {
     cell (pos (suc d)) = sym (ap (λ (f : Stream). f d) (word-cells w))
     cell (negsuc d) = refl
 
--- ---- every two stacks of the start tape are these
+-- ---- the start tape has no other right stack
 
 more-symbols : (k : ℕ) (r : Stack) → RunsFit k r → RunsFit (suc k) r
 more-symbols k empty f = f
@@ -120,6 +120,6 @@ module _ (k : ℕ) (w : List ℕ) (l r : Stack) (st : Stacked k (startTape w) l 
   pub word-right : r ≡ wordStack w
   word-right = one-pair (suc k) (startTape w) l r empty (wordStack w) more (word-stacked (suc k) w (λ i h. symbol-below i)) .1
 
-  -- "the word's right stack has runs": so many
+  -- "the word's right stack has runs": their number
   pub word-height : height r ≡ runsOf w (length w - 1) 0 0
   word-height = ap height word-right ∙ word-stack-height w

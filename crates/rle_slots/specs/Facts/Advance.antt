@@ -1,4 +1,4 @@
--- An advance keeps what the checks ask, and never goes back. Assumes nothing.
+-- After an advance the engine still passes its check, and its step count is not lower. Assumes nothing.
 use mathlib.Core.Path.{_≡_, refl, sym, ap, subst}
 use mathlib.Core.Bool.{false}
 use mathlib.Core.List.{List}

@@ -1,4 +1,4 @@
--- The code of an advance: the run may be made, and one fact for each return. Assumes nothing.
+-- The code of an advance: what its run requires, and one fact for each return. Assumes nothing.
 use mathlib.Core.Path.{_≡_, refl, sym, _∙_, ap}
 use mathlib.Core.Bool.{Bool, true, false}
 use mathlib.Core.List.{List}

@@ -1,4 +1,4 @@
--- Whether an engine is accepted is decided by its value, its live runs and the number of its places. Assumes nothing.
+-- Whether an engine is accepted depends only on its value, its live runs and the number of its places. Assumes nothing.
 use mathlib.Core.Path.{_≡_, refl, sym, _∙_, ap, subst}
 use mathlib.Core.Bool.{true}
 use mathlib.Core.List.{List}

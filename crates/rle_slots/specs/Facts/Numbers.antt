@@ -1,4 +1,4 @@
--- Numbers of eight bytes in a slot, and parts of it: what was written is read. Assumes nothing.
+-- Numbers of eight bytes in a slot, and parts of it: reading gives what was written. Assumes nothing.
 use mathlib.Core.Path.{_≡_, refl, sym, _∙_, ap}
 use mathlib.Core.List.{List}
 use Prim.Native.Nat.{ℕ, zero, suc, _+_, _*_, _/_, _≤_, _<_}
@@ -71,7 +71,7 @@ pub paste-byte : (d : List ℕ) (at : ℕ) (s : List ℕ) (n j : ℕ) → at + n
 paste-byte d at s n j h k l =
     sym (part-byte (paste d at s n) at n j l) ∙ ap (λ (x : List ℕ). getD x j 0) (paste-same d at s n h k) ∙ getD-take n s j 0 l
 
--- ---- what the numbers written hold
+-- ---- a list of numbers, as it is written
 
 module _ (b : List ℕ) (at : ℕ) (xs : List ℕ) where
   pub length-put-numbers : (n : ℕ) → length (putNumbers b at xs n) ≡ length b

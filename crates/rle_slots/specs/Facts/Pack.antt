@@ -1,4 +1,4 @@
--- What a slot shows after an engine was written into it: that engine's value and its live runs. Assumes nothing.
+-- A slot into which an engine was written contains that engine's value and its live runs. Assumes nothing.
 use mathlib.Core.Path.{_≡_, refl, sym, _∙_}
 use mathlib.Core.List.{List}
 use Prim.Native.Nat.{ℕ, _+_, _*_, _≤_, _<_}
@@ -68,7 +68,7 @@ module _ (σ : Conf) (old : List ℕ) (live-left : σ .sim .tape .left ≤ lefts
   pub long5 : length b5 ≡ bytesFor l r
   long5 = length-put-numbers b4 (rightLengths l r) (σ .rl) right ∙ long4
 
-  -- ---- what is written later lies further on
+  -- ---- later parts lie further on
 
   past5 : (lo hi : ℕ) → hi ≤ rightLengths l r → Agree b5 b4 lo hi
   past5 lo hi h = put-numbers-agree b4 (rightLengths l r) (σ .rl) right lo hi h
@@ -141,7 +141,7 @@ module _ (σ : Conf) (old : List ℕ) (live-left : σ .sim .tape .left ≤ lefts
       ∙ part-get64 b5 (rightLengths l r) (8 * r) (8 * j) (omega arith)
       ∙ get-put-numbers b4 (rightLengths l r) (σ .rl) right j (omega (arith, long4)) h
 
-  -- ---- the engine shown is the one written
+  -- ---- the engine in the slot is the one written
 
   abbrev pub shown : Conf
   shown = conf (σ .sim) (part b5 128 l) (numbersIn (part b5 (leftLengths l r) (8 * l))) (part b5 (rightSymbols l) r) (numbersIn (part b5 (rightLengths l r) (8 * r)))

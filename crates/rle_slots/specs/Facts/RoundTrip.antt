@@ -1,4 +1,4 @@
--- A slot's round trip: what was written is read, into the places of any engine that has as many. Assumes nothing.
+-- A slot's round trip: the engine read is the engine written, in the places of any engine that has as many. Assumes nothing.
 use mathlib.Core.Path.{_≡_, refl, sym, _∙_, ap, subst}
 use mathlib.Core.Bool.{true}
 use mathlib.Core.List.{List}
@@ -24,14 +24,14 @@ use Rattle.rle_slots.specs.Facts.Numbers.{length-part, length-in}
 use Rattle.rle_slots.specs.Facts.LiveRuns.{SameTo, SameLive, live-then, live-fits, accepted-again, placed-live, placed-sizes, placed-fits}
 use Rattle.rle_slots.specs.Facts.Pack.{packed-is, long5, value-is, shown, shown-live}
 
--- ---- what was written fills the slot
+-- ---- writing keeps the slot's length
 
 pub pack-length : (m : Machine) (σ : Conf) (old : List ℕ) → chainFits m σ ≡ true → length old ≡ slotSize m σ → length (packOf m σ old) ≡ slotSize m σ
 pack-length m σ old f z =
     let h = fits-holds m σ f in
     ap length (packed-is σ old (h .lefts .live) (h .rights .live) z) ∙ long5 σ old (h .lefts .live) (h .rights .live) z
 
--- n numbers that are the same, as lists
+-- lists that agree in their first n numbers have equal first parts
 pub same-take : (n : ℕ) (xs ys : List ℕ) → n ≤ length xs → n ≤ length ys → SameTo n xs ys → take n xs ≡ take n ys
 same-take n xs ys h k p =
     ext-getD 0 (take n xs) (take n ys) (length-take-le n xs h ∙ sym (length-take-le n ys k))
@@ -81,7 +81,7 @@ module _ (m : Machine) (s : List ℕ) (u t : Conf) (old : List ℕ) (fu : engine
   long-b : length b ≡ bytesFor l r
   long-b = ap length (packed-is u old live-left live-right long) ∙ long5 u old live-left live-right long
 
-  -- the engine that the slot shows
+  -- the engine in the slot
   abbrev h : Conf
   h = conf (u .sim) (part b 128 l) (numbersIn (part b (leftLengths l r) (8 * l))) (part b (rightSymbols l) r) (numbersIn (part b (rightLengths l r) (8 * r)))
 
@@ -127,7 +127,7 @@ module _ (m : Machine) (s : List ℕ) (u t : Conf) (old : List ℕ) (fu : engine
   abbrev pub back : Conf
   back = liveIn h (lent (t .ls) (t .ll) (t .rs) (t .rl))
 
-  -- with so many places
+  -- what is read with x and y places
   abbrev read-with : ℕ → ℕ → Option Conf
   read-with x y = pick (holdsOne m x y b (u .sim .steps)) (some (liveIn (heldIn x y b) (lent (t .ls) (t .ll) (t .rs) (t .rl)))) none
 

@@ -1,4 +1,4 @@
--- The code of the slots: its loops, what its calls ask, and one fact for each return. Assumes nothing.
+-- The code of the slots: its loops, what its calls require, and one fact for each return. Assumes nothing.
 use mathlib.Core.Path.{_≡_, refl, sym, _∙_, ap}
 use mathlib.Core.Bool.{Bool, true, false}
 use mathlib.Core.List.{List}
@@ -50,7 +50,7 @@ take-turn d₀ d b n i x h k l p q =
 
 -- ---- a side of a slot
 
--- a part of a slice that is lent
+-- the part of a slice that the code lends
 pub part-lent : (b : List ℕ) (at n : ℕ) → take (at + n - at) (drop at b) ≡ part b at n
 part-lent b at n = let e : at + n - at ≡ n = omega arith in ap (λ (k : ℕ). take k (drop at b)) e
 
@@ -76,7 +76,7 @@ pub taken-lent : (b : List ℕ) (at from n count : ℕ) (ss ls ss′ ls′ : Lis
 taken-lent b at from n count ss ls ss′ ls′ p q =
     (p ∙ (λ i. paste ss 0 (part-lent b at n i) count), q ∙ (λ i. paste ls 0 (numbersIn (part-lent b from (8 * n) i)) count))
 
--- ---- as many places as the slot is made for
+-- ---- the parts of a slot have as many places as the slot is made for
 
 module _ (b : List ℕ) (l r : ℕ) (long : length b ≡ bytesFor l r) where
   pub lefts-are : l ≡ placesOf (part b 128 l) (numbersIn (part b (leftLengths l r) (8 * l)))
@@ -110,7 +110,7 @@ module _ (m : Machine) (l r : ℕ) (b : List ℕ) (step : ℕ) (v : ChainSim) (v
     unfolding foundIn holdsOne pick both
     peek-holds z = rw (sym step-is ∙ eq-eqb (v .steps) step e, sym fits-is ∙ z) (ap Holds vp)
 
--- ---- an engine into a slot
+-- ---- writing an engine into a slot
 
 pub value-written : (v : ChainSim) (b b0 b1 b2 b3 b4 b5 b6 b7 b8 : List ℕ) → b0 ≡ put16 b 0 (v .state .0) → b1 ≡ set b0 2 (v .tape .cur)
     → b2 ≡ put64 b1 8 (v .steps) → b3 ≡ put64 b2 16 (v .macros) → b4 ≡ put64 b3 24 (v .tape .left) → b5 ≡ put64 b4 32 (v .tape .right)
@@ -134,7 +134,7 @@ module _ (v : ChainSim) (ls ll rs rl : List ℕ) (lp rp : ℕ) (lq : lp ≡ plac
       ∙ ap (λ (x : List ℕ). putNumbers (putNumbers x (128 + lp + rp) ll (v .tape .left)) (128 + 9 * lp + rp) rl (v .tape .right)) (p3 ∙ ap (λ (x : List ℕ). paste x (128 + lp) rs (v .tape .right)) (p2 ∙ ap (λ (x : List ℕ). paste x 128 ls (v .tape .left)) p1))
       ∙ (λ i. putNumbers (putNumbers (paste (paste (putValue v b) 128 ls (v .tape .left)) (128 + lq i) rs (v .tape .right)) (128 + lq i + rq i) ll (v .tape .left)) (128 + 9 * lq i + rq i) rl (v .tape .right))
 
--- ---- a slot into the places
+-- ---- reading a slot into the places
 
 holds-is : (v w : ChainSim) → Holds v ≡ Holds w → w ≡ v
 holds-is v w q = cc
@@ -175,7 +175,7 @@ module _ (m : Machine) (b : List ℕ) (step : ℕ) (ls ll rs rl : List ℕ) (lp 
   abbrev t : Lent
   t = lent ls ll rs rl
 
-  -- by the numbers that the code has
+  -- what is read with l and r places
   abbrev with-places : (l r : ℕ) → Option Conf
   with-places l r = pick (holdsOne m l r b step) (some (liveIn (heldIn l r b) t)) none
 

@@ -1,4 +1,4 @@
--- Whatever a slot's bytes are: an engine that is read is accepted, and is of its step. Assumes nothing.
+-- For any bytes in a slot, an engine that is read is accepted and is of the given step. Assumes nothing.
 use mathlib.Core.Path.{_≡_, _∙_, subst}
 use mathlib.Core.Bool.{true, false}
 use mathlib.Core.List.{List}

@@ -1,4 +1,4 @@
--- The run-length engine as a kind of engine, by the models of its operations. Definitions only.
+-- The run-length engine as a timeline's engine: the models of its operations, by name. Definitions only.
 use mathlib.Core.List.{List}
 use Prim.Native.Nat.{ℕ}
 use Rattle.timeline_rule.specs.Model.Timeline.{Reply, refused, answered}
@@ -11,7 +11,7 @@ use Rattle.rle.specs.Model.Operations.{Made, newAnswer}
 use Rattle.rle_slots.specs.Model.Advance.{advanceOf}
 use Rattle.rle_slots.specs.Model.Slots.{Lent, slotSize, packOf, unpackOf}
 
--- a fresh engine with its places; those of the left side are as they were lent
+-- a fresh engine with its places; those of the left side are unchanged
 abbrev pub freshIn : Fresh → (ls ll rs rl : List ℕ) → Reply Conf
 freshIn (New.Refused why) ls ll rs rl = refused why
 freshIn (New.Made v) ls ll rs rl = answered (conf v ls ll rs rl)

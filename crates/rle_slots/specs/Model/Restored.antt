@@ -1,4 +1,4 @@
--- What reading a slot answers, and what it leaves in the lent places. Definitions only.
+-- The answer of reading a slot, and the lent places after it. Definitions only.
 use mathlib.Core.List.{List}
 use mathlib.Core.Option.{Option, none, some}
 use Prim.Native.Nat.{ℕ}
@@ -13,7 +13,7 @@ use Rattle.rle_slots.specs.Model.Slots.{valueIn, Lent, lent, holdsOne, u
 unfoldable pub foundIn : Machine → (l r : ℕ) → List ℕ → (step : ℕ) → Found
 foundIn m l r b step = pick (holdsOne m l r b step) (Holds (valueIn b)) Nothing
 
--- the answer, with the places
+-- the answer, with the places after it
 pub record Restored : Type 0 where
   pub answer : Found
   pub places : Lent
@@ -21,7 +21,7 @@ pub record Restored : Type 0 where
 abbrev pub restored : Found → Lent → Restored
 restored f t = record { answer = f; places = t }
 
--- where there is none, the places are as they were
+-- where no engine is found, the places are unchanged
 abbrev pub restoredBy : Option Conf → Lent → Restored
 restoredBy none t = restored Nothing t
 restoredBy (some σ) t = restored (Holds (σ .sim)) (lent (σ .ls) (σ .ll) (σ .rs) (σ .rl))

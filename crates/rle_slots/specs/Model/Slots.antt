@@ -1,5 +1,5 @@
--- A slot of the run-length engine. Its value stands in the first 64 bytes, of 128; then the symbols of the left side, of the right side, and the lengths
--- of the left side and of the right side, eight bytes each. Only live runs are written and read. Definitions only.
+-- A slot of the run-length engine. The engine's value lies in the first 64 of 128 bytes. Then come the symbols of the left side and of the right side, then
+-- the lengths of the left side and of the right side, eight bytes each. Only live runs are written and read. Definitions only.
 use mathlib.Core.Bool.{Bool}
 use mathlib.Core.List.{List, [], _∷_}
 use mathlib.Core.Option.{Option, none, some}
@@ -16,7 +16,7 @@ use Rattle.rle.specs.declared.ChainSim.{ChainSim}
 use Rattle.rle.specs.Model.Engine.{Conf, conf}
 use Rattle.rle.specs.Fits.{chainFits}
 
--- ---- where things stand, with l places on the left side and r on the right
+-- ---- the layout, with l places on the left side and r on the right
 
 abbrev pub leftsOf : Conf → ℕ
 leftsOf σ = placesOf (σ .ls) (σ .ll)
@@ -31,7 +31,7 @@ bytesFor l r = 128 + 9 * (l + r)
 abbrev pub slotSize : Machine → Conf → ℕ
 slotSize m σ = bytesFor (leftsOf σ) (rightsOf σ)
 
--- the left side's symbols stand from 128 on
+-- where the right side's symbols begin; the left side's begin at byte 128
 abbrev pub rightSymbols : (l : ℕ) → ℕ
 rightSymbols l = 128 + l
 
@@ -41,9 +41,9 @@ leftLengths l r = 128 + l + r
 abbrev pub rightLengths : (l r : ℕ) → ℕ
 rightLengths l r = 128 + 9 * l + r
 
--- ---- an engine into a slot
+-- ---- writing an engine into a slot
 
--- the first n numbers of `xs`, eight bytes each, from `at` on
+-- writes the first n numbers of `xs`, eight bytes each, from byte `at` on
 unfoldable pub putNumbers : List ℕ → (at : ℕ) → (xs : List ℕ) → (n : ℕ) → List ℕ
 putNumbers b at xs zero = b
 putNumbers b at xs (suc n) = put64 (putNumbers b at xs n) (at + 8 * n) (getD xs n 0)
@@ -71,7 +71,7 @@ packed σ b = putLengths σ (putSymbols σ (putValue (σ .sim) b))
 abbrev pub packOf : Machine → Conf → List ℕ → List ℕ
 packOf m σ b = packed σ b
 
--- ---- a slot into the places of an engine
+-- ---- reading a slot into the places of an engine
 
 abbrev pub part : List ℕ → (at n : ℕ) → List ℕ
 part b at n = take n (drop at b)
@@ -94,7 +94,7 @@ valueIn b = record {
   highest = get64 b 56;
 }
 
--- the engine that the bytes show, with l and r places of its own
+-- the engine in the bytes of a slot, with l and r places of its own
 abbrev pub heldIn : (l r : ℕ) → List ℕ → Conf
 heldIn l r b =
     conf (valueIn b) (part b 128 l) (numbersIn (part b (leftLengths l r) (8 * l))) (part b (rightSymbols l) r)
@@ -110,7 +110,7 @@ pub record Lent : Type 0 where
 abbrev pub lent : (ls ll rs rl : List ℕ) → Lent
 lent ls ll rs rl = record { ls = ls; ll = ll; rs = rs; rl = rl }
 
--- that value, with its live runs in the places of another engine
+-- the value of h, with its live runs in the places t of another engine
 abbrev pub liveIn : Conf → Lent → Conf
 liveIn h t =
     conf (h .sim) (paste (t .ls) 0 (h .ls) (h .sim .tape .left)) (paste (t .ll) 0 (h .ll) (h .sim .tape .left))

@@ -1,4 +1,4 @@
-// A byte, and lists of numbers, eight bytes each.
+// Writes a byte; writes and reads lists of numbers, eight bytes each.
 use store_bytes::inner as little;
 ghost use mathlib.Core.Path.{_≡_};
 ghost use Prim.Native.Nat.{_+_, _*_, _≤_, _<_};
@@ -13,7 +13,7 @@ pub fn put_byte(to: &mut [u8], at: usize, x: u8)
     to[at] = x;
 }
 
-// Number i.
+// Number `i` of a list in bytes.
 pub fn number(bytes: &[u8], i: usize) -> u64
     requires { ⌜ 8 * i + 8 ≤ length (now bytes) ⌝ }
     ensures { λ r. ⌜ r ≡ getD (numbersIn (now (bytes .entry))) i 0 ⌝ }
@@ -21,7 +21,7 @@ pub fn number(bytes: &[u8], i: usize) -> u64
     little::get_64(bytes, 8 * i)
 }
 
-// The first n numbers of `from`, into `to` from byte `at` on.
+// Writes the first n numbers of `from` into `to`, from byte `at` on.
 pub fn put_numbers(to: &mut [u8], at: usize, from: &[u64], n: usize)
     requires { ⌜ (at + 8 * n ≤ length (now to)) × (n ≤ length (now from)) ⌝ }
     ensures { λ _. ⌜ now (to .exit) ≡ putNumbers (now (to .entry)) at (now (from .entry)) n ⌝ }
@@ -33,7 +33,7 @@ pub fn put_numbers(to: &mut [u8], at: usize, from: &[u64], n: usize)
     }
 }
 
-// The first n numbers of `from`, into the first n places of `to`.
+// Reads the first n numbers of `from` into the first n places of `to`.
 pub fn take_numbers(to: &mut [u64], from: &[u8], n: usize)
     requires { ⌜ (n ≤ length (now to)) × (8 * n ≤ length (now from)) ⌝ }
     ensures { λ _. ⌜ now (to .exit) ≡ paste (now (to .entry)) 0 (numbersIn (now (from .entry))) n ⌝ }

@@ -1,4 +1,4 @@
-// The engine that a slot's bytes show: its value, and whether it fits. Nothing is written here.
+// The engine in a slot's bytes: its value, and whether it fits. These functions write nothing.
 use super::Found;
 use super::bytes::number;
 use machine::Machine;
@@ -18,7 +18,7 @@ ghost use Rattle.rle.specs.Fits.{sideFits, chainFits};
 ghost use Rattle.rle_slots.specs.Model.Slots.{bytesFor, rightSymbols, leftLengths, rightLengths, part, numbersIn, valueIn};
 ghost use Rattle.rle_slots.specs.Model.Restored.{foundIn};
 
-// The value.
+// The engine's value.
 pub fn value_in(slot: &[u8]) -> ChainSim
     requires { ⌜ 128 ≤ length (now slot) ⌝ }
     ensures { λ r. ⌜ r ≡ valueIn (now (slot .entry)) ⌝ }
@@ -52,7 +52,7 @@ fn wide(x: u8) -> u64
     x as u64
 }
 
-// Whether run i has a cell, a symbol below k, and another symbol than the run under it.
+// Whether run i has a cell, a symbol below k, and a symbol other than that of the run under it.
 fn run_fits(symbols: &[u8], lengths: &[u8], i: usize, k: u64) -> bool
     requires { ⌜ (i < length (now symbols)) × (8 * i + 8 ≤ length (now lengths)) ⌝ }
     ensures { λ r. ⌜ r ≡ runFits k (now (symbols .entry)) (numbersIn (now (lengths .entry))) i ⌝ }
@@ -99,7 +99,7 @@ fn cells(lengths: &[u8], count: usize, most: u64) -> u64
     sum
 }
 
-// How many cells a side has, at most `most`; `most + 1` where it does not fit.
+// The number of a side's cells, at most `most`, where the side fits; else `most + 1`.
 fn measure(symbols: &[u8], lengths: &[u8], count: usize, places: usize, k: u64, most: u64) -> u64
     requires { ⌜ (places ≤ length (now symbols)) × (8 * places ≤ length (now lengths)) × (most < 9223372036854775808) ⌝ }
     ensures { λ r. ⌜ r ≡ pick (sideFits k places most (side (now (symbols .entry)) (numbersIn (now (lengths .entry))) count)) (cellsOf (side (now (symbols .entry)) (numbersIn (now (lengths .entry))) count)) (most + 1) ⌝ }
@@ -113,7 +113,7 @@ fn measure(symbols: &[u8], lengths: &[u8], count: usize, places: usize, k: u64, 
     cells(lengths, count, most)
 }
 
-// The same for a side of a slot, whose symbols stand from `at` on and whose lengths from `from` on.
+// The same for a side of a slot, whose symbols begin at byte `at` and whose lengths begin at byte `from`.
 fn side_cells(
     slot: &[u8],
     at: usize,
@@ -131,7 +131,7 @@ fn side_cells(
     measure(&slot[at..end], &slot[from..last], count, places, k, most)
 }
 
-// Whether a value fits with the sides of a slot.
+// Whether a value fits together with the sides in a slot.
 fn fits_in(sim: ChainSim, m: Machine, slot: &[u8], lp: usize, rp: usize) -> bool
     requires { ⌜ length (now slot) ≡ bytesFor lp rp ⌝ }
     ensures { λ r. ⌜ r ≡ chainFits m (conf sim (part (now (slot .entry)) 128 lp) (numbersIn (part (now (slot .entry)) (leftLengths lp rp) (8 * lp))) (part (now (slot .entry)) (rightSymbols lp) rp) (numbersIn (part (now (slot .entry)) (rightLengths lp rp) (8 * rp)))) ⌝ }
@@ -163,7 +163,7 @@ fn fits_in(sim: ChainSim, m: Machine, slot: &[u8], lp: usize, rp: usize) -> bool
     fits::reach_fits(sim, lefts, rights)
 }
 
-// What a slot for lp and rp places holds, if it is a fitting engine of that step.
+// The engine in a slot for `lp` and `rp` places, if it fits and is of step `step`.
 pub fn peek(m: Machine, slot: &[u8], step: u64, lp: usize, rp: usize) -> Found
     requires { ⌜ length (now slot) ≡ bytesFor lp rp ⌝ }
     ensures { λ r. ⌜ r ≡ foundIn m lp rp (now (slot .entry)) step ⌝ }

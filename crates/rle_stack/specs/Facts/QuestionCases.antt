@@ -61,7 +61,7 @@ written-next ss ls i sum w p q =
     let e : i + 1 ≡ suc i = omega arith in
     (omega (arith, p .0, q .0, ap (weightOf ss ls) e, weight-suc ss ls i), omega (arith, p .1, q .1, sum-next i (sumOf ls i) ls refl))
 
--- with one more run the sum is still a part
+-- with one more run the sum is still at most that of all lengths
 pub written-room : (ss ls : List ℕ) (i n sum w : ℕ) → (sum ≡ weightOf ss ls i) × (sum ≤ sumOf ls i) → (w ≡ weightAt ss ls i) × (w ≤ getD ls i 0) → i < n → sum + w ≤ sumOf ls n
 written-room ss ls i n sum w p q h = omega (arith, written-next ss ls i sum w p q .1, sum-part ls (i + 1) n (omega arith))
 
@@ -70,7 +70,7 @@ written-all ss ls i n sum p l h =
     let e : i ≡ n = omega arith in
     (p .0 ∙ ap (weightOf ss ls) e, omega (arith, p .1, ap (sumOf ls) e))
 
--- ---- the nearest
+-- ---- the nearest cell that is not blank
 
 near-blank : (ss ls : List ℕ) (n : ℕ) → symbolUnder ss n ≡ 0 → getD ls (n - 1) 0 + 1 ≡ nearOf (side ss ls n)
 unfolding nearOf pick

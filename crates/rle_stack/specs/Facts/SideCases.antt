@@ -34,7 +34,7 @@ pub lacks-new : (p s k t : ℕ) (ss ls : List ℕ) → t ≡ symbolUnder ss k �
 unfolding lacks pick
 lacks-new p s k t ss ls q e = simp (ne-eqb s (symbolUnder ss k) (λ x. e (x ∙ sym q)))
 
--- a new run that is not lacking has a place
+-- where a new run does not lack a place, there is one
 pub has-place : (p s k t : ℕ) (ss ls : List ℕ) → t ≡ symbolUnder ss k → (s ≡ t → ⊥) → lacks p s (side ss ls k) ≡ false → k < p
 has-place p s k t ss ls q e h = leb-false p k (lacks-new p s k t ss ls q e ∙ h)
 

@@ -17,7 +17,7 @@ use Rattle.rle_stack.specs.Facts.SideCases.{has-place}
 
 -- ---- sums
 
--- a length at or past n is not among the first n
+-- a change of a length at or past n does not change the sum of the first n
 sum-past : (n j m : ℕ) (ls : List ℕ) → n ≤ j → sumOf (set ls j m) n ≡ sumOf ls n
 unfolding sumOf
 sum-past zero j m ls h = refl
@@ -37,7 +37,7 @@ sum-more n (suc d) ls =
     let e : n + suc d ≡ suc (n + d) = omega arith in
     omega (arith, ap (sumOf ls) e, sum-suc (n + d) ls, sum-more n d ls)
 
--- a sum of some runs is no more than that of all
+-- the sum of the first i lengths is at most that of the first n
 pub sum-part : (ls : List ℕ) (i n : ℕ) → i ≤ n → sumOf ls i ≤ sumOf ls n
 sum-part ls i n h =
     let e : i + (n - i) ≡ n = omega arith in
@@ -135,7 +135,7 @@ push-same s n x =
     (λ z. record { symbols = refl; lengths = length-set (x .lengths) (x .count - 1) (getD (x .lengths) (x .count - 1) 0 + n) }))
     (λ e. record { symbols = length-set (x .symbols) (x .count) s; lengths = length-set (x .lengths) (x .count) n })
 
--- a run more, where another symbol was on top
+-- a push adds a run where another symbol was on top
 pub push-count : (s n : ℕ) (x : Side) → pushOf s n x .count ≡ pick (eqb s (topOf x)) (x .count) (x .count + 1)
 unfolding pushOf grownOf
 push-count s n x =
@@ -150,7 +150,7 @@ under-new ss n s h =
     let e : n + 1 - 1 ≡ n = omega arith in
     pick-false (eqb (n + 1) 0) 0 _ (ne-eqb (n + 1) 0 (λ z. omega arith)) ∙ ap (λ (j : ℕ). getD (set ss n s) j 0) e ∙ getD-set-same ss n s 0 h
 
--- what was pushed is on top
+-- the pushed symbol is on top
 pub push-top : (p b s n : ℕ) (x : Side) → SideOk p b x → lacks p s x ≡ false → topOf (pushOf s n x) ≡ s
 unfolding pushOf grownOf
 push-top p b s n x h l =
@@ -197,7 +197,7 @@ take-same n x =
     pick-cases (eqb (x .count) 0) _ _ (SameLengths x) (λ e. record { symbols = refl; lengths = refl })
     (λ e. record { symbols = refl; lengths = length-set (x .lengths) (x .count - 1) (getD (x .lengths) (x .count - 1) 0 - n) })
 
--- no run is added
+-- a take adds no run
 fewer : (n : ℕ) (x : Side) → takeOf n x .count ≤ x .count
 unfolding takeOf
 fewer n x =

@@ -1,4 +1,4 @@
--- What the parts of a timeline's calls over the run-length engine pass on to one another. Assumes nothing.
+-- The parts of a timeline's call over the run-length engine: the requirements of each, from those of the call and from earlier results. Assumes nothing.
 use mathlib.Core.Path.{_≡_, refl, sym, _∙_, ap}
 use mathlib.Core.List.{List}
 use mathlib.Core.Option.{Option, none, some}
@@ -36,7 +36,7 @@ use Rattle.rle_slots.specs.Model.Kind.{chainKind}
 use Rattle.rle_timeline.specs.Model.{Fits, SaveAt, StrideAt}
 use Rattle.rle_timeline.specs.Facts.Engine.{steps-in, chain-sound}
 
--- an engine that passed its check has places that no sum passes
+-- an engine that passed its check has at most 2^20 run places on each side
 pub passed-sizes : (m : Machine) (s : List ℕ) (e : Conf) → engineCheck m s e ≡ Accepted → (leftsOf e ≤ 1048576) × (rightsOf e ≤ 1048576)
 unfolding placesFit
 passed-sizes m s e z = let p = both-split (engine-says m s e z .places) in (leb-true _ _ (p .0), leb-true _ _ (p .1))
@@ -47,7 +47,7 @@ sizes-in m s e r q z = passed-sizes m s e (sym q ∙ z)
 pub low-in : (m : Machine) (s : List ℕ) (e : Conf) (r : Checked) → r ≡ engineCheck m s e → r ≡ Accepted → e .sim .steps ≤ limit
 low-in m s e r q z = steps-in m s e (slotSize m e) (record { accepted = sym q ∙ z; sized = refl })
 
--- its live runs have places
+-- its live runs are no more than its run places
 lefts-in : (m : Machine) (s : List ℕ) (e : Conf) → engineCheck m s e ≡ Accepted → e .sim .tape .left ≤ leftsOf e
 unfolding chainFits sideFits
 lefts-in m s e z = leb-true _ _ (both-split (both-split (both-split (both-split (engine-says m s e z .fits) .1) .1) .0) .0)
@@ -91,7 +91,7 @@ pub stride-asks : (m : Machine) (s : List ℕ) (target stop : ℕ) (v : Times) (
     → runCheck m s (stop - e .sim .steps) e ≡ Accepted
 stride-asks m s target stop v e o q = advance-asks m s (stop - e .sim .steps) e (o .accepted) (stride-fuel v target (e .sim .steps) stop q (o .below) (o .top))
 
--- ---- restoring: what a slot was found to hold
+-- ---- restoring: the result of reading a slot
 
 nothing-holds : (v : ChainSim) → _≡_ {A = Found} Nothing (Holds v) → ⊥
 nothing-holds v e = let z : _≡_ {A = ℕ} 0 1 = cc in absurd (omega arith)
@@ -100,7 +100,7 @@ abbrev simOf : ChainSim → Found → ChainSim
 simOf d Nothing = d
 simOf d (Holds v) = v
 
--- an engine in other places
+-- an engine with the lent run places t
 abbrev inPlaces : ChainSim → Lent → Conf
 inPlaces v t = conf v (t .ls) (t .ll) (t .rs) (t .rl)
 
@@ -132,7 +132,7 @@ module _ (m : Machine) (s : List ℕ) (size t : ℕ) (v : ChainSim) (ls ll rs rl
   rewind-found i f ls′ ll′ rs′ rl′ q p =
       p ∙ ap (λ y. restoredBy y places) (rewind-part chainKind m s size t e x b i (unpackOf m (take (i * size + size - i * size) (drop (i * size) b)) (x .first + i * x .every) e) q refl)
 
-  -- the slot was found to hold f
+  -- f is the result of reading the slot
   module _ (f : Found) (ls′ ll′ rs′ rl′ : List ℕ) (found : restored f (lent ls′ ll′ rs′ rl′) ≡ restoredBy (rewindOf chainKind m s size t w) places) where
     abbrev foundAs : Found → Restored
     foundAs y = restored y (lent ls′ ll′ rs′ rl′)
@@ -157,7 +157,7 @@ module _ (m : Machine) (s : List ℕ) (size t : ℕ) (v : ChainSim) (ls ll rs rl
           → y ≡ goBack (opsOf chainKind m s size) t w
       back-done y q = back-some chainKind m s size t e x b (there u) y at-slot q
 
--- ---- the verdict where the engine stands
+-- ---- the verdict at the present step
 
 pub stay-asks : (m : Machine) (s : List ℕ) (size t : ℕ) (w : TimelineOf chainKind) → Bytes s → GoOk chainKind size (Fits m s size) t w → runCheck m s 0 (w .engine) ≡ Accepted
 stay-asks m s size t w bytes ok = advance-asks m s 0 (w .engine) (ok .rec .fits .accepted) (to-low chainKind m s size (Fits m s size) (chain-sound m s size bytes) t w ok)

@@ -1,4 +1,4 @@
--- The run-length engine is what a timeline's code asks of an engine. Assumes nothing.
+-- The run-length engine meets the requirements of a timeline's code. Assumes nothing.
 use mathlib.Core.Path.{_≡_, _∙_}
 use mathlib.Core.List.{List}
 use Prim.Native.Nat.{ℕ, _≤_, min}
@@ -26,7 +26,7 @@ pub steps-in : (m : Machine) (s : List ℕ) (e : Conf) (size : ℕ) → Fits m s
 unfolding chainFits countsFit
 steps-in m s e size f = leb-true _ _ (both-split (both-split (both-split (engine-says m s e (f .accepted) .fits) .0) .1) .0)
 
--- of a table that holds bytes, as a lent one does
+-- for a table of bytes, as every lent table is
 pub chain-sound : (m : Machine) (s : List ℕ) (size : ℕ) → Bytes s → Sound chainKind m s size (Fits m s size)
 chain-sound m s size bytes = record {
   accepted = λ e a z. record { accepted = a; sized = z };

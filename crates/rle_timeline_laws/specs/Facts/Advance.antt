@@ -1,4 +1,4 @@
--- The law of the run-length engine's advance: steps of the table machine up to the first that is full, and the verdict where it stands. Assumes nothing.
+-- The law of the run-length engine's advance: steps of the table machine up to the first that is full, and the verdict where it ends. Assumes nothing.
 use mathlib.Core.Path.{_≡_, refl, sym, ap, _∙_, subst}
 use mathlib.Core.Bool.{true, false}
 use mathlib.Core.List.{List}
@@ -57,13 +57,13 @@ module _ (m : Machine) (s : List ℕ) where
   unfolding matches
   unruled q = refl
 
-  -- the engine that an advance leaves is the run's
+  -- an advance leaves the engine value at which the run ends
   pub advance-at : (n : ℕ) (σ : Conf) → advanceOf m s n σ .1 ≡ runOf quiet n σ .at
   unfolding advanceOf ranFrom
   advance-at n σ = refl
 
   module _ (table : TableOf m (tableOf m s)) (single : m .tapes ≡ 1) where
-    -- ---- the answer: at the halt it says so, out of fuel the never test is made
+    -- ---- the answer: halted, or the verdict of the never test where all the fuel is used
 
     asked : (e : Conf) → ChainFits m e → Verdict (m .tapes) (tableOf m s) (configOf e) (ranFrom m s true 0 e .outcome)
     unfolding ranFrom
@@ -77,7 +77,7 @@ module _ (m : Machine) (s : List ℕ) where
     judged n made e f (stopped a l h x q) u = absurd (clash q (unruled _))
     judged n made e f (full a l h x q g) u = absurd (u _ refl)
 
-    -- ---- the way
+    -- ---- the steps made
 
     module _ (n : ℕ) (σ : Conf) (f : ChainFits m σ) (small : σ .sim .steps + n ≤ 2 ^ 62) where
       abbrev ended : End
@@ -89,14 +89,14 @@ module _ (m : Machine) (s : List ℕ) where
       pub kept : Kept m σ (runOf quiet n σ .at)
       kept = refined .went .kept
 
-      -- where the run stands after j steps, by its configuration
+      -- where the run ends after j steps, by its configuration
       means : (j : ℕ) → configOf (ended .at) ≡ after quiet j σ → meanOf (ended .at) ≡ iterate (nextOf m s) j (meanOf σ)
       means j q = (λ i. meant (q i) (same-lefts m σ (ended .at) kept i) (same-rights m σ (ended .at) kept i)) ∙ sym (next-run j (meanOf σ))
 
       open-at : (j : ℕ) → ¬ (FullAfter quiet j σ) → ¬ NoRoom m s (iterate (nextOf m s) j (meanOf σ))
       open-at j r k = r (subst (NoRoom m s) (next-run j (meanOf σ)) k)
 
-      -- the law, of the answer and the engine of an advance of n steps
+      -- the law for the answer and the engine of an advance of n steps
       abbrev Way : Outcome × Conf → Type 0
       Way r = Advance (machine m s table) Meant (λ x. x .config) (nextOf m s) (NoRoom m s) n (meanOf σ) (r .0) (meanOf (r .1))
 

@@ -1,4 +1,4 @@
--- A run-length engine that fits, in so many places, fits after an advance. Assumes nothing.
+-- A run-length engine that fits, with given numbers of places, fits after an advance. Assumes nothing.
 use mathlib.Core.Path.{_≡_, sym, _∙_, subst}
 use mathlib.Core.Bool.{true}
 use mathlib.Core.List.{List}
@@ -18,13 +18,13 @@ use Rattle.rle_slots.specs.Model.Slots.{leftsOf, rightsOf}
 use Rattle.rle_timeline_laws.specs.Meaning.{Meant, meanOf, nextOf, NoRoom}
 use Rattle.rle_timeline_laws.specs.Facts.Advance.{same-lefts, same-rights, advance-at, kept, advance-law}
 
--- the check accepts it, and it has so many places
+-- the check accepts the engine, and it has the given numbers of places
 pub record Fits (m : Machine) (s : List ℕ) (lefts rights : ℕ) (σ : Conf) : Type 0 where
   pub accepted : engineCheck m s σ ≡ Accepted
   pub in-lefts : leftsOf σ ≡ lefts
   pub in-rights : rightsOf σ ≡ rights
 
--- the check of the places goes by their numbers
+-- the check of the places depends on their numbers alone
 places-same : (σ e : Conf) → leftsOf e ≡ leftsOf σ → rightsOf e ≡ rightsOf σ → placesFit σ ≡ true → placesFit e ≡ true
 unfolding placesFit
 places-same σ e l r h = rw (l, r) h
@@ -37,7 +37,7 @@ module _ (m : Machine) (s : List ℕ) (lefts rights : ℕ) where
   pub steps-low : (σ : Conf) → Fits m s lefts rights σ → σ .sim .steps ≤ limit
   steps-low σ f = fits-passed σ f .fits .steps-in
 
-  -- what is kept of an engine that fits
+  -- if σ fits and a run from σ to e keeps what it must, then e fits
   pub kept-fits : (σ e : Conf) → Fits m s lefts rights σ → Kept m σ e → Fits m s lefts rights e
   kept-fits σ e f k =
       let p : Passed m s σ = fits-passed σ f in

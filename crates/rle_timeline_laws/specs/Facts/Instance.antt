@@ -1,4 +1,4 @@
--- Every run-length engine that the check accepts meets what the third demand asks of it, and a fresh one holds the word's configuration. Assumes nothing.
+-- Every run-length engine that the check accepts meets what the third demand requires, and a fresh one holds the word's configuration. Assumes nothing.
 use mathlib.Core.Path.{_≡_, refl, sym, _∙_, subst}
 use mathlib.Core.List.{List}
 use Prim.Native.Nat.{ℕ}
@@ -57,7 +57,7 @@ module _ (m : Machine) (s : List ℕ) (bytes : Bytes s) (e : Conf) (accepted : e
 pub chain-instances : Instances chainEngine
 chain-instances m s bytes e q = instance-of m s bytes e q
 
--- what `create` answered is a fresh engine
+-- an engine that `create` returned is a fresh engine
 module _ (m : Machine) (s w : List ℕ) (b : Lent) (e : Conf) where
   made-holds : (f : Fresh) (rs rl : List ℕ) → newAnswer m s w (b .ls) (b .ll) (b .rs) (b .rl) ≡ made f rs rl → freshIn f (b .ls) (b .ll) rs rl ≡ answered e → NewHolds m s w (b .rs) (b .rl) e
   made-holds (New.Refused why) rs rl p q = let z : _≡_ {A = ℕ} 0 1 = cc in absurd (omega arith)

@@ -1,4 +1,4 @@
--- The run-length engine meets the timeline's laws, for one table and so many places. Assumes nothing.
+-- The run-length engine meets the timeline's laws, for one table and given numbers of places. Assumes nothing.
 use mathlib.Core.Path.{_≡_, refl, ap}
 use mathlib.Core.List.{List}
 use Prim.Native.Nat.{ℕ}
@@ -28,7 +28,7 @@ module _ (m : Machine) (s : List ℕ) where
       next = nextOf m s;
       NoRoom = NoRoom m s;
       Fits = Fits m s lefts rights;
-      -- a meaning is a configuration with places, and each has its next step
+      -- no condition: every configuration with places has a next step
       Good = λ x. Unit {0};
       fits-check = λ u f. f .accepted;
       fits-low = steps-low m s lefts rights;

@@ -1,4 +1,4 @@
--- What a slot gives back is the engine that was put there, with its meaning, and fits. Assumes nothing.
+-- A slot returns the engine that was put there, with the same meaning, and it fits. Assumes nothing.
 use mathlib.Core.Path.{_≡_, sym, _∙_}
 use mathlib.Core.List.{List}
 use mathlib.Core.Option.{some}
@@ -18,7 +18,7 @@ use Rattle.rle_slots.specs.Facts.RoundTrip.{pack-length, Returned, unpack-pack}
 use Rattle.rle_timeline_laws.specs.Meaning.{meant, meanOf, SameEngine}
 use Rattle.rle_timeline_laws.specs.Facts.Fits.{Fits, fits-passed}
 
--- the configuration by the value and the two stacks
+-- the configuration from the value and the two stacks
 abbrev configWith : ChainSim → (left right : Stack) → Config
 configWith v l r = record {
   state = v .state .0;
@@ -28,7 +28,7 @@ configWith v l r = record {
   tape2 = blankTape;
 }
 
--- the same value and the same live runs: the same configuration
+-- the same value and the same live runs give the same configuration
 module _ (u v : Conf) (same : SameLive u v) where
   lefts-live : stackUpto (v .ls) (v .ll) (u .sim .tape .left) ≡ stackOf (leftOf u)
   lefts-live = stack-live (u .ls) (u .ll) (v .ls) (v .ll) (u .sim .tape .left) (same .ls) (same .ll)
@@ -39,7 +39,7 @@ module _ (u v : Conf) (same : SameLive u v) where
   config-live : configOf v ≡ configOf u
   config-live = (λ i. configOf (conf (same .sim i) (v .ls) (v .ll) (v .rs) (v .rl))) ∙ (λ i. configWith (u .sim) (lefts-live i) (rights-live i))
 
--- ---- the slots of engines that fit, in so many places
+-- ---- the slots of engines that fit, with given numbers of places
 
 module _ (m : Machine) (s : List ℕ) (lefts rights : ℕ) where
   size-is : (u : Conf) → Fits m s lefts rights u → bytesFor lefts rights ≡ slotSize m u

@@ -1,4 +1,4 @@
--- What is decided before a step, one fact for each way through the code. Assumes nothing.
+-- The decision before a step, one fact for each path through the code. Assumes nothing.
 use mathlib.Core.Path.{_≡_, sym}
 use mathlib.Core.Bool.{Bool, true, false}
 use mathlib.Core.List.{List}

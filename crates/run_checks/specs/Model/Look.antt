@@ -1,4 +1,4 @@
--- What is looked at and decided before a step of a run, over tapes and their cells. Definitions only.
+-- The lookup, the never test and the decision before a step of a run, over tapes and their cells. Definitions only.
 use mathlib.Core.Path.{_≡_}
 use mathlib.Core.Bool.{Bool, true, false}
 use mathlib.Core.List.{List}
@@ -26,7 +26,7 @@ use Rattle.run_checks.specs.declared.inner.look.Look.the-variants.{Halt,
 use Rattle.run_checks.specs.declared.inner.look.Choice.{Choice}
 use Rattle.run_checks.specs.declared.inner.look.Choice.the-variants as Choice
 
--- ---- what is seen: no entry; else, where asked, a proved loop; else the entry
+-- ---- the look: no entry; else, where the never test is made, a proved loop; else the entry
 
 unfoldable pub stays : Dir → Bool
 stays L = false
@@ -43,7 +43,7 @@ staysAll a r0 r1 r2 =
     (both (stays (a .dir1))
     (both (stays (a .dir2)) (rewrites (a .write0 .0) (a .write1 .0) (a .write2 .0) r0 r1 r2)))
 
--- an entry that keeps the state: the first pattern, or the second where there is one tape
+-- an entry that keeps the state: the first never pattern, or the second where there is one tape
 unfoldable pub loopOf : (tapes : ℕ) → State → Action → (r0 r1 r2 : ℕ) → Held → Look
 loopOf tapes q a r0 r1 r2 h =
     pick (staysAll a r0 r1 r2) (Never (StayLoop q))
@@ -59,7 +59,7 @@ lookOn (Defined a) p tapes q r0 r1 r2 h = judgeOf p tapes q a r0 r1 r2 h
 unfoldable pub entryOf : Machine → List ℕ → State → (r0 r1 r2 : ℕ) → Entry
 entryOf m s q r0 r1 r2 = entryAt s (entryNumber (m .symbols) (strideOf m) (q .0) r0 r1 r2)
 
--- in state q, on three tapes
+-- the look in state q, on three tapes
 abbrev pub lookAt : Machine → List ℕ → (proves : Bool) → State → Held → Held → Held → Look
 lookAt m s p q h0 h1 h2 =
     lookOn (entryOf m s q (readOf h0) (readOf h1) (readOf h2))
@@ -92,7 +92,7 @@ choiceAt m s p left steps q h0 h1 h2 =
 
 -- ---- what the functions may assume
 
--- the heads are inside tapes of some size
+-- each head is at most its tape's length, and each length at most 2^30
 pub record Within (t0 t1 t2 : Tape) : Type 0 where
   pub head0 : t0 .head ≤ t0 .len
   pub len0 : t0 .len ≤ 1073741824

@@ -1,4 +1,4 @@
--- The sizes and words that an operation asks for before it begins. Definitions only.
+-- The sizes and words that an operation requires before it begins. Definitions only.
 use mathlib.Core.Bool.{Bool, true}
 use mathlib.Core.List.{List, []}
 use Prim.Native.Nat.{ℕ, _+_, _-_}
@@ -24,21 +24,21 @@ has1 m = ltb 1 (m .tapes)
 abbrev pub has2 : Machine → Bool
 has2 m = ltb 2 (m .tapes)
 
--- a test of a tape that is not there is passed
+-- a test of a tape that the machine lacks is passed
 abbrev pub ifHas : Bool → Bool → Bool
 ifHas has test = pick has test true
 
--- ---- 7
+-- ---- refusal 7
 
 abbrev pub wordRight : List ℕ → ℕ → List ℕ → ℕ → Bool
 wordRight s k words i = eqb (getD words i 0) (wordAt s k i)
 
--- the fast run: after the table check "7 packed words not the table's (more than one tape also counts)", exactly as many as the table has
+-- the fast run, after the table check: "7 packed words not the table's (more than one tape also counts)"; there must be exactly as many as entries
 unfoldable pub wordsRight : Machine → (s words : List ℕ) → Bool
 wordsRight m s words =
     both (eqb (m .tapes) 1) (both (eqb (length words) (entryCount m)) (allIn (wordRight s (m .symbols) words) (entryCount m) 0))
 
--- ---- 11
+-- ---- refusal 11
 
 abbrev pub cellsMost : ℕ
 cellsMost = 1073741824
@@ -48,7 +48,7 @@ unfoldable pub sizesFit : Machine → (n0 n1 n2 : ℕ) → Bool
 sizesFit m n0 n1 n2 =
     both (leb n0 cellsMost) (both (ifHas (has1 m) (leb n1 cellsMost)) (ifHas (has2 m) (leb n2 cellsMost)))
 
--- ---- 12 "steps to 2^62", 13 "steps + fuel over 2^62"
+-- ---- refusals 12 "steps to 2^62", 13 "steps + fuel over 2^62"
 
 abbrev pub stepsMost : ℕ
 stepsMost = 4611686018427387904
@@ -57,7 +57,7 @@ stepsMost = 4611686018427387904
 unfoldable pub fuelFits : (steps fuel : ℕ) → Bool
 fuelFits steps fuel = both (leb fuel stepsMost) (leb steps (stepsMost - fuel))
 
--- ---- a fresh engine: the table check, the word's 9 and 10, then 11
+-- ---- a fresh engine: the table check, refusals 9 and 10 of the word, then 11
 
 -- "11 a cells buffer under word + 32 (other tapes 32) or over 2^30 .. Tapes the machine lacks need none."
 unfoldable pub freshSizes : Machine → (n n0 n1 n2 : ℕ) → Bool
@@ -69,6 +69,6 @@ freshCheck m s w n0 n1 n2 =
     checkedOn (tableCheck m s)
     (checkedOn (wordCheck (m .symbols) w) (demand (freshSizes m (length w) n0 n1 n2) Why.BufferSize Accepted))
 
--- a tape of the machine starts blank; one that it lacks is left as it is
+-- a tape of the machine starts blank; the cells of one that it lacks are unchanged
 abbrev pub blankTape : Bool → List ℕ → Held
 blankTape has c = pick has (freshOf [] c) (held noTape c)

@@ -1,4 +1,4 @@
-// What is decided before a step of a run: no entry, a proved loop, no fuel, no space, or the entry to follow.
+// The decision before a step of a run: no entry, a proved loop, no fuel, no space, or the entry to follow.
 use machine::Action;
 use machine::Entry;
 use machine::Machine;
@@ -15,14 +15,14 @@ ghost use Rattle.tape.specs.Model.Moves.{held};
 ghost use Rattle.tape.specs.Fits.{TapeSafe};
 ghost use Rattle.run_checks.specs.Model.Look.{stays, rewrites, staysAll, loopOf, judgeOf, entryOf, lookAt, roomsOf, goOf, choiceAt, Within, AtOk};
 
-// What is seen before a step: no entry, a proved loop, or the entry to follow.
+// The result of the lookup and the never test before a step: no entry, a proved loop, or the entry to follow.
 pub enum Look {
     Halt,
     Never(NonHaltProof),
     Go(Action),
 }
 
-// Before a step of a run: it ends here, or this entry is followed.
+// The decision before a step of a run: the run ends here, or this entry is followed.
 pub enum Choice {
     Stop(Outcome),
     Go(Action),
@@ -121,7 +121,7 @@ fn entry_of(m: Machine, stride: u64, table: &[u8], q: State, r0: u8, r1: u8, r2:
     machine::inner::entry_at(table, number as usize)
 }
 
-// What is seen before a step: no entry; else, where asked, a proved loop; else the entry.
+// Looks up the entry before a step; where `proves` is true, tests whether it is a proved loop.
 fn see(
     m: Machine,
     stride: u64,
@@ -165,7 +165,7 @@ fn rooms(t0: Tape, t1: Tape, t2: Tape, n0: usize, n1: usize, n2: usize, a: Actio
     tape::inner::room(t2, n2, d2)
 }
 
-// Fuel, then space.
+// Tests fuel, then space.
 fn go(a: Action, left: u64, steps: u64, roomy: bool) -> Choice
     ensures { λ r. ⌜ r ≡ goOf a left steps roomy ⌝ }
 {
@@ -178,7 +178,7 @@ fn go(a: Action, left: u64, steps: u64, roomy: bool) -> Choice
     Choice::Stop(Outcome::Full { steps })
 }
 
-// Halted, never, fuel, space, in that order, before each step of a run.
+// Tests halted, never, fuel and space, in that order, before each step of a run.
 pub fn decide(
     m: Machine,
     stride: u64,

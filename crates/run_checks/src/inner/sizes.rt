@@ -1,4 +1,4 @@
-// The sizes that an operation asks of its buffers, and the tapes that a machine has or lacks.
+// The sizes that an operation requires of its buffers, and the tapes that a machine has or lacks.
 use machine::Checked;
 use machine::Machine;
 use outcome::Refusal;
@@ -44,7 +44,7 @@ pub fn tape_fits(has: bool, k: u64, t: Tape, cells: &[u8]) -> bool
     true
 }
 
-// Whether an engine may have made so many steps.
+// Whether a step count is at most 2^62.
 pub fn steps_fit(made: u64) -> bool
     ensures { λ r. ⌜ r ≡ leb made stepsMost ⌝ }
 {
@@ -78,7 +78,7 @@ fn blank_fits(has: bool, n: usize) -> bool
     true
 }
 
-// The sizes that a fresh engine asks for a word of `n` symbols.
+// Whether the buffers have the sizes that a fresh engine requires for a word of `n` symbols.
 fn fresh_sizes(m: Machine, n: usize, n0: usize, n1: usize, n2: usize) -> bool
     requires { ⌜ n ≤ 1048576 ⌝ }
     ensures { λ r. ⌜ r ≡ freshSizes m n n0 n1 n2 ⌝ }
@@ -92,7 +92,7 @@ fn fresh_sizes(m: Machine, n: usize, n0: usize, n1: usize, n2: usize) -> bool
     blank_fits(2 < m.tapes, n2)
 }
 
-// The table check, the word's 9 and 10, then 11.
+// The table check, refusals 9 and 10 of the word, then 11.
 pub fn fresh_check(
     m: Machine,
     table: &[u8],
@@ -125,7 +125,7 @@ pub fn fresh_check(
     }
 }
 
-// A blank tape where the machine has it; else the cells are left as they are.
+// Makes a blank tape where the machine has it; else leaves the cells unchanged.
 pub fn blank(has: bool, cells: &mut [u8]) -> Tape
     requires { ⌜ ifHas has (leb 32 (length (now cells))) ≡ true ⌝ }
     ensures { λ r. ⌜ held r (now (cells .exit)) ≡ blankTape has (now (cells .entry)) ⌝ }

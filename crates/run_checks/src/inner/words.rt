@@ -1,4 +1,4 @@
-// Are packed words the table's?
+// The test that packed words are those of the table.
 use machine::Machine;
 use machine::packed::Packed;
 ghost use mathlib.Core.Path.{_≡_};

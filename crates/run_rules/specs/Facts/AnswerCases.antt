@@ -1,4 +1,4 @@
--- What an operation answers by its check, one fact for each case. Assumes nothing.
+-- The answer of an operation after its check, one fact for each case. Assumes nothing.
 use mathlib.Core.Path.{_≡_}
 use Rattle.outcome.specs.declared.Refusal.{Refusal}
 use Rattle.machine.specs.declared.Checked.{Checked}

@@ -1,4 +1,4 @@
--- One turn of a run, for any end x that the run stands for. Assumes nothing.
+-- One turn of a run whose end is x, one fact for each case. Assumes nothing.
 use mathlib.Core.Path.{_≡_, refl}
 use mathlib.Core.Bool.{true, false}
 use Prim.Native.Nat.{ℕ, zero, suc, _-_}

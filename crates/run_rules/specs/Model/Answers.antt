@@ -1,4 +1,4 @@
--- What an operation answers by its check, over any kind of configuration; and a question. Definitions only.
+-- The answer of an operation after its check, over any kind of configuration, and of a question. Definitions only.
 use Rattle.outcome.specs.declared.Refusal.{Refusal}
 use Rattle.machine.specs.declared.Checked.{Checked}
 use Rattle.machine.specs.declared.Checked.the-variants.{Accepted, Refused}

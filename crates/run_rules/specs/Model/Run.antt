@@ -10,19 +10,19 @@ use Rattle.machine.specs.declared.Action.{Action}
 use Rattle.run_checks.specs.declared.inner.look.Look.{Look}
 use Rattle.run_checks.specs.Model.Look.{onLook}
 
--- what a run asks of a configuration, and the step
+-- what a run reads from a configuration, and the step
 pub record Steps (C : Type 0) : Type 0 where
   pub state : C → State
   pub steps : C → ℕ
-  -- before a step: no entry; else, where asked, a proved loop; else the entry
+  -- before a step: no entry; else, where the never test is made, a proved loop; else the entry
   pub look : C → Look
-  -- space for the step
+  -- whether there is space for the step
   pub roomy : C → Action → Bool
   -- whether the stop rule has the state
   pub stops : C → Bool
   pub step : C → Action → C
 
--- how a run ends: the configuration and the outcome, as one answer of any kind
+-- the ends of a run: `end` makes one answer of the configuration and the outcome
 module _ {C E : Type 0} (k : Steps C) (end : C → Outcome → E) where
   abbrev pub halted : C → E
   halted σ = end σ (Halted (k .steps σ) (k .state σ))

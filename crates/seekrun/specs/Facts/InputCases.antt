@@ -1,4 +1,4 @@
--- What was read, taken apart. Assumes nothing.
+-- The bytes that were read, by the cases of the result. Assumes nothing.
 use mathlib.Core.Path.{_≡_}
 use mathlib.Core.List.{List}
 use Prim.Native.Nat.{ℕ, _≤_}

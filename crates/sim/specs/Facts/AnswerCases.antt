@@ -1,4 +1,4 @@
--- What an operation answers once its check is made, one fact for each return. Assumes nothing.
+-- The answer of an operation after its check, one fact for each return. Assumes nothing.
 use mathlib.Core.Path.{_≡_, refl, sym, ap, _∙_}
 use mathlib.Core.Bool.{Bool, true, false}
 use mathlib.Core.List.{List}

@@ -153,7 +153,7 @@ words-none m s words = record { words-ok = λ z. absurd (clash z refl) }
 pub words-given : (b : Bool) (m : Machine) (s words : List ℕ) → WordsIf b m s words → b ≡ true → WordsIf true m s words
 words-given b m s words w e = record { words-ok = λ _. w .words-ok e }
 
--- ---- a small table, packed into the first of 256 words
+-- ---- a small table, packed into the first words of an array of 256
 
 module _ (m : Machine) where
   pub small-not : SmallIf false m

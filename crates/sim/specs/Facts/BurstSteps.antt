@@ -1,4 +1,4 @@
--- One ordinary step of a burst is one step of the run, for every table that has the entry which the burst was told. Assumes nothing.
+-- One ordinary step of a burst is one step of the run, for every table that has the entry which the burst follows. Assumes nothing.
 use mathlib.Core.Path.{_≡_, refl, sym, _∙_}
 use mathlib.Core.Bool.{Bool, true, false}
 use mathlib.Core.List.{List}
@@ -136,7 +136,7 @@ module _ (Known : List ℕ → Type 0) (m : Machine) (s : List ℕ) (known : Kno
   less x y c d here = omega arith
   less x y c d (more z e w next to walk st) = let h : z .left ≤ x .left = less x z c e walk in omega arith
 
-  -- the run from where it ends has the answer of the run from where it begins: what fuel is used is steps made
+  -- the run from the walk's end has the answer of the run from its start: the fuel used is the number of steps made
   pub walked : (x y : BurstState) (c d : List ℕ) → Walk Known p stop (m .symbols) (v .t0 .len) x c y d → (steps : ℕ)
       → runOf job (y .left) (conf (into v (steps + (x .left - y .left)) y) d c1 c2) ≡ runOf job (x .left) (conf (into v steps x) c c1 c2)
   walked x y c d here steps = let z : steps + (x .left - x .left) ≡ steps = omega arith in rw z refl

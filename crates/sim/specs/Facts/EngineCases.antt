@@ -38,7 +38,7 @@ rooms-each v n0 n1 n2 a r =
     let q = both-split (p .1) in
     (p .0, q .0, q .1)
 
--- ---- one turn of the run, for any end x that the run stands for
+-- ---- one turn of the run, where x is the end of the run
 
 module _ (k : Task) (σ : Conf) (x : End) where
   pub run-halt : (f : ℕ) → lookOf k σ ≡ Halt → runOf k f σ ≡ x → haltedEnd σ ≡ x

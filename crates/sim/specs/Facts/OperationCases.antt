@@ -1,4 +1,4 @@
--- The operations' checks, one fact for each return, and what they give the run where they pass. Assumes nothing.
+-- The operations' checks, one fact for each return, and what a passed check gives the run. Assumes nothing.
 use mathlib.Core.Path.{_≡_, refl, sym, _∙_}
 use mathlib.Core.Bool.{Bool, true, false}
 use mathlib.Core.List.{List}
@@ -96,7 +96,7 @@ pub engine-says : (m : Machine) (s : List ℕ) (σ : Conf) → engineCheck m s �
 unfolding engineCheck
 engine-says m s σ e = let t = on-says _ _ e in value-says m s σ (t .0) (t .1)
 
--- that of the fast run: the run's passes, and the words are the table's
+-- the passed check of the fast run: the run's check passes too, and the words are the table's
 module _ (m : Machine) (s words : List ℕ) (fuel : ℕ) (σ : Conf) (r : Checked) (checked : r ≡ fastCheck m s words fuel σ) (passed : r ≡ Accepted) where
   parts : (tableCheck m s ≡ Accepted) × (wordsRight m s words ≡ true) × (fuelCheck m fuel σ ≡ Accepted)
   unfolding fastCheck
@@ -118,7 +118,7 @@ module _ (m : Machine) (s words : List ℕ) (fuel : ℕ) (σ : Conf) (r : Checke
       let w = words-say m s words fast-right in
       record { checked = parts .0; one-tape = w .0; count = w .1; holds = w .2 }
 
--- ---- and gives the run: the tapes are safe, and the step count stays below its limit
+-- ---- what a passed check gives the run: the tapes are safe, and the step count stays within its limit
 
 bare-safe : (has : Bool) (k : ℕ) (t : Tape) (c : List ℕ) → ifHas has (tapeFits k t c) ≡ true → ifHas has (leb (length c) cellsMost) ≡ true → TapeSafe (pick has t noTape) c
 unfolding pick
@@ -159,7 +159,7 @@ run-ok m s fuel v c0 c1 c2 b stride e q k l =
     let p = run-says m s fuel (conf v c0 c1 c2) e in
     rw q (record { ok = bare-look m s (conf v c0 c1 c2) stride (p .0) k l; steps-in = p .1 })
 
--- the stride of a checked machine
+-- a checked machine has the numbers that `stride` requires
 pub stride-ok : (m : Machine) (s : List ℕ) (fuel : ℕ) (σ : Conf) → runCheck m s fuel σ ≡ Accepted
     → (1 ≤ m .tapes) × (m .tapes ≤ 3) × (m .symbols ≤ 256)
 stride-ok m s fuel σ e =

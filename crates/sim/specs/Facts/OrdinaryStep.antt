@@ -1,4 +1,4 @@
--- A step that is no proved loop, the move of a number, and what an engine of one tape reads. Assumes nothing.
+-- A step that is no proved loop, the move with a given number, and what an engine of one tape reads. Assumes nothing.
 use mathlib.Core.Path.{_≡_, refl, ap}
 use mathlib.Core.Bool.{Bool, true, false}
 use mathlib.Core.List.{List}
@@ -24,7 +24,7 @@ use Rattle.tape.specs.Model.Questions.{blankAt, blankBeyond}
 use Rattle.run_checks.specs.declared.inner.look.Look.the-variants.{Go}
 use Rattle.sim.specs.Model.Engine.{stays, staysAll, loopOf, judgeOf, entryOf}
 
--- ---- one cell that is not blank: not all are
+-- ---- where one cell is not blank, not all are blank
 
 all-fails : (p : ℕ → Bool) (n i j : ℕ) → i ≤ j → j < i + n → p j ≡ false → allIn p n i ≡ false
 all-fails p n i j a b z = by-test (allIn p n i) (λ t. absurd (clash (all-says p n i t j a b) z)) (λ e. e)
@@ -84,7 +84,7 @@ module _ (a : Action) (r0 r1 r2 : ℕ) where
   unfolding staysAll stays both
   writes-other e0 e1 e2 n = simp (e0, e1, e2, ne-eqb _ _ n)
 
--- ---- the move of a number
+-- ---- the move with a given number
 
 pub number-left : (d : Dir) → dirNumber d ≡ 0 → d ≡ L
 number-left L e = refl

@@ -1,4 +1,4 @@
--- The tape questions: one fact for each return, and that the tape asked about may be looked at. Assumes nothing.
+-- The tape questions, one fact for each return. The tape of a question is safe. Assumes nothing.
 use mathlib.Core.Path.{_≡_, sym, ap, _∙_}
 use mathlib.Core.Bool.{Bool, true}
 use mathlib.Core.List.{List}
@@ -49,7 +49,7 @@ module _ (m : Machine) (s : List ℕ) (i : ℕ) (v : Simulator) (c0 c1 c2 : List
     unfolding questionCheck pick
     question-passed h = rw (← checked, passed, lt-ltb _ _ h)
 
--- ---- the tape asked about is safe
+-- ---- the tape of a question is safe
 
 there : (has : Bool) (k : ℕ) (t : Tape) (c : List ℕ) → has ≡ true → ifHas has (tapeFits k t c) ≡ true → ifHas has (leb (length c) cellsMost) ≡ true → TapeSafe t c
 there has k t c h f z =

@@ -1,4 +1,4 @@
--- What the choice before a step says of the run, and the loop's arms. Assumes nothing.
+-- What the choice before a step says about the run, and the cases of the loop. Assumes nothing.
 use mathlib.Core.Path.{_≡_, refl, sym, ap, _∙_, subst⁻¹}
 use mathlib.Core.Bool.{Bool, true, false}
 use mathlib.Core.List.{List}
@@ -24,7 +24,7 @@ use Rattle.sim.specs.Model.Engine.{Task, Conf, conf, tape0, tape1, tape2
 use Rattle.sim.specs.Model.Turns.{choiceOf, LookOk, StepOk, RunOk}
 use Rattle.sim.specs.Facts.EngineCases.{run-halt, run-never, run-fuel, run-full, run-last, run-next}
 
--- ---- what the choice says of the run: it ends here, or it follows the entry
+-- ---- what the choice says about the run: it ends here, or it follows the entry
 
 pub data Chosen (k : Task) (f : ℕ) (σ : Conf) (c : Choice) : Type 0 where
   ends : (o : Outcome) → c ≡ Stop o → runOf k f σ ≡ end σ o → Chosen k f σ c
@@ -79,7 +79,7 @@ step-ok m stride v c0 c1 c2 left a ok z =
     let s : v .steps + left ≤ 4611686018427387904 = ok .steps-in in
     record { safe0 = ok .ok .safe0; safe1 = ok .ok .safe1; safe2 = ok .ok .safe2; steps-in = omega arith; rooms = z }
 
--- ---- the loop: the run from here is the run from the start
+-- ---- the loop's invariant: the run from here has the answer of the run from the start
 
 pub record RunInv (k : Task) (stride fuel : ℕ) (σ : Conf) (v : Simulator) (c0 c1 c2 : List ℕ) (left : ℕ) : Type 0 where
   pub same : runOf k left (conf v c0 c1 c2) ≡ runOf k fuel σ
@@ -94,7 +94,7 @@ len-then a b c q p = p ∙ q
 stop-or-go : (c : Choice) (o : Outcome) (a : Action) → c ≡ Stop o → c ≡ Go a → ⊥
 stop-or-go c o a p q = let z : _≡_ {A = ℕ} 0 1 = cc in omega arith
 
--- the arms, at the choice c
+-- the cases of the choice c
 module _ (k : Task) (f : ℕ) (v : Simulator) (c0 c1 c2 : List ℕ) (c : Choice) (e : c ≡ choiceOf (k .machine) (k .table) (k .proves) f (conf v c0 c1 c2)) where
   abbrev at : Conf
   at = conf v c0 c1 c2

@@ -18,19 +18,19 @@ use Rattle.sim.specs.Model.Engine.{task, Conf, conf, matches, runOf}
 use Rattle.sim.specs.Model.Operations.{runCheck}
 use Rattle.sim.specs.Model.Turns.{RunOk}
 
--- of all states the rule has at most this one
+-- the rule matches no state but stop
 pub record Misses (rule : StopRule) (stop : ℕ) : Type 0 where
   pub misses : (q : ℕ) → (q ≡ stop → ⊥) → matches rule (stateOf q) ≡ false
 
 pub record WordsIf (b : Bool) (m : Machine) (s words : List ℕ) : Type 0 where
   pub words-ok : b ≡ true → WordsOk m s words
 
--- a check that passes lets the run begin, over the words where they are packed
+-- where the check passes, the run's check passes too, and the words, where packed is true, are those of the table
 pub record Cleared (checked : Checked) (m : Machine) (s : List ℕ) (packed : Bool) (words : List ℕ) (fuel : ℕ) (σ : Conf) : Type 0 where
   pub runs : checked ≡ Accepted → runCheck m s fuel σ ≡ Accepted
   pub words-ok : checked ≡ Accepted → WordsIf packed m s words
 
--- one tape, and so few entries that their words stand in a local array
+-- one tape, and at most 256 entries, so that their words fit in a local array
 pub record Small (m : Machine) : Type 0 where
   pub one-tape : m .tapes ≡ 1
   pub count-in : m .states * m .symbols ≤ 256
@@ -40,7 +40,7 @@ pub record SmallIf (b : Bool) (m : Machine) : Type 0 where
 
 -- ---- one tape
 
--- where a burst on the engine's value starts
+-- the start of a burst, from the engine's value
 abbrev pub burstStart : Simulator → (left : ℕ) → BurstState
 burstStart v left =
     record {
@@ -62,7 +62,7 @@ into v steps x =
       t2 = v .t2;
     }
 
--- a burst may run: one tape, its numbers inside it, and no cell under another head
+-- a burst may run: the machine has one tape, the tape's numbers lie inside it, and no other tape has a cell under its head
 pub record BurstAllowed (tapes : ℕ) (v : Simulator) : Type 0 where
   pub one-tape : tapes ≡ 1
   pub low-in : v .t0 .lowest ≤ v .t0 .head
@@ -74,14 +74,14 @@ pub record BurstAllowed (tapes : ℕ) (v : Simulator) : Type 0 where
 pub record BurstAllowedIf (b : Bool) (tapes : ℕ) (v : Simulator) : Type 0 where
   pub burst-allowed : b ≡ true → BurstAllowed tapes v
 
--- of what a run may assume, what concerns the tape of a burst
+-- the part of a run's assumptions that a burst on one tape needs
 pub record OneTapeOk (m : Machine) (v : Simulator) (c : List ℕ) (left : ℕ) : Type 0 where
   pub symbols-in : m .symbols ≤ 256
   pub safe0 : TapeSafe (v .t0) c
   pub steps-in : v .steps + left ≤ 4611686018427387904
 
--- the run from v′ with cells c′ has the answer of the run from v with cells c, under every rule that has no state but stop and
--- whatever the other buffers hold
+-- the run from v′ with cells c′ has the answer of the run from v with cells c, for every rule that matches no state but stop and
+-- for all contents of the other buffers
 pub record SameRunOne (m : Machine) (s : List ℕ) (proves : Bool) (stop : ℕ) (v : Simulator) (c : List ℕ) (left : ℕ) (v′ : Simulator) (c′ : List ℕ) (left′ : ℕ) : Type 0 where
   pub same : (rule : StopRule) → Misses rule stop → (c1 c2 : List ℕ)
       → runOf (task m s proves rule) left′ (conf v′ c′ c1 c2) ≡ runOf (task m s proves rule) left (conf v c c1 c2)
@@ -91,7 +91,7 @@ pub record SameRunOne (m : Machine) (s : List ℕ) (proves : Bool) (stop : ℕ) 
 
 -- ---- several tapes
 
--- where a burst on the engine's value starts
+-- the start of a burst, from the engine's value
 abbrev pub wideBurstStart : Simulator → (left : ℕ) → WideBurstState
 wideBurstStart v left =
     record {
@@ -102,7 +102,7 @@ wideBurstStart v left =
       left = left;
     }
 
--- the engine that stands where a burst does
+-- the engine with the burst's numbers
 abbrev pub intoWide : (steps : ℕ) → WideBurstState → Simulator
 intoWide steps x =
     record {
@@ -113,7 +113,7 @@ intoWide steps x =
       t2 = x .t2;
     }
 
--- the run from v′ has the answer of the run from v, under every rule that has no state but stop
+-- the run from v′ has the answer of the run from v, for every rule that matches no state but stop
 pub record SameRun (m : Machine) (s : List ℕ) (proves : Bool) (stop : ℕ) (v : Simulator) (c0 c1 c2 : List ℕ) (left : ℕ)
     (v′ : Simulator) (d0 d1 d2 : List ℕ) (left′ : ℕ) : Type 0 where
   pub same : (rule : StopRule) → Misses rule stop

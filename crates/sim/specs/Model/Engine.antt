@@ -1,5 +1,4 @@
--- The plain engine over its lent cells, as the code goes: what a configuration is, what is looked at before a step, the step, the run.
--- Definitions only.
+-- The model of the plain engine over its lent cells: a configuration, the look before a step, the step, the run. Definitions only.
 use mathlib.Core.Bool.{Bool, false}
 use mathlib.Core.List.{List}
 use Prim.Native.Nat.{ℕ, _+_}
@@ -43,7 +42,7 @@ tape1 σ = held (σ .sim .t1) (σ .c1)
 abbrev pub tape2 : Conf → Held
 tape2 σ = held (σ .sim .t2) (σ .c2)
 
--- ---- what is looked at before a step: no entry; else, where asked, a proved loop; else the entry
+-- ---- the look before a step: no entry; else, where the never test is made, a proved loop; else the entry
 
 unfoldable pub lookWith : Machine → List ℕ → (proves : Bool) → Conf → Look
 lookWith m s p σ = lookAt m s p (σ .sim .state) (tape0 σ) (tape1 σ) (tape2 σ)
@@ -51,7 +50,7 @@ lookWith m s p σ = lookAt m s p (σ .sim .state) (tape0 σ) (tape1 σ) (tape2 �
 abbrev pub lookOf : Task → Conf → Look
 lookOf k σ = lookWith (k .machine) (k .table) (k .proves) σ
 
--- ---- space, decided for all tapes before anything is written
+-- ---- space, tested for all tapes before anything is written
 
 abbrev pub roomyOf : Conf → Action → Bool
 roomyOf σ a = roomsOf (σ .sim .t0) (σ .sim .t1) (σ .sim .t2) (length (σ .c0)) (length (σ .c1)) (length (σ .c2)) a
@@ -97,7 +96,7 @@ fullEnd σ = end σ (Full (σ .sim .steps))
 abbrev pub stoppedEnd : Conf → End
 stoppedEnd σ = end σ (Stopped (σ .sim .steps))
 
--- what a run asks of a configuration, and the step
+-- what a run reads of a configuration, and the step
 abbrev pub stepsOf : Task → Steps Conf
 stepsOf k = record {
   state = λ σ. σ .sim .state;
@@ -111,7 +110,7 @@ stepsOf k = record {
 unfoldable pub runOf : Task → ℕ → Conf → End
 runOf k f σ = runWith (stepsOf k) end f σ
 
--- ---- one step, without the tests of never and fuel (without the first, no look is never)
+-- ---- one step, without the tests of never and fuel (without the never test no look gives never)
 
 pub record Once : Type 0 where
   pub at : Conf
@@ -125,7 +124,7 @@ onceOf m s σ =
     onLook (lookWith m s false σ) (once σ Step.Halted) (λ p. once σ Step.Halted)
     (λ a. pick (roomyOf σ a) (once (stepOf σ a) Step.Running) (once σ Step.Full))
 
--- the same by a run that stops after the step: what its end says of the step
+-- the same by a run that stops after the step: the step's status, from the run's outcome
 abbrev pub statusOf : Outcome → Status
 statusOf (Halted n q) = Step.Halted
 statusOf (OutOfFuel n) = Step.Running

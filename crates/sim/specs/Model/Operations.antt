@@ -1,4 +1,4 @@
--- The plain engine's operations: their refusals in document 01's order, what they answer, and what they leave in the lent cells. Definitions only.
+-- The plain engine's operations: their refusals in document 01's order, their answers, and the lent cells afterwards. Definitions only.
 use mathlib.Core.Bool.{Bool, true}
 use mathlib.Core.List.{List}
 use Prim.Native.Nat.{ℕ}
@@ -28,7 +28,7 @@ use Rattle.sim.specs.Model.Engine.{Conf, conf, task, End, runOf, Once, o
 
 -- ---- tapes that the machine has, and those that it lacks
 
--- a lacking tape's fields are neither read nor changed: 0 while the engine runs, the caller's own afterwards
+-- the fields of a tape that the machine lacks are neither read nor changed: they are 0 while the engine runs, and the caller's own afterwards
 unfoldable pub bareSim : (tapes : ℕ) → Simulator → Simulator
 bareSim t v = record {
   state = v .state;
@@ -53,7 +53,7 @@ handBack t v u = record {
 abbrev pub backOf : Machine → Conf → Conf → Conf
 backOf m σ τ = conf (handBack (m .tapes) (σ .sim) (τ .sim)) (τ .c0) (τ .c1) (τ .c2)
 
--- ---- 11 and 12
+-- ---- refusals 11 and 12
 
 -- "Fits: state below n, steps to 2^62, symbols below k. Plain, each tape: .."
 unfoldable pub simFits : Machine → Simulator → (c0 c1 c2 : List ℕ) → Bool
@@ -69,13 +69,13 @@ valueCheck m σ =
     demand (sizesFit m (length (σ .c0)) (length (σ .c1)) (length (σ .c2))) Why.BufferSize
     (demand (simFits m (σ .sim) (σ .c0) (σ .c1) (σ .c2)) Why.Misfit Accepted)
 
--- after the table check
+-- the table check, then refusals 11 and 12
 unfoldable pub engineCheck : Machine → List ℕ → Conf → Checked
 engineCheck m s σ = checkedOn (tableCheck m s) (valueCheck m σ)
 
 -- ---- the run
 
--- 11, 12, 13
+-- refusals 11, 12, 13
 unfoldable pub fuelCheck : Machine → ℕ → Conf → Checked
 fuelCheck m fuel σ = checkedOn (valueCheck m σ) (demand (fuelFits (σ .sim .steps) fuel) Why.StepLimit Accepted)
 
@@ -87,7 +87,7 @@ fastCheck m s words fuel σ =
     checkedOn (tableCheck m s)
     (demand (wordsRight m s words) Why.PackedWords (fuelCheck m fuel σ))
 
--- an answer, with the engine and the buffers as they are left
+-- an answer, with the engine and the buffers after the call
 pub record Given : Type 0 where
   pub at : Conf
   pub answer : Answer
@@ -101,14 +101,14 @@ ranBack m σ e = given (backOf m σ (e .at)) (Ans.Done (e .outcome))
 abbrev pub runOn : Checked → Conf → Given → Given
 runOn r σ done = answered given Ans.Refused r σ (done .at) (done .answer)
 
--- what a run's operation answers by its check: the refusal, or the run on the tapes that the machine has
+-- the answer of a run's operation after its check: the refusal, or the run on the tapes that the machine has
 abbrev pub answerOf : Checked → Machine → List ℕ → (proves : Bool) → StopRule → (fuel : ℕ) → Conf → Given
 answerOf checked m s p rule fuel σ = runOn checked σ (ranBack m σ (runOf (task m s p rule) fuel (bareOf m σ)))
 
 unfoldable pub runAnswer : Machine → List ℕ → StopRule → ℕ → Conf → Given
 runAnswer m s rule fuel σ = answerOf (runCheck m s fuel σ) m s true rule fuel σ
 
--- it "answers as `run` does"
+-- the fast run "answers as `run` does"
 unfoldable pub fastAnswer : Machine → (s words : List ℕ) → StopRule → ℕ → Conf → Given
 fastAnswer m s words rule fuel σ = answerOf (fastCheck m s words fuel σ) m s true rule fuel σ
 
@@ -130,12 +130,12 @@ stepOn r σ done = answered stepGiven StepAns.Refused r σ (done .at) (done .ans
 unfoldable pub stepAnswer : Machine → List ℕ → Conf → StepGiven
 stepAnswer m s σ = stepOn (runCheck m s 1 σ) σ (stepBack m σ (onceOf m s (bareOf m σ)))
 
--- the answer of a run of one step, as a step's
+-- the answer of a step, from the answer of a run of one step
 abbrev pub stepAnswerOf : Answer → StepAnswer
 stepAnswerOf (Ans.Done o) = StepAns.Done (statusOf o)
 stepAnswerOf (Ans.Refused why) = StepAns.Refused why
 
--- ---- a fresh engine: the table check, the word's 9 and 10, then 11
+-- ---- a fresh engine: the table check, refusals 9 and 10 for the word, then 11
 
 abbrev pub freshSim : Machine → Held → Held → Held → Simulator
 freshSim m h0 h1 h2 = record { state = stateOf (m .start); steps = 0; t0 = h0 .tape; t1 = h1 .tape; t2 = h2 .tape }

@@ -1,4 +1,4 @@
--- The tape questions as operations: their refusals, and what they answer. Definitions only.
+-- The tape questions as operations: their refusals and their answers. Definitions only.
 use mathlib.Core.List.{List}
 use Prim.Native.Nat.{ℕ}
 use lib.Dec.{eqb, ltb}
@@ -28,7 +28,7 @@ use Rattle.run_rules.specs.declared.questions.Located.the-variants as Located
 use Rattle.sim.specs.Model.Engine.{Conf}
 use Rattle.sim.specs.Model.Operations.{engineCheck}
 
--- ---- the tape of a number
+-- ---- the tape with number i
 
 abbrev pub tapeAt : ℕ → Simulator → Tape
 tapeAt i v = pick (eqb i 0) (v .t0) (pick (eqb i 1) (v .t1) (v .t2))
@@ -53,7 +53,7 @@ extentAnswer m s i σ = askedOn (questionCheck m s i σ) Extent.Refused (Extent.
 unfoldable pub countAnswer : Machine → List ℕ → ℕ → Conf → Counted
 countAnswer m s i σ = askedOn (questionCheck m s i σ) Counted.Refused (Counted.Found (countOf (heldAt i σ)))
 
--- what the window's lent slice holds afterwards: after a refusal what it held
+-- the window's lent slice after the call; a refusal leaves it unchanged
 unfoldable pub windowInto : Machine → List ℕ → ℕ → ℤ → Conf → List ℕ → List ℕ
 windowInto m s i z σ out = askedOn (questionCheck m s i σ) (λ why. out) (windowOf (heldAt i σ) z out)
 

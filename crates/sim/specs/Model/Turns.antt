@@ -1,4 +1,4 @@
--- What is decided before a step of a run, and what the functions of a run may assume. Definitions only.
+-- The decision before a step of a run, and what the functions of a run may assume. Definitions only.
 use mathlib.Core.Path.{_≡_}
 use mathlib.Core.List.{List}
 use Prim.Native.Nat.{ℕ, _+_, _≤_, _<_}
@@ -12,7 +12,7 @@ use Rattle.run_checks.specs.declared.inner.look.Choice.{Choice}
 use Rattle.run_checks.specs.Model.Look.{roomsOf, choiceAt, AtOk}
 use Rattle.sim.specs.Model.Engine.{Conf, tape0, tape1, tape2}
 
--- halted, never, fuel, space: the run ends here, or follows an entry
+-- the tests halted, never, fuel, space: the run ends here, or follows an entry
 abbrev pub choiceOf : Machine → List ℕ → (proves : Bool) → (left : ℕ) → Conf → Choice
 choiceOf m s p left σ = choiceAt m s p left (σ .sim .steps) (σ .sim .state) (tape0 σ) (tape1 σ) (tape2 σ)
 

@@ -1,4 +1,4 @@
--- Where a burst stands, at its start and after one more step. Assumes nothing.
+-- What a burst reaches: its start, and one more step. Assumes nothing.
 use mathlib.Core.Path.{_≡_, refl, ap, _∙_}
 use mathlib.Core.Bool.{Bool, true}
 use mathlib.Core.List.{List}
@@ -13,7 +13,7 @@ module _ (Known : List ℕ → Type 0) (p : Bool) (stop k len : ℕ) where
   pub reached-start : (x : BurstState) (c : List ℕ) → BurstOk c k len x → Reached Known p stop k len x c x c
   reached-start x c ok = record { ok = ok; less = omega arith; lens = refl; walk = here }
 
-  -- one turn, whole, from what the code has
+  -- one turn of the loop, from what the code has found
   module _ (x y : BurstState) (c d : List ℕ) (r : Reached Known p stop k len x c y d) where
     hot-ok : (to next w : ℕ) → to < len → next < 65536 → BurstOk (set d (y .head) w) k len (movedTo y to next)
     hot-ok to next w h n =
@@ -50,15 +50,15 @@ module _ (Known : List ℕ → Type 0) (p : Bool) (stop k len : ℕ) where
     walk-on z e here = r .walk
     walk-on z e (more v f w next to walk st) = more v f w next to (walk-on v f walk) st
 
-    -- a burst from where a burst stands
+    -- a burst from where another burst ended
     pub reached-on : (z : BurstState) (e : List ℕ) → Reached Known p stop k len y d z e → Reached Known p stop k len x c z e
     reached-on z e t = record { ok = t .ok; less = omega (arith, r .less, t .less); lens = t .lens ∙ r .lens; walk = walk-on z e (t .walk) }
 
--- a step takes fuel
+-- a step uses fuel
 pub went-less : (d len : ℕ) (x : BurstState) (next : ℕ) (y : BurstState) (in-it : Bool) → WentIf in-it d len x next y → in-it ≡ true → (x .left ≡ 0 → ⊥) → y .left < x .left
 went-less d len x next y in-it go f h = let l : y .left ≡ x .left - 1 = ap (λ (z : BurstState). z .left) (go .is f) in omega arith
 
--- what the step's function asks for
+-- what the function `went` requires
 pub went-asks : (c : List ℕ) (k len : ℕ) (x : BurstState) → BurstOk c k len x → (x .left ≡ 0 → ⊥)
     → (x .head < len) × (len ≤ 1073741824) × (x .low ≤ x .head) × (x .head ≤ x .high) × (1 ≤ x .left)
 went-asks c k len x o h = let a = o .len-in in let b = o .cap in (o .head-in, omega arith, o .low-in, o .high-in, omega arith)

@@ -1,4 +1,4 @@
--- What is asked before a step of a burst, one fact for each way through the code. Assumes nothing.
+-- The tests before a step of a burst, one fact for each way through the code. Assumes nothing.
 use mathlib.Core.Path.{_≡_, refl}
 use mathlib.Core.Bool.{Bool, true, false, not}
 use mathlib.Core.List.{List}
@@ -141,7 +141,7 @@ module _ (s : List ℕ) (i : ℕ) (there : 8 * i + 8 ≤ length s) (defined : fl
         small = omega arith;
       }
 
--- what the table at hand tells, every table that is it says
+-- the entry decoded from table s is the entry of every table that is s
 pub decoded-says : (s : List ℕ) (i n : ℕ) (t : Decoded) → Decodes (entryAt s i) t → t .known ≡ true → i ≡ n
     → (u : List ℕ) → Is s u → Says (entryAt u n) (t .write) (t .dir) (t .next)
 decoded-says s i n t f z e u is = rw (is, ← e) (f .says z)

@@ -1,4 +1,4 @@
--- A table's words tell what its entries say, and a burst over them keeps the row of its state. Assumes nothing.
+-- A table's words decode to its entries, and a burst over them keeps the row of its state. Assumes nothing.
 use mathlib.Core.Path.{_≡_, refl, sym, ap, _∙_}
 use mathlib.Core.Bool.{Bool, true, not}
 use mathlib.Core.List.{List}
@@ -22,7 +22,7 @@ use Rattle.sim_burst.specs.Model.Words.{decodedWord, Packs, RowOk, Words
 
 -- ---- one word
 
--- what the word w of an entry e tells
+-- the word w decodes to the entry e, and has the row of the next state
 record Fit (e : Entry) (k w : ℕ) : Type 0 where
   tells : Decodes e (decodedWord w)
   row : decodedWord w .known ≡ true → wordRow w ≡ wordNext w * k
@@ -69,7 +69,7 @@ packs-of m s words ok = record { tells = λ i h. fit i h .tells; rows = λ i h. 
 
 -- ---- the burst
 
--- what the word at hand tells, every table of these words says
+-- the decoded word is the entry of every table that has these words
 module _ (words : List ℕ) (k row r : ℕ) (t : Decoded) (here : row + r < length words) (is : t ≡ decodedWord (getD words (row + r) 0)) (known : t .known ≡ true) where
   known-word : decodedWord (getD words (row + r) 0) .known ≡ true
   known-word = sym (ap (λ (u : Decoded). u .known) is) ∙ known
@@ -79,7 +79,7 @@ module _ (words : List ℕ) (k row r : ℕ) (t : Decoded) (here : row + r < leng
       let n : q * k + read ≡ row + r = (λ i. sym (ok .is s p) i + sym e i) in
       rw (n, is) (p .tells (row + r) here .says known-word)
 
-  -- after the step
+  -- the row after the step
   pub row-again : (d len : ℕ) (x y : BurstState) (in-it : Bool) (row′ : ℕ) → WentIf in-it d len x (t .next) y → in-it ≡ true → row′ ≡ wordRow (getD words (row + r) 0)
       → row′ ≤ 4294967295 → RowOk words k row′ (y .state)
   row-again d len x y in-it row′ go f z l =

@@ -1,4 +1,4 @@
--- A burst of ordinary steps on one tape: where it stands, what it asks before each step, and what it keeps. Definitions only.
+-- A burst of ordinary steps on one tape: its numbers, its tests before each step, and what it keeps. Definitions only.
 use mathlib.Core.Path.{_≡_}
 use mathlib.Core.Bool.{Bool, true, false}
 use mathlib.Core.List.{List}
@@ -15,7 +15,7 @@ use Rattle.sim_burst.specs.declared.inner.step.Decoded.{Decoded}
 
 -- ---- one step
 
--- the entry is of one tape: write w, make the move of number d, go to state next
+-- the entry is of one tape: write w, make the move with number d, go to state next
 pub record Says (e : Entry) (w d next : ℕ) : Type 0 where
   pub act : Action
   pub is : e ≡ Defined act
@@ -25,7 +25,7 @@ pub record Says (e : Entry) (w d next : ℕ) : Type 0 where
   pub still1 : act .dir1 ≡ N
   pub still2 : act .dir2 ≡ N
 
--- the step in state q, with the head on a cell that reads `read`, is surely no proved loop; proves is whether one is looked for
+-- the step in state q, with symbol `read` under the head, is surely no proved loop; proves is true where the never test is made
 pub data Ordinary (proves : Bool) (c : List ℕ) (len head read w d next q : ℕ) : Type 0 where
   unasked : proves ≡ false → Ordinary proves c len head read w d next q
   goes-on : (next ≡ q → ⊥) → Ordinary proves c len head read w d next q
@@ -34,7 +34,7 @@ pub data Ordinary (proves : Bool) (c : List ℕ) (len head read w d next q : ℕ
   sees-left : (j : ℕ) → d ≡ 0 → j < head → (getD c j 0 ≡ 0 → ⊥) → Ordinary proves c len head read w d next q
   sees-right : (j : ℕ) → (d ≡ 0 → ⊥) → (d ≡ 2 → ⊥) → head < j → j < len → (getD c j 0 ≡ 0 → ⊥) → Ordinary proves c len head read w d next q
 
--- the move of number d takes the head to index `to`
+-- the move with number d takes the head to index `to`
 pub data Moved (d head to : ℕ) : Type 0 where
   went-left : d ≡ 0 → to + 1 ≡ head → Moved d head to
   went-right : d ≡ 1 → to ≡ head + 1 → Moved d head to
@@ -51,7 +51,7 @@ movedTo x to next =
       left = x .left - 1;
     }
 
--- ---- what the functions that are asked before a step say
+-- ---- the results of the tests before a step
 
 -- where r is below the head, its cell is not blank
 pub record LeftSeen (c : List ℕ) (head r : ℕ) : Type 0 where
@@ -69,20 +69,20 @@ pub record OrdinaryIf (b proves : Bool) (c : List ℕ) (len head read w d next q
 pub record OrdinaryByEntry (b proves : Bool) (read w d next q : ℕ) : Type 0 where
   pub ordinary : b ≡ true → (c : List ℕ) (len head : ℕ) → Ordinary proves c len head read w d next q
 
--- where the step from x stays on the cells, it leads to y
+-- where b is true, the step from x stays on the cells and leads to y
 pub record WentIf (b : Bool) (d len : ℕ) (x : BurstState) (next : ℕ) (y : BurstState) : Type 0 where
   pub moved : b ≡ true → Moved d (x .head) (y .head)
   pub inside : b ≡ true → y .head < len
   pub is : b ≡ true → y ≡ movedTo x (y .head) next
 
--- what is known of an entry is so; a state's number fits whether or not
+-- where t is known, it is what the entry e says; its next state is below 65536 in every case
 pub record Decodes (e : Entry) (t : Decoded) : Type 0 where
   pub says : t .known ≡ true → Says e (t .write) (t .dir) (t .next)
   pub small : t .next < 65536
 
 -- ---- a burst
 
--- what it may assume
+-- what a burst may assume
 pub record BurstOk (c : List ℕ) (k len : ℕ) (x : BurstState) : Type 0 where
   pub k-in : k ≤ 256
   pub len-in : len ≤ length c
@@ -93,7 +93,7 @@ pub record BurstOk (c : List ℕ) (k len : ℕ) (x : BurstState) : Type 0 where
   pub high-len : x .high < len
   pub state-in : x .state < 65536
 
--- one ordinary step from x with cells c, in every table that is Known: write w, go to state next, the head to index `to`
+-- one ordinary step from x with cells c, in every table that is Known: it writes w, goes to state next, and moves the head to index `to`
 pub record Step (Known : List ℕ → Type 0) (proves : Bool) (stop k len : ℕ) (x : BurstState) (c : List ℕ) (w next to : ℕ) : Type 0 where
   pub ok : BurstOk c k len x
   pub fuel : x .left ≡ 0 → ⊥
@@ -110,13 +110,13 @@ pub data Walk (Known : List ℕ → Type 0) (proves : Bool) (stop k len : ℕ) (
   more : (y : BurstState) (d : List ℕ) (w next to : ℕ) → Walk Known proves stop k len x c y d → Step Known proves stop k len y d w next to
       → Walk Known proves stop k len x c (movedTo y to next) (set d (y .head) w)
 
--- a burst from x with cells c may stand at y with cells d
+-- a burst from x with cells c may reach y with cells d
 pub record Reached (Known : List ℕ → Type 0) (proves : Bool) (stop k len : ℕ) (x : BurstState) (c : List ℕ) (y : BurstState) (d : List ℕ) : Type 0 where
   pub ok : BurstOk d k len y
   pub less : y .left ≤ x .left
   pub lens : length d ≡ length c
   pub walk : Walk Known proves stop k len x c y d
 
--- one table alone
+-- the table s is the only Known one
 abbrev pub Is : List ℕ → List ℕ → Type 0
 Is s t = t ≡ s

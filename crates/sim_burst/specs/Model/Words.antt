@@ -1,4 +1,4 @@
--- Packed words in a burst: what a word tells, and when words are a table's. Definitions only.
+-- Packed words in a burst: the decoding of a word, and when words are those of a table. Definitions only.
 use mathlib.Core.Path.{_≡_}
 use mathlib.Core.Bool.{true, not}
 use mathlib.Core.List.{List}
@@ -22,17 +22,17 @@ decodedWord w =
       next = wordNext w;
     }
 
--- each word tells what table s says there, with the row of the next state
+-- word i decodes to entry i of table s, and has the row of the next state
 pub record Packs (words : List ℕ) (k : ℕ) (s : List ℕ) : Type 0 where
   pub tells : (i : ℕ) → i < length words → Decodes (entryAt s i) (decodedWord (getD words i 0))
   pub rows : (i : ℕ) → i < length words → decodedWord (getD words i 0) .known ≡ true → wordRow (getD words i 0) ≡ wordNext (getD words i 0) * k
 
--- the row that a burst over words keeps: that of its state
+-- the row that a burst over words keeps is that of its state
 pub record RowOk (words : List ℕ) (k row q : ℕ) : Type 0 where
   pub small : row ≤ 4294967295
   pub is : (s : List ℕ) → Packs words k s → row ≡ q * k
 
--- the words are those of a machine of one tape and of its table, which has passed the check
+-- the machine has one tape, its table has passed the check, and the words are the packed entries of the table
 pub record WordsOk (m : Machine) (s words : List ℕ) : Type 0 where
   pub checked : tableCheck m s ≡ Accepted
   pub one-tape : m .tapes ≡ 1

@@ -8,7 +8,7 @@ ghost use Rattle.machine.specs.Model.Packing.{wordRow};
 ghost use Rattle.sim_burst.specs.Model.Burst.{BurstOk, Reached};
 ghost use Rattle.sim_burst.specs.Model.Words.{decodedWord, Packs};
 
-// What a word says. Only 3 is undefined.
+// Decodes a word. Only the word 3 is undefined.
 fn unpack(word: u64) -> Decoded
     ensures { λ r. ⌜ r ≡ decodedWord word ⌝ }
 {
@@ -27,7 +27,7 @@ fn row_of(word: u64) -> usize
     (word / 4294967296) as usize
 }
 
-// The steps of a burst up to the first that needs a look at other cells. This loop is the hot one: no scan is in it.
+// Makes the steps of a burst up to the first that needs a look at other cells. This is the hot loop: it has no scan.
 fn stretch(
     words: &[u64],
     cells: &mut [u8],
@@ -73,8 +73,8 @@ fn stretch(
     }
 }
 
-// The ordinary steps over packed words, which stop where those over the table do, or earlier: a stretch, one step with
-// a look at the cells, and so on.
+// Makes the ordinary steps over packed words. It stops before a step that it cannot show to be ordinary. It makes a
+// stretch, one step with a look at the cells, and so on.
 pub fn burst_words(
     words: &[u64],
     cells: &mut [u8],

@@ -1,11 +1,11 @@
-// What a burst of ordinary steps on one tape asks before each step: whether it may be a proved loop, and where it
-// takes the head.
+// The tests of a burst on one tape before each step: whether the step may be a proved loop, and where it moves the
+// head.
 ghost use mathlib.Core.Path.{_≡_};
 ghost use Prim.Native.Nat.{_*_, _≤_, _<_, min, max};
 ghost use lib.ListN.{length};
 ghost use Rattle.sim_burst.specs.Model.Burst.{LeftSeen, RightSeen, OrdinaryIf, OrdinaryByEntry, WentIf};
 
-// Where a burst stands: the head, the lowest and the highest head so far, the state, and the fuel left.
+// The numbers of a burst: the head, the lowest and the highest head so far, the state, and the fuel left.
 pub struct BurstState {
     pub head: usize,
     pub low: usize,
@@ -14,7 +14,7 @@ pub struct BurstState {
     pub left: u64,
 }
 
-// What an entry says of one tape, where it is known to say no more. The move is by its number.
+// A decoded entry. Where `known` is true, it is defined and moves no other tape. `dir` is the number of the move.
 pub struct Decoded {
     pub known: bool,
     pub write: u8,
@@ -29,7 +29,7 @@ pub struct Hints {
     pub ordinary: bool,
 }
 
-// Where a step leads, and whether it stays on the cells.
+// The burst after a step, and whether the step stays on the cells.
 pub struct Landing {
     pub inside: bool,
     pub at: BurstState,
@@ -97,7 +97,7 @@ fn scan_right(cells: &[u8], head: usize, len: usize) -> usize
     len
 }
 
-// A cell below `head` that is not blank: the hint, where its cell still is such, else by a scan.
+// A cell below `head` that is not blank: the hint, where its cell still is not blank, else the result of a scan.
 fn left_of(cells: &[u8], head: usize, hint: usize) -> usize
     requires { ⌜ head ≤ length (now cells) ⌝ }
     ensures { λ r. ⌜ LeftSeen (now (cells .entry)) head r ⌝ }
@@ -125,7 +125,7 @@ fn right_of(cells: &[u8], head: usize, len: usize, hint: usize) -> usize
     scan_right(cells, head, len)
 }
 
-// Nothing found yet.
+// The hints before anything is found.
 pub(crate) fn unseen(len: usize) -> Hints {
     Hints {
         left: len,
@@ -172,8 +172,8 @@ pub(crate) fn ordinary(
     found
 }
 
-// Whether the step is surely no proved loop, whatever the cells hold. It asks for the symbol read before it compares
-// the states: the symbol is there sooner, and so a branch that was guessed wrong is found sooner.
+// Whether the step is surely no proved loop, whatever the cells hold. It tests the symbol read before it compares the
+// states: the symbol is available sooner, and so a wrongly predicted branch is found sooner.
 pub(crate) fn ordinary_by_entry(proves: bool, state: usize, read: u8, decoded: Decoded) -> bool
     ensures { λ r. ⌜ OrdinaryByEntry r proves read (decoded .write) (decoded .dir) (decoded .next) state ⌝ }
 {
@@ -189,7 +189,7 @@ pub(crate) fn ordinary_by_entry(proves: bool, state: usize, read: u8, decoded: D
     decoded.next != state
 }
 
-// Where the burst stands after the step, if that stays on the cells. A move changes only the bound on its side.
+// The burst after the step, if the step stays on the cells. A move changes only the bound on its side.
 pub(crate) fn went(at: BurstState, dir: u8, len: usize, next: usize) -> Landing
     requires { ⌜ (at .head < len) × (len ≤ 1073741824) × (at .low ≤ at .head) × (at .head ≤ at .high) × (1 ≤ at .left) ⌝ }
     ensures { λ r. ⌜ WentIf (r .inside) dir len at next (r .at) ⌝ }

@@ -1,4 +1,4 @@
-// A burst: the ordinary steps of a machine with one tape, up to the first that is in doubt. It decides nothing.
+// A burst over a table: the ordinary steps of a machine with one tape, up to the first step that needs a decision.
 use super::step;
 use super::step::BurstState;
 use super::step::Decoded;
@@ -8,7 +8,7 @@ ghost use Prim.Native.Nat.{_+_, _*_, _≤_, _<_};
 ghost use Rattle.machine.specs.Layout.{entryAt};
 ghost use Rattle.sim_burst.specs.Model.Burst.{BurstOk, Decodes, Reached, Is};
 
-// The number of an entry of one tape.
+// The number of an entry in a table of one tape.
 fn number(state: usize, k: usize, read: u8) -> usize
     requires { ⌜ (state < 65536) × (k ≤ 256) ⌝ }
     ensures { λ r. ⌜ (r ≡ state * k + read) × (r < 16777216) ⌝ }
@@ -16,8 +16,8 @@ fn number(state: usize, k: usize, read: u8) -> usize
     step::row(state, k) + step::wide(read)
 }
 
-// What the table's entry of a number says; nothing is known of one that is past the table, undefined, or moves a
-// tape that the machine lacks.
+// Decodes the table's entry with number `i`. An entry that is past the table, undefined, or moves a tape that the
+// machine lacks is not known.
 fn decoded(table: &[u8], i: usize) -> Decoded
     requires { ⌜ i < 16777216 ⌝ }
     ensures { λ r. ⌜ Decodes (entryAt (now (table .entry)) i) r ⌝ }
@@ -50,7 +50,7 @@ fn decoded(table: &[u8], i: usize) -> Decoded
     }
 }
 
-// The steps of a burst up to the first that needs a look at other cells. This loop is the hot one: no scan is in it.
+// Makes the steps of a burst up to the first that needs a look at other cells. This is the hot loop: it has no scan.
 fn stretch(
     table: &[u8],
     cells: &mut [u8],
@@ -89,9 +89,9 @@ fn stretch(
     }
 }
 
-// The ordinary steps over a table. It stops before a step for which there is no fuel, which the stop rule's state
-// would leave, which the table does not tell, which may be a proved loop, or which leaves the cells. It makes a
-// stretch, one step with a look at the cells, and so on.
+// Makes the ordinary steps over a table. It stops before a step that has no fuel, begins in the stop rule's state, has
+// no known entry, may be a proved loop, or leaves the cells. It makes a stretch, one step with a look at the cells, and
+// so on.
 pub fn burst(
     table: &[u8],
     cells: &mut [u8],

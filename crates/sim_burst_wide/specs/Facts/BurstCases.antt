@@ -159,7 +159,7 @@ module _ (s : List ℕ) (stop k stride : ℕ) where
   still-safe : (t r : Tape) (c : List ℕ) (w d : ℕ) → TapeSafe t c → TapeMoves t d r → TapeSafe r (wrote t c w)
   still-safe t r c w d ok sl = subst⁻¹ (λ (h : Held). TapeSafe (h .tape) (h .cells)) (sl .acts c w) (act-safe (held t c) w (dirOf d) ok)
 
-  -- one turn, whole, from what the code has
+  -- one turn of the loop, from what the code has found
   pub carried-again : (x y : WideBurstState) (c0 c1 c2 d0 d1 d2 : List ℕ) → Carried s stop k stride x c0 c1 c2 y d0 d1 d2
       → (o : Decoded) (n : Next) (e0 e1 e2 : List ℕ) → (y .left ≡ 0 → ⊥) → (y .state ≡ stop → ⊥)
       → DecodedIf (entryAt s (entryNumber k stride (y .state) (readOf (held (y .t0) d0)) (readOf (held (y .t1) d1)) (readOf (held (y .t2) d2)))) (y .state) o

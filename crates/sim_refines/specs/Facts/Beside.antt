@@ -1,4 +1,4 @@
--- Two engines side by side, which differ past the tapes' lengths alone: they run and step alike. Assumes nothing.
+-- Two engines side by side that differ only past the tapes' lengths run and step alike. Assumes nothing.
 use mathlib.Core.Path.{_≡_, refl, ap, _∙_, subst⁻¹}
 use mathlib.Core.Bool.{Bool, true, false}
 use mathlib.Core.List.{List}
@@ -39,7 +39,7 @@ pub record Beside (σ τ : Conf) : Type 0 where
 read-alike : (g h : Held) → Alike g h → readOf g ≡ readOf h
 read-alike g h a = alike-reads readOf g h a (read-same (h .tape) (g .cells) (h .cells) (a .cells))
 
--- the look at a tape's cells is one at those beyond its head
+-- besides the symbols read, a look depends only on whether the cells beyond the head are blank
 look-on-same : (x : Entry) (p : Bool) (tapes : ℕ) (q : State) (r0 r1 r2 : ℕ) (g h : Held) → ((d : Dir) → blankBeyond g d ≡ blankBeyond h d)
     → lookOn x p tapes q r0 r1 r2 g ≡ lookOn x p tapes q r0 r1 r2 h
 unfolding lookOn judgeOf loopOf
@@ -99,7 +99,7 @@ module _ (σ τ : Conf) (b : Beside σ τ) where
   stopped-same = record { outcome = ap Stopped (b .steps); at = b }
 
 module _ (k : Task) where
-  -- what a run that is to go on makes of an entry, its space and the stop rule
+  -- the end of a run that follows entry a, by the tests of space and of the stop rule
   abbrev goOn : ℕ → Conf → Action → (roomy stops : Bool) → End
   goOn f σ a roomy stops = pick roomy (pick stops (stoppedEnd (stepOf σ a)) (runOf k f (stepOf σ a))) (fullEnd σ)
 

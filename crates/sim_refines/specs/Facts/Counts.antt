@@ -1,4 +1,4 @@
--- What a count counts: the numbers of which the test fails, in rising order. Assumes nothing.
+-- A count counts the numbers for which the test fails, in rising order. Assumes nothing.
 use mathlib.Core.Path.{_≡_, sym, _∙_}
 use mathlib.Core.Bool.{Bool, true, false}
 use Prim.Native.Nat.{ℕ, zero, suc, _+_, _≤_, _<_}
@@ -12,7 +12,7 @@ use Rattle.notation.specs.ScanDown.{countFails}
 use Rattle.notation.specs.Facts.Tests.{clash, pick-cases, pick-true, pick-false}
 use Rattle.sim_refines.specs.Counts.{Among}
 
--- the numbers below n of which a test fails, in rising order
+-- the numbers below n for which a test fails, in rising order
 pub record Fails (p : ℕ → Bool) (n count : ℕ) : Type 0 where
   pub at : ℕ → ℕ
   pub rising : (i j : ℕ) → i < j → j < count → at i < at j
@@ -34,7 +34,7 @@ module _ (p : ℕ → Bool) (n count : ℕ) (f : Fails p n count) where
       by k l e (yes q) = absurd (clash t (rw q at e))
       by k l e (no q) = omega arith
 
-  -- n comes last
+  -- the numbers of f, then n
   more : ℕ → ℕ
   more i = pick (ltb i count) (f .at i) n
 

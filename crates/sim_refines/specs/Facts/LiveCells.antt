@@ -1,4 +1,4 @@
--- What lies past a tape's length is never read: two buffers of one length with the same cells up to there answer alike, and stay alike. Assumes nothing.
+-- Bytes past a tape's length are never read: two buffers of one length that agree up to there give the same answers, and still agree after. Assumes nothing.
 use mathlib.Core.Path.{_≡_, refl, sym, ap, _∙_, subst⁻¹}
 use mathlib.Core.Bool.{Bool, true, false}
 use mathlib.Core.List.{List}
@@ -33,13 +33,13 @@ use Rattle.tape.specs.Facts.CellPlaces.{Place, below, inside, past, place, cell
 use Rattle.sim_refines.specs.Lent.{SameFirst}
 use Rattle.sim_refines.specs.Facts.PastLength.{shift-len}
 
--- one test, two choices
+-- two choices by the same test
 pub pick-two : {A : Type 0} (P : A → A → Type 0) (b : Bool) (w x y z : A) → (b ≡ true → P w y) → (b ≡ false → P x z) → P (pick b w x) (pick b y z)
 unfolding pick
 pick-two P true w x y z f g = f refl
 pick-two P false w x y z f g = g refl
 
--- ---- scans by tests that agree where they look
+-- ---- scans by two tests that agree on the range scanned
 
 module _ (p q : ℕ → Bool) where
   all-same : (n i : ℕ) → ((j : ℕ) → i ≤ j → j < i + n → p j ≡ q j) → allIn p n i ≡ allIn q n i
@@ -62,7 +62,7 @@ module _ (p q : ℕ → Bool) where
   count-same zero h = refl
   count-same (suc n) h = λ x. count-same n (λ j l. h j (omega arith)) x + pick (h n (omega arith) x) 0 1
 
--- ---- one tape over two buffers: what is read of it
+-- ---- one tape over two buffers: what is read is the same
 
 module _ (t : Tape) (c d : List ℕ) (same : SameFirst (t .len) c d) where
   blank-same : (j : ℕ) → j < t .len → blankAt c j ≡ blankAt d j
@@ -122,7 +122,7 @@ pub record Alike (g h : Held) : Type 0 where
   pub room : length (g .cells) ≡ length (h .cells)
   pub cells : SameFirst (h .tape .len) (g .cells) (h .cells)
 
--- what is read of the one is read of the other
+-- a function gives the same for both if it gives the same over both buffers
 pub alike-reads : {A : Type 0} (F : Held → A) (g h : Held) → Alike g h → F (held (h .tape) (g .cells)) ≡ F h → F g ≡ F h
 alike-reads F g h a e = ap (λ t. F (held t (g .cells))) (a .numbers) ∙ e
 

@@ -1,4 +1,4 @@
--- What the engine sees before a step is the table machine's verdict. Assumes nothing.
+-- The engine's look before a step is the table machine's verdict. Assumes nothing.
 use mathlib.Core.Path.{_≡_, refl, sym, _∙_}
 use mathlib.Core.Bool.{Bool, true}
 use borrow.Author.Tests.{eqb-true, eq-eqb}
@@ -48,7 +48,7 @@ module _ (m : Machine) (σ : Conf) (f : EngineFits m σ) (a : Action) where
   r2 : readT (configOf m σ .tape2) ≡ readOf (tape2 σ)
   r2 = read-if (has m 2) (m .symbols) (tape2 σ) (f .fits2)
 
-  -- ---- the first pattern
+  -- ---- the first pattern of a proved loop
 
   stays-says : a .next .0 ≡ σ .sim .state .0 → staysOn σ a ≡ true → Stays (configOf m σ) a
   unfolding staysAll
@@ -75,7 +75,7 @@ module _ (m : Machine) (σ : Conf) (f : EngineFits m σ) (a : Action) where
       (both-true (still-holds _ (s .still1))
       (both-true (still-holds _ (s .still2)) (both-true (eq-eqb _ _ (s .same0 ∙ r0)) (both-true (eq-eqb _ _ (s .same1 ∙ r1)) (eq-eqb _ _ (s .same2 ∙ r2))))))
 
-  -- ---- the second
+  -- ---- the second pattern
 
   walks-says : a .next .0 ≡ σ .sim .state .0 → walksOn m σ a ≡ true → Walks (m .tapes) (configOf m σ) a (a .dir0)
   walks-says q t =
@@ -96,7 +96,7 @@ module _ (m : Machine) (σ : Conf) (f : EngineFits m σ) (a : Action) where
       both-true (eq-eqb _ _ (w .single))
       (both-true (eq-eqb _ _ (sym r0 ∙ w .blank)) (rw (w .moves) (blank-beyond-holds (tape0 σ) d (f .fits0 .head-in) (w .sideways) (w .beyond))))
 
--- ---- what is seen
+-- ---- the look
 
 module _ (k : Task) (σ : Conf) (f : EngineFits (k .machine) σ) where
   -- an entry that keeps the state, where the never test is made
@@ -117,7 +117,7 @@ module _ (k : Task) (σ : Conf) (f : EngineFits (k .machine) σ) where
       (λ t. loop-sees (both-split t .0) a e (eqb-true _ _ (both-split t .1)))
       (λ t. goes-on a e (λ p. goes a e (λ h. clash (both-true p (eq-eqb _ _ (h .keeps))) t) (λ d h. clash (both-true p (eq-eqb _ _ (h .same-state))) t)))
 
-  -- what is seen is the verdict; without the never test it is an entry or none
+  -- the look is the verdict; without the never test it is an entry or none
   pub look-sees : Sees k (heldBy k σ) (lookOf k σ)
   unfolding lookWith lookOn
   look-sees = by (entryOf (k .machine) (k .table) (σ .sim .state) (readOf (tape0 σ)) (readOf (tape1 σ)) (readOf (tape2 σ))) (entry-read (k .machine) (k .table) σ f)

@@ -1,5 +1,5 @@
--- Tapes that the machine lacks: 0 while the engine runs, the caller's own afterwards. The configuration held is the same, and what fits
--- for the operations' check fits for the theorem. Assumes nothing.
+-- Tapes that the machine lacks: their fields are 0 while the engine runs, and the caller's own afterwards. The configuration held is the same, and
+-- a value that fits by the operations' check fits by the theorem's definition. Assumes nothing.
 use mathlib.Core.Path.{_≡_, refl, sym, subst}
 use mathlib.Core.Bool.{Bool, true, false}
 use mathlib.Core.List.{List}
@@ -41,7 +41,7 @@ unfolding pick
 back-if true t u c k f = refl
 back-if false t u c k f = sym f
 
--- what the run's end hands back is, without the caller's own fields, that end
+-- the engine handed back, without the caller's own fields, is the run's end
 pub bare-back : (m : Machine) (σ e : Conf) → EngineFits m e → bareOf m (backOf m σ e) ≡ e
 unfolding bareSim handBack
 bare-back m σ e f = λ i. conf (record {
@@ -52,7 +52,7 @@ bare-back m σ e f = λ i. conf (record {
   t2 = back-if (has m 2) (σ .sim .t2) (e .sim .t2) (e .c2) (m .symbols) (f .fits2) i;
 }) (e .c0) (e .c1) (e .c2)
 
--- what is handed back where nothing was done
+-- where no step was made, the engine handed back is the caller's
 pub back-bare : (m : Machine) (σ : Conf) → backOf m σ (bareOf m σ) ≡ σ
 unfolding handBack bareSim
 back-bare m σ = λ i. conf (record {
@@ -66,7 +66,7 @@ back-bare m σ = λ i. conf (record {
     again : (b : Bool) (t : Tape) → pick b (pick b t noTape) t ≡ t
     again b t = pick-cases b (pick b t noTape) t (λ (x : Tape). x ≡ t) (λ z. pick-true b t noTape z) (λ z. refl)
 
--- ---- the check's rule of fitting, and the one of the theorem
+-- ---- fitting by the check, and fitting by the theorem's definition
 
 fits-if : (has : Bool) (k : ℕ) (t : Tape) (c : List ℕ) → ifHas has (tapeFits k t c) ≡ true → FitsIf has k (held (pick has t noTape) c)
 unfolding pick
@@ -101,7 +101,7 @@ back-fits m σ e f =
     (both-true (fits-holds (m .symbols) (e .sim .t0) (e .c0) (f .fits0))
     (both-true (if-fits (has m 1) (m .symbols) (σ .sim .t1) (e .sim .t1) (e .c1) (f .fits1)) (if-fits (has m 2) (m .symbols) (σ .sim .t2) (e .sim .t2) (e .c2) (f .fits2)))))
 
--- and back: what fits without the caller's own fields passes the check with them
+-- the converse: an engine that fits without the caller's own fields passes the check with them
 pub fits-bare : (m : Machine) (σ : Conf) → EngineFits m (bareOf m σ) → simFits m (σ .sim) (σ .c0) (σ .c1) (σ .c2) ≡ true
 fits-bare m σ f = subst (λ (τ : Conf). simFits m (τ .sim) (τ .c0) (τ .c1) (τ .c2) ≡ true) (back-bare m σ) (back-fits m σ (bareOf m σ) f)
 

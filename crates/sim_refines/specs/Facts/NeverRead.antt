@@ -1,4 +1,4 @@
--- "Bytes of the lent buffer past the length are never read": of the run, the fast run and the step, as they are called. Assumes nothing.
+-- "Bytes of the lent buffer past the length are never read": by the operations run, fast run and step. Assumes nothing.
 use mathlib.Core.Path.{_≡_, refl, sym, ap, subst⁻¹}
 use mathlib.Core.Bool.{Bool, true, false}
 use mathlib.Core.List.{List}
@@ -30,7 +30,7 @@ use Rattle.sim_refines.specs.Lent.{SameFirst, SameLive, SameGiven, SameS
 use Rattle.sim_refines.specs.Facts.Beside.{Beside, SameEnd, run-beside, SameOnce, once-beside}
 use Rattle.sim_refines.specs.Facts.LiveCells.{pick-two, Alike, alike-reads, fits-same}
 
--- ---- as the operations begin, and as they end
+-- ---- the start and the end of the operations
 
 module _ (m : Machine) (σ τ : Conf) (a : SameLive m σ τ) where
   pub alive0 : Alike (tape0 σ) (tape0 τ)

@@ -1,4 +1,4 @@
--- The run, the fast run and the step, as they are called, are the table machine's. Assumes nothing.
+-- The operations run, fast run and step do what the table machine does. Assumes nothing.
 use mathlib.Core.Path.{_≡_, refl, sym, ap, _∙_, subst}
 use mathlib.Core.Bool.{true, false}
 use mathlib.Core.List.{List}
@@ -47,7 +47,7 @@ accepted-run (Refused why) σ d τ o e =
     let z : _≡_ {A = ℕ} 0 1 = cc in absurd (omega arith)
 accepted-run Accepted σ d τ o e = (refl, e)
 
--- the fast run: over the table's words it answers as `run` does, refusals too; over others it is refused
+-- the fast run: with the table's words it answers as `run` does, refusals included; with other words it is refused
 module _ (m : Machine) (s words : List ℕ) (rule : StopRule) (fuel : ℕ) (σ : Conf) where
   pub fast-agrees : wordsRight m s words ≡ true → fastAnswer m s words rule fuel σ ≡ runAnswer m s rule fuel σ
   unfolding fastAnswer runAnswer fastCheck runCheck pick
@@ -90,7 +90,7 @@ module _ (m : Machine) (s : List ℕ) (bytes : Bytes s) (rule : StopRule) (fuel 
     back = subst (HandedBack m σ) back-is (handed-back m σ (ending .at) (refined .went .kept));
   }
 
-  -- "`never` means never": nor at any later step, nor from where the run began
+  -- "`never` means never": from the start of the run the machine halts at no step
   pub run-never-halts : (n : ℕ) (p : NonHaltProof) → o ≡ NeverHalts n p → (j : ℕ) → ¬ (Halted (tableOf m s) (run (tableOf m s) j (configOf m σ)))
   unfolding bareSim
   run-never-halts n p e j =
@@ -129,7 +129,7 @@ module _ (m : Machine) (s : List ℕ) (bytes : Bytes s) (σ τ : Conf) (x : Stat
   config-back : (e : Conf) → EngineFits m e → configOf m (backOf m σ e) ≡ configOf m e
   config-back e f = sym (config-bare m (backOf m σ e)) ∙ ap (configOf m) (bare-back m σ e f)
 
-  -- what one step leaves and says, beside the configuration before it
+  -- the engine and the status after one step
   record Stepped (o : Once) : Type 0 where
     kept : Kept m (bareOf m σ) (o .at)
     holds : StepHolds m s σ (backOf m σ (o .at)) (o .status)

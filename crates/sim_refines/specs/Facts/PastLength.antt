@@ -44,7 +44,7 @@ unfolding pick
 blank-stays true c h e = word-stays [] c h e
 blank-stays false c h e = rw e (λ i l. refl)
 
--- ---- a tape that was g and is h: no shorter, and past the length of h as it was
+-- ---- a tape g that becomes h: h is no shorter, and past the length of h the buffer is unchanged
 
 record Onward (g h : Held) : Type 0 where
   longer : g .tape .len ≤ h .tape .len
@@ -80,7 +80,7 @@ move-on h d = pick-cases (leaves (h .tape) d) (growOf h d) h (λ g. Onward h (sh
     (λ t. then-on h (growOf h d) _ (grown-on (extra (h .tape .len) (length (h .cells))) h d) (shift-on (growOf h d) d))
     (λ t. shift-on h d)
 
--- a tape without cells, as one that the machine lacks has, stays so
+-- a tape without cells, such as one that the machine lacks, stays without cells
 record Acts (g h : Held) : Type 0 where
   on : Onward g h
   none : g .tape .len ≡ 0 → h .tape .len ≡ 0
@@ -151,7 +151,7 @@ once-goes m s σ = by (lookWith m s false σ)
 
 -- ---- the operations
 
--- what stayed before stays; of a tape that the machine lacks the whole buffer does
+-- bytes that stayed before a call stay after it; on a tape that the machine lacks, the call changes no byte of the buffer
 back-stays : (b : Bool) (t u : Tape) (before c d : List ℕ) → PastStays before (held t c) → Acts (held (pick b t noTape) c) (held u d) → PastStays before (held (pick b u t) d)
 unfolding pick
 back-stays true t u before c d p a = λ i l. a .on .past i l ∙ p i (omega (arith, a .on .longer))
@@ -170,7 +170,7 @@ module _ (c0 c1 c2 : List ℕ) (m : Machine) (σ : Conf) (p : PastKept c0 c1 c2 
   pub ran-kept : (k : Task) (fuel : ℕ) → PastKept c0 c1 c2 (backOf m σ (runOf k fuel (bareOf m σ) .at))
   ran-kept k fuel = back-kept _ (run-goes k fuel (bareOf m σ))
 
--- before a call all is as it was, and after a refusal
+-- before a call and after a refusal nothing is changed
 pub kept-all : (σ : Conf) → PastKept (σ .c0) (σ .c1) (σ .c2) σ
 kept-all σ = record { past0 = λ i l. refl; past1 = λ i l. refl; past2 = λ i l. refl }
 

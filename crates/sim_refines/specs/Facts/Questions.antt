@@ -1,4 +1,4 @@
--- The answers to the questions on one tape are what the table machine's tape holds, at every position. `cellOf` is its cells by definition.
+-- The answers to the questions on one tape agree with the table machine's tape at every position. `cellOf` gives its cells by definition.
 -- Assumes nothing.
 use mathlib.Core.Path.{_≡_, refl, sym, _∙_}
 use mathlib.Core.Logic.{_↔_}
@@ -67,7 +67,7 @@ unfolding _⊖_
 diff-+pos (pos a) j = omega arith
 diff-+pos (negsuc a) j = omega (arith, diff-⊖ j (suc a))
 
--- of up and dn one is 0
+-- one of up and dn is 0
 no-dn : (z : ℤ) → 1 ≤ up z → dn z ≡ 0
 no-dn (pos a) h = refl
 no-dn (negsuc a) h = absurd (omega arith)
@@ -77,7 +77,7 @@ module _ (h : Held) (z : ℤ) (out : List ℕ) where
   unfolding windowFrom
   window-length = length-fill (windowCell h (raisedOf z)) (length out) 0 out
 
-  -- place j holds the cell at z + j. Past i64 it is blank, and so is the tape, whose cells end before
+  -- place j holds the cell at z + j. Past i64 it is blank, and so is the tape, whose cells end before that
   pub window-is : dn z ≤ 2 ^ 63 → h .tape .len ≤ 2 ^ 63 → (j : ℕ) → j < length out → getD (windowOf h z out) j 0 ≡ tapeOf h .cell (z +ℤ pos j)
   window-is low short j there = by (decLt (up (z +ℤ pos j)) (2 ^ 63))
     where

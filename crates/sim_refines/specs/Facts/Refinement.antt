@@ -22,7 +22,7 @@ use Rattle.sim_refines.specs.Statement.{tableIn, heldBy, after, Judged, 
 use Rattle.sim_refines.specs.Facts.Step.{step-config, step-keeps}
 use Rattle.sim_refines.specs.Facts.Look.{look-sees}
 
--- ---- what is kept through one change and another
+-- ---- what two changes in a row keep
 
 pub kept-none : (m : Machine) (σ : Conf) → EngineFits m σ → Kept m σ σ
 kept-none m σ f = record {

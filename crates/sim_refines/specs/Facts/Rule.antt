@@ -1,4 +1,4 @@
--- "a `from` state, one not below n never matching": by such a rule the run and the fast run answer as without a rule. Assumes nothing.
+-- "a `from` state, one not below n never matching": with such a rule the run and the fast run answer as without a rule. Assumes nothing.
 use mathlib.Core.Path.{_≡_, refl, sym, ap, _∙_}
 use mathlib.Core.Bool.{Bool, true, false}
 use mathlib.Core.List.{List}
@@ -26,7 +26,7 @@ use Rattle.sim_refines.specs.Facts.Step.{step-keeps}
 use Rattle.sim_refines.specs.Facts.Look.{look-sees}
 use Rattle.sim_refines.specs.Facts.MissingTapes.{bare-fits}
 
--- ---- the run: every engine value on its way fits, so that its state is below n
+-- ---- the run: every engine value in it fits, so that its state is below n
 
 module _ (m : Machine) (s : List ℕ) (table : TableOf m (tableOf m s)) (proves : Bool) (p : State) (off : m .states ≤ p .0) where
   abbrev ruled : Task

@@ -32,7 +32,7 @@ use Rattle.sim_refines.specs.Facts.Step.{bare-config}
 use Rattle.sim_refines.specs.Facts.Look.{look-sees}
 use Rattle.sim_refines.specs.Facts.Refinement.{plain-refines}
 
--- ---- the verdict, and no other, is what a run without fuel answers
+-- ---- a run without fuel answers the verdict, and nothing else
 
 module _ (k : Task) (proves : k .proves ≡ true) (σ : Conf) (fits : EngineFits (k .machine) σ) where
   no-fuel-verdict : Judged k (heldBy k σ) (runOf k 0 σ .outcome)
@@ -57,12 +57,12 @@ module _ (m : Machine) (s : List ℕ) (bytes : Bytes s) (accepted : tableCheck m
   refined : Refines (task m s proves rule) fuel σ (runOf (task m s proves rule) fuel σ)
   refined = plain-refines m s bytes accepted proves rule fuel σ fits small
 
-  -- from where it stands the table machine halts at no step
+  -- from the end of the run the table machine halts at no step
   pub never-onward : (j : ℕ) → ¬ (Halted (tableOf m s) (run (tableOf m s) j (configOf m (runOf (task m s proves rule) fuel σ .at))))
   never-onward = never-sound-bare m (tableOf m s) (accepted-table m s bytes accepted) _ (bare-config m _) n p
       (never-verdict (subst (Answers (task m s proves rule) fuel (refined .made) σ _) says (refined .answers)))
 
-  -- nor from where it began
+  -- nor from the start of the run
   pub never-halts : (j : ℕ) → ¬ (Halted (tableOf m s) (run (tableOf m s) j (configOf m σ)))
   never-halts j = by (decLt j (refined .made))
     where

@@ -1,4 +1,4 @@
--- A step of the engine is the table machine's, and it keeps what fits. Assumes nothing.
+-- A step of the engine is a step of the table machine, and the engine fits after it. Assumes nothing.
 use mathlib.Core.Path.{_≡_, refl, sym, ap, _∙_, subst⁻¹}
 use mathlib.Core.Bool.{Bool, true, false}
 use mathlib.Core.List.{List}
@@ -54,7 +54,7 @@ pub bare-config : (m : Machine) (σ : Conf) → Bare (m .tapes) (configOf m σ)
 bare-config m σ = record { second = λ l. rw (le-ltb 1 (m .tapes) (omega arith)); third = λ l. rw (le-ltb 2 (m .tapes) (omega arith)) }
 
 module _ (m : Machine) (s : List ℕ) (σ : Conf) (f : EngineFits m σ) where
-  -- the entry that it reads
+  -- the entry that the engine reads
   pub entry-read : entry (tableOf m s) (configOf m σ) ≡ entryOf m s (σ .sim .state) (readOf (tape0 σ)) (readOf (tape1 σ)) (readOf (tape2 σ))
   unfolding tableOf entryOf
   entry-read = λ i. tableOf m s (σ .sim .state .0) (read-if true (m .symbols) (tape0 σ) (f .fits0) i) (read-if (has m 1) (m .symbols) (tape1 σ) (f .fits1) i)
@@ -84,7 +84,7 @@ module _ (m : Machine) (s : List ℕ) (σ : Conf) (f : EngineFits m σ) where
       tape2 = acted2 .tape i;
     }
 
-    -- what it keeps
+    -- what the step keeps
     pub step-keeps : σ .sim .steps + 1 ≤ 2 ^ 62 → Kept m σ (stepOf σ a)
     unfolding stepOf
     step-keeps l = record {

@@ -1,5 +1,5 @@
--- One tape of the engine against a tape of the table machine: a fresh one, a read, a write, a move, and the cells beyond the head.
--- A growth cannot be seen: of how much it adds only the two laws of growth are used. Assumes nothing.
+-- One tape of the engine compared with a tape of the table machine: a fresh one, a read, a write, a move, and the cells beyond the head.
+-- A growth changes nothing at any position; of the number of cells it adds, only the two laws of growth are used. Assumes nothing.
 use mathlib.Core.Path.{_≡_, refl, sym, ap, _∙_}
 use mathlib.Core.Bool.{true, false}
 use mathlib.Core.List.{List}
@@ -36,7 +36,7 @@ use Rattle.sim_refines.specs.Meaning.{tapeOf}
 ⊖-≡ : (i o j p : ℕ) → i + p ≡ j + o → i ⊖ o ≡ j ⊖ p
 ⊖-≡ i o j p h = omega (ints, diff-⊖ i o, diff-⊖ j p)
 
--- the smaller and the larger of two indexes, at their positions
+-- the positions of the smaller and the larger of two indexes
 module _ (i j n o : ℕ) (z : ℤ) (is : j ⊖ o ≡ z) where
   min-⊖ : n ≡ min i j → n ⊖ o ≡ minℤ (i ⊖ o) z
   min-⊖ e = pick-cases (leZ (i ⊖ o) z) (i ⊖ o) z (λ y. n ⊖ o ≡ y) (λ t. omega (ints, diff-⊖ i o, diff-⊖ j o, diff-⊖ n o)) (λ t. omega (ints, diff-⊖ i o, diff-⊖ j o, diff-⊖ n o))
@@ -100,7 +100,7 @@ module _ (h : Held) (here : h .tape .head < h .tape .len) where
 
 -- ---- a move
 
--- a growth cannot be seen
+-- a growth changes nothing at any position
 grow-tape : (n : ℕ) (h : Held) (d : Dir) → h .tape .len + n ≤ length (h .cells) → tapeOf (grownBy n h d) ≡ tapeOf h
 unfolding grownBy
 grow-tape n h L room = tape-≡ (tapeOf (grownBy n h L)) (tapeOf h) (λ z. grown-cell n h room z L) (⊖-≡ _ _ _ _ (omega arith)) (⊖-≡ _ _ _ _ (omega arith)) (⊖-≡ _ _ _ _ (omega arith))
@@ -152,7 +152,7 @@ act-tape k h w d f r = pick-cases (ltb (h .tape .head) (h .tape .len)) (moveOf (
 
 -- ---- the cells beyond the head
 
--- every cell strictly beyond the head that way is blank, over all positions
+-- at every position strictly beyond the head in that direction the cell is blank
 abbrev pub BlankBeyond : Held → Dir → Type 0
 BlankBeyond h d = (z : ℤ) → Beyond d (tapeOf h .head) z → tapeOf h .cell z ≡ 0
 

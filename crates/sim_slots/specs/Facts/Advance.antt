@@ -1,4 +1,4 @@
--- An advance keeps an engine fitting, keeps its buffers' lengths, and makes at most its fuel of steps. Assumes nothing.
+-- After an advance an engine still fits, its buffers have the same lengths, and it has made at most as many steps as the fuel. Assumes nothing.
 use mathlib.Core.Path.{_≡_, refl, ap, _∙_}
 use mathlib.Core.Bool.{Bool, false}
 use mathlib.Core.List.{List}
@@ -146,7 +146,7 @@ pub no-fuel-at : (m : Machine) (s : List ℕ) (proves : Bool) (σ : Conf) → ra
 unfolding ranFrom
 no-fuel-at m s proves σ = ap (backOf m σ) (stands-at (task m s proves Rule.Never) (bareOf m σ)) ∙ back-bare m σ
 
--- ---- the checks of the run, from what was passed
+-- ---- a run's check, from the engine's check and the step limit
 
 pub run-holds : (m : Machine) (s : List ℕ) (n : ℕ) (σ : Conf) → Passed m s σ → σ .sim .steps + n ≤ stepsMost → runCheck m s n σ ≡ Accepted
 unfolding runCheck fuelCheck valueCheck fuelFits pick
@@ -154,6 +154,6 @@ run-holds m s n σ p l =
     let b = both-true (le-leb n stepsMost (omega arith)) (le-leb (σ .sim .steps) (stepsMost - n) (omega arith)) in
     rw (p .table, p .sizes, p .fits, b) refl
 
--- so that a checked engine may be advanced
+-- a checked engine meets what an advance requires
 pub advance-asks : (m : Machine) (s : List ℕ) (n : ℕ) (σ : Conf) → engineCheck m s σ ≡ Accepted → σ .sim .steps + n ≤ 2 ^ 62 → runCheck m s n σ ≡ Accepted
 advance-asks m s n σ c l = run-holds m s n σ (engine-says m s σ c) l

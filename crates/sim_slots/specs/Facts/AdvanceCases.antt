@@ -19,7 +19,7 @@ use Rattle.sim_slots.specs.Model.Advance.{ranFrom, advanceOf}
 use Rattle.sim_slots.specs.Invariants.{outcomeIn}
 use Rattle.sim_slots.specs.Facts.Advance.{ran-passed, ran-within, no-fuel-at, run-holds}
 
--- what a run of the code answers is what an advance makes of it
+-- the code's run gives the configuration and the outcome of `ranFrom`
 module _ (m : Machine) (s : List ℕ) (proves : Bool) (n : ℕ) (σ τ : Conf) (a : Answer) (ran : given τ a ≡ answerOf Accepted m s proves Rule.Never n σ) where
   ran-at : τ ≡ ranFrom m s proves n σ .at
   unfolding ranFrom

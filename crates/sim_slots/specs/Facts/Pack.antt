@@ -84,7 +84,7 @@ module _ (m : Machine) (u : Conf) (old : List ℕ) (f : Fitted m (u .sim) (u .c0
   pub packed-length : length bytes ≡ slotSize m u
   packed-length = bytes-long ∙ long
 
-  -- what each part keeps of the bytes before it
+  -- each part leaves the bytes before its cells unchanged, except its own numbers
   keep4 : (lo hi : ℕ) → Apart 56 20 lo hi → hi ≤ place2 m (length (u .c0)) (length (u .c1)) → Agree bytes s4 lo hi
   keep4 lo hi a l =
       subst⁻¹ (λ s. Agree s s4 lo hi) packed (if-agree (has2 m) (tape2 u) 56 (place2 m (length (u .c0)) (length (u .c1))) s4 room2 lo hi a l)
@@ -97,7 +97,7 @@ module _ (m : Machine) (u : Conf) (old : List ℕ) (f : Fitted m (u .sim) (u .c0
   unfolding s3
   keep2 = held-agree (tape0 u) 16 128 s2 room0
 
-  -- the state and the steps stand before all tapes
+  -- the state and the steps lie before all tapes
   front : (lo hi : ℕ) → hi ≤ 16 → Agree bytes s2 lo hi
   front lo hi l =
       agree-then bytes s4 s2 lo hi (keep4 lo hi (λ j a h k. omega arith) (omega arith))

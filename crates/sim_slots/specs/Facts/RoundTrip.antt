@@ -1,4 +1,4 @@
--- THE SLOT'S ROUND TRIP: what is read from the bytes of an engine is that engine, in the buffers of any other. Assumes nothing.
+-- THE SLOT'S ROUND TRIP: the engine read from a slot is the engine written, in the buffers of any other of the same sizes. Assumes nothing.
 use mathlib.Core.Path.{_≡_, refl, sym, ap, _∙_, subst⁻¹}
 use mathlib.Core.Bool.{Bool, true, false}
 use mathlib.Core.List.{List}
@@ -25,15 +25,15 @@ use Rattle.sim_slots.specs.Facts.SlotBytes.{part-fits, poured-length, po
 use Rattle.sim_slots.specs.Facts.FitCases.{Fitted, fitted, fits-again}
 use Rattle.sim_slots.specs.Facts.Pack.{packed-length, state-read, steps-read, tape0-read, tape1-read, tape2-read, cells0-read, cells1-read, cells2-read}
 
--- ---- and back
+-- ---- reading back
 
--- the present buffers are as long
+-- the buffers of t are as long as those of u
 pub record SameSizes (m : Machine) (u t : Conf) : Type 0 where
   pub same0 : length (t .c0) ≡ length (u .c0)
   pub same1 : has1 m ≡ true → length (t .c1) ≡ length (u .c1)
   pub same2 : has2 m ≡ true → length (t .c2) ≡ length (u .c2)
 
--- v is u in the buffers of t: the live cells of the tapes that the machine has; fields and buffers of those that it lacks are t's
+-- v is u in the buffers of t: tapes that the machine has get u's live cells; tapes that it lacks keep t's fields and buffers
 pub record InBuffers (m : Machine) (s : List ℕ) (u t v : Conf) : Type 0 where
   pub state : v .sim .state ≡ u .sim .state
   pub steps : v .sim .steps ≡ u .sim .steps

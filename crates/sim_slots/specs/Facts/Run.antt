@@ -1,4 +1,4 @@
--- What a run keeps of an engine that fits: it fits, its buffers keep their lengths, and its steps rise by the fuel at most. Assumes nothing.
+-- After a run a fitting engine still fits, its buffers have the same lengths, and its step count has risen by at most the fuel. Assumes nothing.
 use mathlib.Core.Path.{_≡_, refl, sym, ap, _∙_}
 use mathlib.Core.Bool.{Bool, true, false}
 use mathlib.Core.List.{List}
@@ -61,7 +61,7 @@ module _ (m : Machine) (s : List ℕ) where
         rw k at (inside i (ltb-true _ _ (p .0)) (eqb-true _ _ (p .1))))
         (λ t e. let z : _≡_ {A = ℕ} 0 1 = cc in absurd (omega arith))
 
--- ---- what is followed is the entry read
+-- ---- the entry followed is the entry read
 
 loop-follows : (tapes : ℕ) (q : _) (a b : Action) (r0 r1 r2 : ℕ) (h : Held) → loopOf tapes q b r0 r1 r2 h ≡ Go a → b ≡ a
 unfolding loopOf
@@ -75,7 +75,7 @@ look-follows Undefined p tapes q a r0 r1 r2 h = λ e. let z : _≡_ {A = ℕ} 0 
 look-follows (Defined b) p tapes q a r0 r1 r2 h = pick-cases _ _ _ (λ (x : Look). x ≡ Go a → Defined b ≡ Defined a)
     (λ t e. ap Defined (loop-follows tapes q a b r0 r1 r2 h e)) (λ t e. cc)
 
--- ---- what is kept: the tapes that the machine has fit, the others have 0 for their numbers
+-- ---- the invariant: the tapes that the machine has fit, the others have 0 for their numbers
 
 pub record Keeps (m : Machine) (σ : Conf) : Type 0 where
   pub state-in : ltb (σ .sim .state .0) (m .states) ≡ true
@@ -124,7 +124,7 @@ act-fits-on : (k : ℕ) (h : Held) (w : ℕ) (d : Dir) → tapeFits k (h .tape) 
     → tapeFits k (actOf h w d .tape) (actOf h w d .cells) ≡ true
 act-fits-on k h w d f b r = fits-holds k _ _ (act-fits k h w d (fits-says k (h .tape) (h .cells) f) b r)
 
--- a lacking tape is left as it is
+-- a tape that the machine lacks is unchanged
 none-stays : (h : Held) (w : ℕ) (d : Dir) → h .tape ≡ noTape → actOf h w d ≡ h
 none-stays h w d e = ap (λ t. actOf (held t (h .cells)) w d) e ∙ none-acts (h .cells) w d ∙ sym (ap (λ t. held t (h .cells)) e)
 

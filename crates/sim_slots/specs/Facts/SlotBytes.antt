@@ -1,4 +1,4 @@
--- One tape in a slot: what is written is read again, and what stands apart stays. Assumes nothing.
+-- One tape in a slot: reading gives what was written, and bytes apart from it are unchanged. Assumes nothing.
 use mathlib.Core.Path.{_≡_, refl, sym, ap, _∙_, subst}
 use mathlib.Core.Bool.{Bool, true}
 use mathlib.Core.List.{List}
@@ -79,7 +79,7 @@ module _ (t : Tape) (p : ℕ) (b : List ℕ) where
   unfolding b5
   numbers-length = ap length numbers-are ∙ length-put32 b4 (p + 16) (t .highest) ∙ long4
 
-  -- each number keeps what stands apart from it
+  -- writing a number leaves the bytes apart from it unchanged
   keep1 : (lo hi : ℕ) → Apart p 4 lo hi → Agree b1 b lo hi
   unfolding b1
   keep1 = put32-agree b p (t .len)
@@ -162,7 +162,7 @@ module _ (h : Held) (p at : ℕ) (b : List ℕ) (r : Room h p at b) where
       length-paste (putTape (h .tape) p b) at (h .cells) (h .tape .len) (omega (arith, numbers-length (h .tape) p b, r .cells-room)) (r .len-in)
       ∙ numbers-length (h .tape) p b
 
-  -- below the cells, but for the numbers
+  -- below the cells, only the numbers are written
   below-cells : (lo hi : ℕ) → hi ≤ at → Agree (putHeld h p at b) (putTape (h .tape) p b) lo hi
   unfolding putHeld
   below-cells lo hi l = paste-agree (putTape (h .tape) p b) at (h .cells) (h .tape .len) lo hi (omega (arith, numbers-length (h .tape) p b, r .cells-room)) l
@@ -179,7 +179,7 @@ module _ (h : Held) (p at : ℕ) (b : List ℕ) (r : Room h p at b) where
   unfolding putHeld
   held-cells = paste-same (putTape (h .tape) p b) at (h .cells) (h .tape .len) (omega (arith, numbers-length (h .tape) p b, r .cells-room)) (r .len-in)
 
--- ---- the same of a tape that the machine may lack
+-- ---- the same for a tape that the machine may lack
 
 module _ (has : Bool) (h : Held) (p at : ℕ) (b : List ℕ) (r : has ≡ true → Room h p at b) where
   pub if-length : length (putIf has h p at b) ≡ length b

@@ -1,4 +1,4 @@
--- The functions on slots: what they ask of one another, and their returns. Assumes nothing.
+-- The functions on slots: what they require of one another, and their returns. Assumes nothing.
 use mathlib.Core.Path.{_≡_, refl, sym, ap, _∙_}
 use mathlib.Core.Bool.{Bool, true, false}
 use mathlib.Core.List.{List}

@@ -16,8 +16,8 @@ use Rattle.sim.specs.declared.Simulator.{Simulator}
 use Rattle.sim.specs.Model.Engine.{Conf, conf, tape0, tape1, tape2}
 use Rattle.sim.specs.Model.Operations.{has1, has2, simFits}
 
--- ---- where what stands: the state at 0, the steps at 8, the numbers of the tapes at 16, 36 and 56, their cells from 128 on;
--- a tape that the machine lacks counts nothing, and is neither read nor written
+-- ---- the layout: the state at byte 0, the steps at 8, the numbers of the tapes at 16, 36 and 56, their cells from 128 on;
+-- a tape that the machine lacks has no cells there, and is neither read nor written
 
 abbrev pub sizeIf : (has : Bool) → (cells : ℕ) → ℕ
 sizeIf has n = pick has n 0
@@ -41,7 +41,7 @@ unfoldable pub putTape : Tape → (p : ℕ) → List ℕ → List ℕ
 putTape t p b =
     put32 (put32 (put32 (put32 (put32 b p (t .len)) (p + 4) (t .origin)) (p + 8) (t .head)) (p + 12) (t .lowest)) (p + 16) (t .highest)
 
--- its numbers from p on, and of its cells the first `len` from `at` on
+-- a tape's numbers from p on, and the first `len` of its cells from `at` on
 unfoldable pub putHeld : Held → (p at : ℕ) → List ℕ → List ℕ
 putHeld h p at b = paste (putTape (h .tape) p b) at (h .cells) (h .tape .len)
 
@@ -51,7 +51,7 @@ putIf has h p at b = pick has (putHeld h p at b) b
 unfoldable pub putSim : Simulator → List ℕ → List ℕ
 putSim v b = put64 (put16 b 0 (v .state .0)) 8 (v .steps)
 
--- an engine into a slot that had those bytes; what is not named here stays
+-- writes an engine into a slot; all other bytes of the slot are unchanged
 unfoldable pub packOf : Machine → Conf → List ℕ → List ℕ
 packOf m σ b =
     putIf (has2 m) (tape2 σ) 56 (place2 m (length (σ .c0)) (length (σ .c1)))
@@ -68,7 +68,7 @@ tapeAt b p = record {
   highest = get32 b (p + 16);
 }
 
--- the engine's value in a slot; of a tape that the machine lacks, the fields of v
+-- the engine's value in a slot; a tape that the machine lacks has the fields of v
 unfoldable pub simIn : Machine → List ℕ → Simulator → Simulator
 simIn m b v = record {
   state = stateOf (get16 b 0);
@@ -91,12 +91,12 @@ part1 m n0 n1 b = partOf (place1 n0) (sizeIf (has1 m) n1) b
 abbrev pub part2 : Machine → (n0 n1 n2 : ℕ) → List ℕ → List ℕ
 part2 m n0 n1 n2 b = partOf (place2 m n0 n1) (sizeIf (has2 m) n2) b
 
--- "the slot to restore holds no fitting engine of its step": it holds one
+-- the negation of "the slot to restore holds no fitting engine of its step"
 unfoldable pub holdsOne : Machine → List ℕ → (step : ℕ) → Simulator → (n0 n1 n2 : ℕ) → Bool
 holdsOne m b step v n0 n1 n2 =
     both (eqb (v .steps) step) (simFits m v (part0 n0 b) (part1 m n0 n1 b) (part2 m n0 n1 n2 b))
 
--- the first `len` cells replaced
+-- replaces the first `len` cells, where the machine has the tape
 unfoldable pub fillIf : (has : Bool) → Tape → (part cells : List ℕ) → List ℕ
 fillIf has t part c = pick has (paste c 0 part (t .len)) c
 
@@ -109,7 +109,7 @@ filled m b v c0 c1 c2 =
 abbrev pub takenIf : Bool → Conf → Option Conf
 takenIf holds σ = pick holds (some σ) none
 
--- a slot's bytes, the step that it must have, and the engine whose buffers are filled
+-- the engine in a slot's bytes, read into the buffers of σ, if it is of step `step` and fits
 unfoldable pub unpackOf : Machine → List ℕ → (step : ℕ) → Conf → Option Conf
 unpackOf m b step σ =
     let v : Simulator = simIn m b (σ .sim) in

@@ -1,4 +1,4 @@
--- What the parts of a timeline's calls over the plain engine pass on to one another. Assumes nothing.
+-- The parts of a timeline's call over the plain engine: the requirements of each, from those of the call and from earlier results. Assumes nothing.
 use mathlib.Core.Path.{_≡_, refl, sym, _∙_, ap}
 use mathlib.Core.Bool.{true}
 use mathlib.Core.List.{List}
@@ -33,7 +33,7 @@ use Rattle.sim_slots.specs.Model.Kind.{plainKind}
 use Rattle.sim_timeline.specs.Model.{Fits, SaveAt, StrideAt}
 use Rattle.sim_timeline.specs.Facts.Engine.{plain-sound}
 
--- an engine that passed its check has sizes that no sum passes
+-- an engine that passed its check has buffers of fitting sizes
 pub sizes-in : (m : Machine) (s : List ℕ) (e : Conf) (r : Checked) → r ≡ engineCheck m s e → r ≡ Accepted
     → sizesFit m (length (e .c0)) (length (e .c1)) (length (e .c2)) ≡ true
 sizes-in m s e r q z = engine-says m s e (sym q ∙ z) .sizes
@@ -73,7 +73,7 @@ pub stride-asks : (m : Machine) (s : List ℕ) (target stop : ℕ) (v : Times) (
     → runCheck m s (stop - e .sim .steps) e ≡ Accepted
 stride-asks m s target stop v e o q = advance-asks m s (stop - e .sim .steps) e (o .accepted) (omega (arith, stride-fuel v target (e .sim .steps) stop q (o .below) (o .top)))
 
--- ---- restoring: what a slot was found to hold
+-- ---- restoring: the result of reading a slot
 
 nothing-holds : (v : Simulator) → _≡_ {A = Found} Nothing (Holds v) → ⊥
 nothing-holds v e = let z : _≡_ {A = ℕ} 0 1 = cc in absurd (omega arith)
@@ -106,7 +106,7 @@ module _ (m : Machine) (s : List ℕ) (size t : ℕ) (v : Simulator) (c0 c1 c2 :
       → restored f d0 d1 d2 ≡ restoredOn (rewindOf plainKind m s size t w) e
   rewind-found i f d0 d1 d2 q p = p ∙ ap (λ y. restoredOn y e) (rewind-part plainKind m s size t e x b i _ q refl)
 
-  -- the slot was found to hold f
+  -- f is the result of reading the slot
   module _ (f : Found) (d0 d1 d2 : List ℕ) (found : restored f d0 d1 d2 ≡ restoredOn (rewindOf plainKind m s size t w) e) where
     abbrev foundAs : Found → Restored
     foundAs y = restored y d0 d1 d2
@@ -127,7 +127,7 @@ module _ (m : Machine) (s : List ℕ) (size t : ℕ) (v : Simulator) (c0 c1 c2 :
           → y ≡ goBack (opsOf plainKind m s size) t w
       back-done y q = back-some plainKind m s size t e x b (conf u d0 d1 d2) y there q
 
--- ---- the verdict where the engine stands
+-- ---- the verdict at the present step
 
 pub stay-asks : (m : Machine) (s : List ℕ) (size t : ℕ) (w : TimelineOf plainKind) → GoOk plainKind size (Fits m s size) t w → runCheck m s 0 (w .engine) ≡ Accepted
 stay-asks m s size t w ok = advance-asks m s 0 (w .engine) (ok .rec .fits .accepted) (omega (arith, to-low plainKind m s size (Fits m s size) (plain-sound m s size) t w ok))

@@ -1,4 +1,4 @@
--- The plain engine is what a timeline's code asks of an engine. Assumes nothing.
+-- The plain engine meets the requirements of a timeline's code. Assumes nothing.
 use mathlib.Core.Path.{_≡_, refl, sym, _∙_, ap, subst}
 use mathlib.Core.Bool.{Bool, true, false}
 use mathlib.Core.List.{List}
@@ -30,7 +30,7 @@ use Rattle.sim_slots.specs.Facts.Advance.{advance-fits, advance-climbs, advance
 use Rattle.sim_slots.specs.Model.Kind.{plainKind}
 use Rattle.sim_timeline.specs.Model.{Fits}
 
--- ---- a tape that was found to fit a part of a slot, in its buffer
+-- ---- a tape that fits a part of a slot also fits its buffer, once the part is copied there
 
 module _ (k : ℕ) (t : Tape) (part c : List ℕ) (short : length part ≤ length c) (fits : tapeFits k t part ≡ true) where
   len-in : t .len ≤ length part

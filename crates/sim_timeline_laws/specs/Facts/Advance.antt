@@ -1,4 +1,4 @@
--- An advance of the engine, by the steps of its meaning: it makes them all, or stops at the first that is full. Assumes nothing.
+-- An advance of the engine makes all the steps of its meaning, or stops at the first that is full. Assumes nothing.
 use mathlib.Core.Path.{_≡_, refl, sym, ap, _∙_, subst, subst⁻¹}
 use mathlib.Core.Bool.{true, false}
 use mathlib.Core.List.{List}
@@ -32,7 +32,7 @@ use Rattle.sim_timeline_laws.specs.Meaning.{Mean, meanOf, nextOf, NoRoom
 use Rattle.sim_timeline_laws.specs.Facts.Step.{step-mean, step-room, step-full, next-halted, halted-room, mean-bare}
 
 module _ (m : Machine) (s : List ℕ) (table : TableOf m (tableOf m s)) where
-  -- without the never test, and with it
+  -- a run without the never test, and one with it
   abbrev quiet : Task
   quiet = task m s false Rule.Never
 
@@ -46,7 +46,7 @@ module _ (m : Machine) (s : List ℕ) (table : TableOf m (tableOf m s)) where
   abbrev Goes : ℕ → Mean → Outcome → Mean → Type 0
   Goes n x o y = Advance (machine m s table) Mean configIn (nextOf m s) (NoRoom m s) n x o y
 
-  -- a run without the never test leaves an engine that fits, and this is how it ends where o is the verdict there
+  -- a run without the never test leaves an engine that fits, and ends by the law of an advance, where o is the verdict there
   record Ran (n : ℕ) (σ : Conf) (e : End) : Type 0 where
     fits : EngineFits m (e .at)
     ends : (o : Outcome) → Verdict (m .tapes) (tableOf m s) (configOf m (e .at)) o → Goes n (meanOf m σ) (verdictOr (e .outcome) o) (meanOf m (e .at))

@@ -1,4 +1,4 @@
--- The rule of space, computed: on a tape of 32 cells, as a fresh one without a word has, and on a machine of three tapes. Assumes nothing.
+-- Examples of the rule of space: a tape of 32 cells, the length of a fresh tape without a word, and a machine of three tapes. Assumes nothing.
 use mathlib.Core.Path.{_≡_, refl}
 use mathlib.Core.Bool.{true, false}
 use mathlib.Core.List.{[]}
@@ -41,7 +41,7 @@ room-left : passes (fresh 0 64) L ≡ false
 unfolding passes both
 room-left = refl
 
--- with the new blanks on that side: the cell left of the first one has index 31 of 64, the cell right of the last one index 32
+-- the new blanks are on that side: the cell left of the first one has index 31 of 64, the cell right of the last one index 32
 grows-left : movedBy (fresh 0 64) L ≡ record { len = 64; head = 31; buffer = 64 }
 unfolding movedBy pick
 grows-left = refl

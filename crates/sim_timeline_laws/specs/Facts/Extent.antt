@@ -96,7 +96,7 @@ act-extent k h w d f r = pick-cases (ltb (h .tape .head) (h .tape .len)) (moveOf
     same : extentOf (writeOf h w) ≡ extentOf h
     same = λ i. record { len = h .tape .len; head = h .tape .head; buffer = length-set (h .cells) (h .tape .head) w i }
 
--- ---- of a tape that the machine has or lacks; the entry leaves one that it lacks where it is
+-- ---- a tape that the machine has or lacks; an entry does not move a tape that the machine lacks
 
 stays-put : movedBy noExtent N ≡ noExtent
 unfolding movedBy pick

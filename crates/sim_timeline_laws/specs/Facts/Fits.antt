@@ -1,4 +1,4 @@
--- The engines of one list: those that pass the check, with buffers as long as the fresh engine's. An advance and a slot lead from one to another. Assumes nothing.
+-- The engines of one list of calls: those that pass the check, with buffers as long as those of e. An advance or a slot leads to another of them. Assumes nothing.
 use mathlib.Core.Path.{_≡_, sym, _∙_}
 use mathlib.Core.List.{List}
 use mathlib.Core.Option.{some}
@@ -32,7 +32,7 @@ module _ (m : Machine) (s : List ℕ) (e : Conf) where
   pub steps-low : (u : Conf) → FitsLike m s e u → u .sim .steps ≤ limit
   steps-low u f = leb-true _ _ (fitted m (u .sim) (u .c0) (u .c1) (u .c2) (engine-says m s u (f .accepted) .fits) .steps-in)
 
-  -- a slot is then as large
+  -- its slots have the same size
   pub same-slot : (u : Conf) → FitsLike m s e u → slotSize m u ≡ slotSize m e
   same-slot u f = λ i. sizeOf m (f .same0 i) (f .same1 i) (f .same2 i)
 
@@ -44,11 +44,11 @@ module _ (m : Machine) (s : List ℕ) (e : Conf) where
     same2 = advance-length2 m s n u (f .accepted) small ∙ f .same2;
   }
 
-  -- what was packed fills the slot
+  -- a packed engine fills the slot
   pub packed-fills : (u : Conf) (old : List ℕ) → FitsLike m s e u → length old ≡ slotSize m e → length (packOf m u old) ≡ slotSize m e
   packed-fills u old f long = pack-length m u old (engine-says m s u (f .accepted) .fits) (long ∙ sym (same-slot u f)) ∙ same-slot u f
 
-  -- and is unpacked into the buffers of t as the same engine
+  -- a packed engine is unpacked into the buffers of t as the same engine
   module _ (u t : Conf) (old : List ℕ) (fu : FitsLike m s e u) (ft : FitsLike m s e t) where
     same-sizes : SameSizes m u t
     same-sizes = record {

@@ -22,7 +22,7 @@ use Rattle.sim.specs.Model.Operations.{has1, has2, ifHas, cellsMost, blankTape,
 use Rattle.sim.specs.Facts.OperationCases.{Passed, fresh-says}
 use Rattle.sim_refines.specs.Facts.Fresh.{new-accepted, new-fits}
 
--- the sizes that a fresh engine asks for are within those that every operation asks for
+-- buffer sizes that `new` accepts are accepted by every operation
 
 has-most : (has : Bool) (n : ℕ) → ifHas has (within 32 cellsMost n) ≡ true → ifHas has (leb n cellsMost) ≡ true
 unfolding pick

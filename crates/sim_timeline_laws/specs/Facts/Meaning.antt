@@ -1,4 +1,4 @@
--- Engines of the same meaning: what stands past the tapes' lengths, and the tapes that the machine lacks, are no part of it. Assumes nothing.
+-- Engines of the same meaning: the bytes past the tapes' lengths, and the tapes that the machine lacks, are no part of it. Assumes nothing.
 use mathlib.Core.Path.{_≡_, refl, sym, ap, _∙_}
 use mathlib.Core.Bool.{Bool, true, false}
 use mathlib.Core.List.{List}
@@ -19,7 +19,7 @@ use Rattle.sim_timeline_laws.specs.Meaning.{extentOf, extentIf, meanOf, 
 
 -- ---- one tape: the same numbers, the same cells up to its length, and a buffer of the same length (Alike)
 
--- cells that were taken off the buffers' fronts alike are the same
+-- buffers whose first n cells are equal as lists have the same first n cells one by one
 pub taken-same : (n : ℕ) (c d : List ℕ) → take n c ≡ take n d → SameFirst n c d
 taken-same n c d e i l = sym (getD-take n c i 0 l) ∙ ap (λ x. getD x i 0) e ∙ getD-take n d i 0 l
 

@@ -12,7 +12,7 @@ use Rattle.sim_timeline_laws.specs.Facts.Step.{mean-steps, next-config, 
 use Rattle.sim_timeline_laws.specs.Facts.Advance.{advance-goes}
 use Rattle.sim_timeline_laws.specs.Facts.Fits.{FitsLike, steps-low, advanced-fits, packed-fills, packed-back}
 
--- a meaning decides all that is to come, whatever it is: nothing more is asked of it
+-- `Good` requires nothing: the laws hold for every meaning
 abbrev pub plainParts : (m : Machine) (s : List ℕ) (table : TableOf m (tableOf m s)) (e : Conf) → Parts plainEngine m s table (slotSize m e)
 plainParts m s table e = record {
   Mean = Mean;

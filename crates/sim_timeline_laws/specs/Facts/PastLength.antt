@@ -31,7 +31,7 @@ use Rattle.sim_slots.specs.Model.Slots.{simIn, part0, part1, part2, holdsOne, f
 use Rattle.sim_slots.specs.Facts.FitCases.{fitted}
 use Rattle.sim_slots.specs.Model.Kind.{plainKind}
 
--- ---- over any engine: what an advance keeps, and what is so of the engine before the call and of one restored into it, is so after the call
+-- ---- over any engine: a property that an advance keeps, and that the engine before the call and one restored into it have, holds after the call
 
 module _ {Out : Type 0} (O : Ops Out) (Q : O .State → Type 0) (on : (n : ℕ) (x : O .State) → Q x → Q (O .advance n x .1)) where
   way-keeps : (gas t : ℕ) (w : TimelineOver O) → Q (w .engine) → Q (advanceTo O gas t w .1 .engine)

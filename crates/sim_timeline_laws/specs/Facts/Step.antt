@@ -1,4 +1,4 @@
--- A step of the engine is a step of its meaning, and it has room exactly where the meaning has. Assumes nothing.
+-- A step of the engine is a step of its meaning, and it has room exactly where the step of the meaning has. Assumes nothing.
 use mathlib.Core.Path.{_≡_, refl, sym, ap, _∙_, subst}
 use mathlib.Core.Bool.{Bool, true, false}
 use mathlib.Core.List.{List}
@@ -122,7 +122,7 @@ module _ (m : Machine) (s : List ℕ) (x : Mean) where
   pub halted-room : Halted (tableOf m s) (x .config) → ¬ NoRoom m s x
   halted-room h (a, e, p) = not-defined (entry (tableOf m s) (x .config)) a h e
 
--- ---- the fields of tapes that the machine lacks are no part of it
+-- ---- the fields of tapes that the machine lacks are no part of the meaning
 
 bare-extent : (has : Bool) (t : Tape) (c : List ℕ) → extentIf has (held (pick has t noTape) c) ≡ extentIf has (held t c)
 unfolding pick

@@ -1,4 +1,4 @@
--- Little-endian numbers in bytes: what is written is read back, and what lies apart stays. Assumes nothing.
+-- Little-endian numbers in bytes: a number that is written is read back, and the other bytes stay. Assumes nothing.
 use Prim.Native.Nat.{ℕ, _+_, _/_, _%_, _≤_, _<_}
 use mathlib.Core.Path.{_≡_, _∙_}
 use mathlib.Core.List.{List, _++_}
@@ -7,7 +7,7 @@ use lib.ListN.{length, take, drop, getD, set, length-set, length-append, List·g
 use lib.Seq.{paste, getD-set-same, getD-set-other, getD-take, length-take-le}
 use Rattle.store_bytes.specs.Bytes.{get16, get32, get64, put16, put32, put64, Agree, Apart}
 
--- ---- reading what was written. No bound on x is needed: the top byte takes what is left.
+-- ---- reading a number that was written. No bound on x is needed: the top byte takes the rest.
 pub agree-then : (s t u : List ℕ) (lo hi : ℕ) → Agree s t lo hi → Agree t u lo hi → Agree s u lo hi
 agree-then s t u lo hi a b j l h = a j l h ∙ b j l h
 
@@ -89,7 +89,7 @@ get-put64 s at x h =
     = get-put32 u (at + 4) (x / 4294967296) (omega (arith, length-put32 s at (x % 4294967296))) in
     omega arith
 
--- what lies before a copy
+-- a copy leaves the bytes before it as they are
 pub paste-agree : (d : List ℕ) (at : ℕ) (s : List ℕ) (n lo hi : ℕ) → at ≤ length d → hi ≤ at → Agree (paste d at s n) d lo hi
 paste-agree d at s n lo hi h k j l m =
     let e : length (take at d) ≡ at = length-take-le at d h in

@@ -23,7 +23,7 @@ copy-end d₀ d s at n i h g p = let e : i ≡ n = omega arith in rw e at p
 
 -- ---- moving
 
--- what went into a block and out of it
+-- a copy into a block and out of it
 pub block-moved : (d d′ e e′ : List ℕ) (a b n : ℕ) → a + n ≤ length d → n ≤ length e
     → e′ ≡ paste e 0 (take (a + n - a) (drop a d)) n → d′ ≡ paste d b e′ n → d′ ≡ paste d b (take n (drop a d)) n
 block-moved d d′ e e′ a b n h k p q = q ∙ ap (λ l. take b d ++ l ++ drop (b + n) d) (ap (take n) p ∙ (held ∙ ap (λ m. take n (take m (drop a d))) count))

@@ -1,4 +1,4 @@
--- Slots in one byte slice: what the laws of a store ask of save and move, once for both engines. Assumes nothing.
+-- Slots in one byte slice: the lemmas on save and move that the laws of a store need, once for both engines. Assumes nothing.
 use Prim.Native.Nat.{ℕ, suc, _+_, _-_, _*_, _≤_, _<_}
 use mathlib.Core.Path.{_≡_, refl, sym, _∙_, ap}
 use mathlib.Core.List.{List, _++_, append-assoc}
@@ -36,7 +36,7 @@ paste-after d at s n a m h k l = ap (take m)
     late : (l : List ℕ) → drop a l ≡ drop (a - (at + n)) (drop (at + n) l)
     late l = ap (λ i. drop i l) sum ∙ sym (drop-drop (a - (at + n)) (at + n) l)
 
--- a copy of j elements, and after it a copy of the n that follow
+-- a copy of j elements, then a copy of the next n, is a copy of j + n
 pub paste-more : (d : List ℕ) (at : ℕ) (s : List ℕ) (j n : ℕ) (t : List ℕ) → at + j ≤ length d → j ≤ length s → take n t ≡ take n (drop j s)
     → paste (paste d at s j) (at + j) t n ≡ paste d at s (j + n)
 paste-more d at s j n t h k e =
@@ -95,7 +95,7 @@ module _ (size : ℕ) where
     unfolding moveSlot
     move-other = put-other k (slotOf size i t) t m (slot-length i t l)
 
--- The store when the first j bytes of slot `from` stand in slot `to`.
+-- The store after the first j bytes of slot `from` are copied to slot `to`.
 unfoldable pub copied : ℕ → ℕ → ℕ → List ℕ → ℕ → List ℕ
 copied size from to d j = paste d (to * size) (slotOf size from d) j
 
@@ -112,7 +112,7 @@ module _ (size from to : ℕ) (d : List ℕ) (fits : from * size + size ≤ leng
   unfolding copied
   copied-none = paste-zero d (to * size) (slotOf size from d)
 
-  -- the next n bytes, read from the slot or from the store: what has been copied so far lies before them
+  -- the next n bytes are the same in the slot and in the store: the bytes copied so far lie before them
   reads : (j n : ℕ) → j + n ≤ size → take n (drop (from * size + j) (copied size from to d j)) ≡ take n (drop j (slotOf size from d))
   unfolding copied slotOf
   reads j n l =

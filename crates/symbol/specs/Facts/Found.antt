@@ -1,4 +1,4 @@
--- What a scan found, as an index: one fact for each way that a loop over its numbers ends. Assumes nothing.
+-- The result of a scan as an index: one fact for each way in which the scan's loop ends. Assumes nothing.
 use mathlib.Core.Path.{_≡_, sym, ap}
 use mathlib.Core.Bool.{Bool, false}
 use mathlib.Core.Option.{Option}
@@ -10,7 +10,7 @@ use Rattle.notation.specs.Facts.ScanDown.{last-hit, last-end}
 use Rattle.symbol.specs.Model.{foundOf}
 use Rattle.symbol.specs.declared.position.Found.the-variants.{At, Nothing}
 
--- upward, with the numbers from i up to `to` yet to be looked at
+-- a scan upward, where the numbers from i up to `to` are not yet tested
 module _ (p : ℕ → Bool) (to i : ℕ) (x : Option ℕ) (left : firstFail p (to - i) i ≡ x) where
   pub first-found : i < to → p i ≡ false → At i ≡ foundOf x
   first-found h z = sym (ap foundOf (first-hit p to i x left h z))
@@ -18,7 +18,7 @@ module _ (p : ℕ → Bool) (to i : ℕ) (x : Option ℕ) (left : firstFail p (t
   pub first-nowhere : to ≤ i → Nothing ≡ foundOf x
   first-nowhere h = sym (ap foundOf (first-end p to i x left h))
 
--- downward, with the numbers below i yet to be looked at
+-- a scan downward, where the numbers below i are not yet tested
 module _ (p : ℕ → Bool) (i : ℕ) (x : Option ℕ) (left : lastFail p i ≡ x) where
   pub last-found : 0 < i → p (i - 1) ≡ false → At (i - 1) ≡ foundOf x
   last-found h z = sym (ap foundOf (last-hit p i x left h z))

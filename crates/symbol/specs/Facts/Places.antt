@@ -32,7 +32,7 @@ module _ (u d o len : ℕ) where
       let b : len ≤ o + u - d = omega arith in
       simp (le-leb _ _ a, le-ltb _ _ b)
 
--- the index is that of the difference, however it is written
+-- the index depends only on the difference of u and d
 pub index-alike : (u d v e o len : ℕ) → u + e ≡ v + d → indexAt u d o len ≡ indexAt v e o len
 unfolding indexAt
 index-alike u d v e o len h =
@@ -40,11 +40,11 @@ index-alike u d v e o len h =
     let t : leb d (o + u) ≡ leb e (o + v) = by-test (leb e (o + v)) (λ t. le-leb d (o + u) (omega (arith, leb-true e (o + v) t)) ∙ sym t) (λ t. lt-leb d (o + u) (omega (arith, leb-false e (o + v) t)) ∙ sym t) in
     rw (k, t)
 
--- the index of a position is the one whose position it is
+-- the index of the position of index i is i
 pub index-of-position : (i o len : ℕ) → i < len → indexOf (i ⊖ o) o len ≡ At i
 index-of-position i o len h = sym (index-in (up (i ⊖ o)) (dn (i ⊖ o)) o len i (omega (arith, diff-⊖ i o)) h)
 
--- a raised position stands for the position
+-- a position raised by 2^63 and lowered by 2^63 is the same position
 pub raised-signed : (z : ℤ) → dn z ≤ 2 ^ 63 → raisedOf z ⊖ 2 ^ 63 ≡ z
 raised-signed z h = omega (ints, diff-⊖ (raisedOf z) (2 ^ 63))
 

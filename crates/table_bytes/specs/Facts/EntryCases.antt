@@ -46,7 +46,7 @@ module _ (t k : ℕ) where
       let e : t ≡ 3 = omega arith in
       sym (power-three k) ∙ ap (λ (n : ℕ). k ^ n) (sym e)
 
--- the summands of an entry's number
+-- bounds for the summands of an entry's number
 pub record Summands (k stride q a1 a2 : ℕ) : Type 0 where
   pub rows : q * stride ≤ 65535 * 16777216
   pub second : k * a1 ≤ 256 * 255

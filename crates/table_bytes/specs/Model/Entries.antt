@@ -1,4 +1,4 @@
--- The bytes of entry i of a table s (document 01, machine.rs): its number, and what the table check asks of it. Definitions only.
+-- The bytes of entry i of a table s (document 01, machine.rs): the entry's number, and the table check of its bytes. Definitions only.
 use mathlib.Core.Bool.{Bool}
 use mathlib.Core.List.{List}
 use Prim.Native.Nat.{ℕ, _+_, _*_, _/_, _%_}
@@ -27,11 +27,11 @@ within low high x = both (leb low x) (leb x high)
 abbrev pub zeroAt : List ℕ → ℕ → ℕ → Bool
 zeroAt s i j = eqb (byteAt s i j) 0
 
--- what stands in a defined entry beside its writes
+-- the check of a defined entry apart from its writes
 abbrev pub headOk : (n b0 next moves b7 : ℕ) → Bool
 headOk n b0 next moves b7 = both (eqb b0 1) (both (ltb next n) (both (ltb moves 27) (eqb b7 0)))
 
--- a tape's write is a symbol; where the machine lacks the tape, blank and N
+-- a tape's write is a symbol; for a tape that the machine lacks, the write is blank and the move is N
 abbrev pub tapeOk : (has : Bool) (k write move : ℕ) → Bool
 tapeOk has k write move = pick has (ltb write k) (both (eqb write 0) (eqb move 2))
 

@@ -1,4 +1,4 @@
--- THE TABLE CHECK: it accepts exactly the well-formed tables, and a refusal is the first that applies, of 6 with the lowest entry. Assumes nothing.
+-- THE TABLE CHECK: it accepts exactly the well-formed tables, and a refusal is the first that applies; 6 gives the lowest bad entry. Assumes nothing.
 use mathlib.Core.Path.{_≡_, sym, ap, _∙_, subst}
 use mathlib.Core.Bool.{Bool, true, false}
 use mathlib.Core.Option.{Option, some}
@@ -38,7 +38,7 @@ within-fails : (low high x : ℕ) → within low high x ≡ false → ¬ ((low �
 within-fails low high x e h = clash (within-holds low high x h) e
 
 module _ (m : Machine) (s : List ℕ) where
-  -- what is asked below n, and at n
+  -- the conditions below n and condition n give the conditions below n + 1
   more : (n : ℕ) → ((j : ℕ) → j < n → Asked m s j) → Asked m s n → (j : ℕ) → j < suc n → Asked m s j
   more n f a j h = by (ℕ-discrete j n)
     where

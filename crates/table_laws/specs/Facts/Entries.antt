@@ -1,4 +1,4 @@
--- The check of one entry passes exactly the entries that are laid out as document 01 says. Assumes nothing.
+-- The check of one entry accepts exactly the entries that are laid out as document 01 says. Assumes nothing.
 use mathlib.Core.Path.{_≡_, refl, sym, ap, _∙_}
 use mathlib.Core.Bool.{Bool, true, false}
 use mathlib.Core.List.{List}
@@ -40,7 +40,7 @@ number-move L = refl
 number-move R = refl
 number-move N = refl
 
--- the three moves out of their number
+-- the numbers of the three moves, from the byte that encodes them
 pub moves-apart : (d : ℕ) (x y z : Dir) → d ≡ dirNumber x + 3 * dirNumber y + 9 * dirNumber z
     → (d % 3 ≡ dirNumber x) × (d / 3 % 3 ≡ dirNumber y) × (d / 9 % 3 ≡ dirNumber z)
 moves-apart d x y z e =
@@ -79,7 +79,7 @@ module _ (m : Machine) (s : List ℕ) (i : ℕ) where
         let d = byteAt s i 6 in
         omega (arith, move-number (d % 3) (omega arith), move-number (d / 3 % 3) (omega arith), move-number (d / 9 % 3) (omega arith))
 
-    -- a defined entry that passed holds the bytes of what is read there
+    -- a defined entry that passed the check holds the bytes of the action that is read there
     defined-laid : flagAt s i ≡ 1 → PassedEntry m s i → LaidOut m s i
     unfolding actionAt
     defined-laid f p = record { entry = Defined (actionAt s i); of-machine = of-machine; stands = stands }
@@ -118,14 +118,14 @@ module _ (m : Machine) (s : List ℕ) (i : ℕ) where
         (λ z. undefined-laid (sym (pick-true _ _ _ z) ∙ h))
         (λ z. let p = defined-says m s i (sym (pick-false _ _ _ z) ∙ h) in defined-laid (p .0) (p .1))
 
-  -- ---- and back, from the layout to a passed check
+  -- ---- from the layout to a passed check
 
   tape-has : (has : Bool) (w d : ℕ) → w < m .symbols → (has ≡ false → (w ≡ 0) × (d ≡ 2)) → tapeOk has (m .symbols) w d ≡ true
   unfolding pick
   tape-has true w d h g = lt-ltb _ _ h
   tape-has false w d h g = both-true (eq-eqb w 0 (g refl .0)) (eq-eqb d 2 (g refl .1))
 
-  -- the two facts of a lacking tape, as the check has them
+  -- the check's two conditions on a tape that the machine lacks
   lack : (t : ℕ) (w d : ℕ) (x : Dir) → (m .tapes < suc t → (w ≡ 0) × (x ≡ N)) → d ≡ dirNumber x → ltb t (m .tapes) ≡ false → (w ≡ 0) × (d ≡ 2)
   lack t w d x f e z =
       let l : m .tapes ≤ t = ltb-false t (m .tapes) z in

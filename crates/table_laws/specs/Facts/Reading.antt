@@ -1,4 +1,4 @@
--- THE LOOKUP: what is read at a place of a well-formed table is the entry whose bytes stand there. Assumes nothing.
+-- THE LOOKUP: the entry read at a place of a well-formed table is the one whose bytes lie there. Assumes nothing.
 use mathlib.Core.Path.{_≡_, refl, sym, ap, _∙_}
 use mathlib.Core.List.{List}
 use Prim.Native.Nat.{ℕ, _+_, _*_, _/_, _%_, _<_}
@@ -44,7 +44,7 @@ module _ (s : List ℕ) (i : ℕ) where
         dir2 = e2 t;
       }
 
-  -- the entry read is the one that stands there
+  -- the entry read is the one whose bytes lie there
   pub entry-read : (e : Entry) → i < length s / 8 → ((j : ℕ) → j < 8 → byteAt s i j ≡ getD (entryBytes e) j 0) → entryAt s i ≡ e
   unfolding entryAt both
   entry-read Undefined h stands =
@@ -54,7 +54,7 @@ module _ (s : List ℕ) (i : ℕ) where
       let b : flagAt s i ≡ 1 = sym (flag-is s i) ∙ stands 0 (omega arith) in
       pick-true _ _ _ (both-true (lt-ltb _ _ h) (eq-eqb _ _ b)) ∙ ap Defined (action-stands a stands)
 
--- so every entry that is read, in the table or past its end, is one of the machine
+-- every entry that is read, in the table or past its end, is an entry of the machine
 pub entry-of-machine : (m : Machine) (s : List ℕ) → WellFormed m s → (i : ℕ) → EntryOf m (entryAt s i)
 entry-of-machine m s w i = by-test (ltb i (length s / 8)) (λ t. inside (ltb-true _ _ t)) (λ t. rw (← entry-past s i (ltb-false _ _ t)) tt)
   where

@@ -24,7 +24,7 @@ use Rattle.table_laws.specs.WellFormed.{ActionOf, EntryOf, WellFormed}
 use Rattle.table_laws.specs.Facts.Entries.{number-move}
 use Rattle.table_laws.specs.Facts.CheckExact.{table-check-accepts}
 
--- document 01's example: 1, R, next 1, stride 2
+-- document 01's example: write 1, move R, next state 1, stride 2
 pub packed-example : packWord (Defined (singleOf (symbolOf 1) R (stateOf 1))) 2 ≡ 8590000385
 unfolding actionWord pick
 packed-example = refl
@@ -32,7 +32,7 @@ packed-example = refl
 -- ---- one entry, for any stride whose rows fit 32 bits
 
 module _ (a : Action) (stride : ℕ) (write : a .write0 .0 < 256) (next : a .next .0 < 65536) (fits : a .next .0 * stride < 2 ^ 32) where
-  -- the entry of a machine with one tape
+  -- the word of an action with one tape unpacks to that action
   pub word-unpacks : a ≡ singleOf (a .write0) (a .dir0) (a .next) → wordEntry (actionWord a stride) ≡ Defined a
   unfolding wordEntry wordAction
   word-unpacks one =
@@ -94,7 +94,7 @@ module _ (m : Machine) (s : List ℕ) (w : WellFormed m s) (one : m .tapes ≡ 1
     unfolding packInto wordAt
     packed-table-holds i h = rw packed-table-accepted (fill-in (wordAt s (m .symbols)) (entryCount m) 0 out i 0 (omega arith) (omega arith) (omega arith))
 
-    -- and the places past the table stay
+    -- the places past the table are unchanged
     pub packed-table-rest : (i : ℕ) → entryCount m ≤ i → getD (packInto m s out) i 0 ≡ getD out i 0
     unfolding packInto
     packed-table-rest i h = rw packed-table-accepted (fill-past (wordAt s (m .symbols)) (entryCount m) 0 out i 0 (omega arith))

@@ -17,9 +17,9 @@ use Rattle.table_machine.specs.Tables.{TableOf, Bare}
 use Rattle.table_machine.specs.Facts.Run.{not-defined, step-act}
 use Rattle.table_machine.specs.Facts.Tape.{put-same, put-other, bare-act, bare-run, bare-start}
 
--- ---- an entry that is met again and again
+-- ---- an entry that is read at every step
 
--- the entry read stays the same, and what makes it so lasts: then the machine never halts
+-- an invariant I, under which the entry read is that of action a, and which a keeps: then the machine never halts
 module _ (d : Table) (a : Action) (I : Config → Type 0) (reads : (c : Config) → I c → entry d c ≡ Defined a) (lasts : (c : Config) → I c → I (act c a)) where
   forever : (n : ℕ) (c : Config) → I c → ¬ (Halted d (run d n c))
   unfolding run
@@ -32,7 +32,7 @@ entry-≡ d c k p q r s = λ i. d (p i) (q i) (r i) (s i)
 
 -- ---- the first pattern: all tapes stay and rewrite what they read
 
--- a tape that stays reads what was written
+-- a tape whose head stays reads the symbol written
 read-still : (t : Tape) (w : ℕ) (m : Dir) → m ≡ N → readT (update t w m) ≡ w
 read-still t w m e = ap (λ (x : Dir). put (t .cell) (t .head) w (go x (t .head))) e ∙ put-same (t .cell) (t .head) w
 
@@ -64,7 +64,7 @@ stay-never d a c e s n = forever d a (StayInv d a) (λ k v. v .now) (stay-lasts 
 
 -- ---- the second pattern: one tape, a blank read, and blanks ahead
 
--- what lies beyond the head after the move lay beyond it before, and was not the cell written
+-- a cell beyond the head after the move was beyond it before the move, and is not the cell written
 step-beyond : (m : Dir) (h z : ℤ) → Beyond m (go m h) z → Beyond m h z
 step-beyond L h z b = omega (ints, diff-pred h)
 step-beyond R h z b = omega (ints, diff-suc h)
@@ -115,12 +115,12 @@ module _ (m : Machine) (d : Table) (table : TableOf m d) where
   walk-never : (a : Action) (x : Dir) (c : Config) → Bare (m .tapes) c → entry d c ≡ Defined a → Walks (m .tapes) c a x → (n : ℕ) → ¬ (Halted d (run d n c))
   walk-never a x c b e w n = forever d a (WalkInv a x) (λ k v. v .now) (walk-lasts a x) n c (record { now = e; walk = w; bare = b })
 
-  -- for every configuration whose lacking tapes are blank
+  -- never is sound at every configuration where the tapes that the machine lacks are blank
   pub never-sound-bare : (c : Config) → Bare (m .tapes) c → (s : ℕ) (p : NonHaltProof) → Verdict (m .tapes) d c (NeverHalts s p) → (n : ℕ) → ¬ (Halted d (run d n c))
   never-sound-bare c b s p (stays a e r) n = stay-never d a c e r n
   never-sound-bare c b s p (walks a x e w) n = walk-never a x c b e w n
 
-  -- and so for every configuration reached from a start
+  -- never is sound at every configuration reached from a start
   pub never-sound : (q : ℕ) (word : List ℕ) (k s : ℕ) (p : NonHaltProof) → Verdict (m .tapes) d (run d k (start q word)) (NeverHalts s p)
       → (n : ℕ) → ¬ (Halted d (run d n (run d k (start q word))))
   never-sound q word k s p v = never-sound-bare (run d k (start q word)) (bare-run m d table k (start q word) (bare-start (m .tapes) q word)) s p v

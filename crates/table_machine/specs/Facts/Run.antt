@@ -14,7 +14,7 @@ unfolding run
 run-add d zero b c = rw zero-add
 run-add d (suc a) b c = rw suc-add (run-add d a b (step d c))
 
--- one more step, at the end
+-- a run of n + 1 steps is a run of n steps and then one step
 pub run-suc : (d : Table) (n : ℕ) (c : Config) → run d (suc n) c ≡ step d (run d n c)
 unfolding run
 run-suc d zero c = refl
@@ -31,7 +31,7 @@ unfolding run
 run-halted d zero c h = refl
 run-halted d (suc n) c h = ap (run d n) (step-halted d c h) ∙ run-halted d n c h
 
--- once halted, the run stands still
+-- after the machine has halted, the configuration no longer changes
 pub run-past : (d : Table) (k n : ℕ) (c : Config) → k ≤ n → Halted d (run d k c) → run d n c ≡ run d k c
 run-past d k n c h z =
     let e : n ≡ k + (n - k) = omega arith in
@@ -92,6 +92,6 @@ first-halt d c (suc n) = more (first-halt d c n)
         last (yes z) = at n (omega arith) z f
         last (no f′) = nowhere (λ j h. split j h f′ (ℕ-discrete j n))
 
--- with h the first halting step, n steps bring the count to n, or to h where that is less
+-- with h the first halting step and h at most n, a run of n steps adds h to the step count
 pub run-count : (d : Table) (h n : ℕ) (c : Config) → h ≤ n → Halted d (run d h c) → ((j : ℕ) → j < h → ¬ (Halted d (run d j c))) → run d n c .steps ≡ h + c .steps
 run-count d h n c l z f = ap (λ (x : Config). x .steps) (run-past d h n c l z) ∙ run-steps d h c f

@@ -1,4 +1,4 @@
--- The tapes of a configuration: a cell after a write, when two tapes are the same, and that those which the machine lacks stay blank. Assumes nothing.
+-- The tapes of a configuration: a cell after a write, equal tapes, and the tapes that the machine lacks, which stay blank. Assumes nothing.
 use mathlib.Core.Path.{_≡_, refl, sym, _∙_}
 use mathlib.Core.List.{List, []}
 use Prim.Native.Nat.{ℕ, zero, suc, _<_}
@@ -26,7 +26,7 @@ pub put-other : (f : ℤ → ℕ) (h z : ℤ) (w : ℕ) → ¬ (z ≡ h) → put
 unfolding put
 put-other f h z w n = by-test (eqZ z h) (λ t. absurd (n (eqZ-true z h t))) (pick-false (eqZ z h) w (f z))
 
--- two tapes are the same where their parts are
+-- two tapes are equal where their parts are equal
 pub tape-≡ : (s t : Tape) → ((z : ℤ) → s .cell z ≡ t .cell z) → s .head ≡ t .head → s .low ≡ t .low → s .high ≡ t .high → s ≡ t
 tape-≡ s t c h l g = λ i. record { cell = λ z. c z i; head = h i; low = l i; high = g i }
 

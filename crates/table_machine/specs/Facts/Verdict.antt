@@ -1,4 +1,4 @@
--- A configuration has one verdict. Assumes nothing.
+-- A configuration has at most one verdict. Assumes nothing.
 use mathlib.Core.Path.{_≡_, refl, sym, ap, _∙_, subst}
 use Prim.Native.Nat.{ℕ}
 use Rattle.symbol.specs.declared.Dir.{Dir}

@@ -1,4 +1,4 @@
--- The answers to the questions on one tape are right: what `findOf`, `nonBlankOf` and `windowOf` give is what the cells at the positions say.
+-- The answers to the questions on one tape are right: `findOf`, `nonBlankOf` and `windowOf` agree with the cells at the positions.
 -- Assumes nothing.
 use mathlib.Core.Path.{_≡_, refl, sym, ap, _∙_}
 use mathlib.Core.Bool.{true, false}
@@ -27,7 +27,7 @@ use Rattle.tape_positions.specs.Model.{raisedAt, cellsBelow}
 use Rattle.tape.specs.Facts.CellPlaces.{Place, below, inside, past, place, cell-in, cell-below, cell-past, cell-of-index}
 use Rattle.tape.specs.Answers.{Before, Finds, no-cell, nearest, Spans, no-cells, range}
 
--- where every cell of some indexes is blank, so is the cell at a position whose index, where it is inside, is one of them
+-- the cell at a position is blank if the cell at its index, where that is inside the tape, is blank
 module _ (h : Held) where
   blank-at : (y : ℤ) → ((i : ℕ) → i < h .tape .len → up y + h .tape .origin ≡ i + dn y → blankAt (h .cells) i ≡ true) → cellOf h y ≡ 0
   blank-at y r = by (place (h .tape .origin) (h .tape .len) y)

@@ -1,4 +1,4 @@
--- A cell by its position: where a position lies among a tape's cells, what stands there, and that a growth cannot be seen. Assumes nothing.
+-- A cell by its position: where a position lies among a tape's cells, and the cell there. A growth changes no cell at any position. Assumes nothing.
 use mathlib.Core.Path.{_≡_, sym, ap, _∙_}
 use mathlib.Core.List.{List}
 use Prim.Native.Nat.{ℕ, _+_, _-_, _≤_, _<_}
@@ -16,7 +16,7 @@ use Rattle.tape.specs.Model.Moves.{Held, grownBy}
 use Rattle.tape.specs.Model.Questions.{cellAt, cellOf}
 use Rattle.tape.specs.Facts.Cells.{GrownCell, old, new-low, new-high, grown-holds}
 
--- where position z lies among len cells of which number o is position 0
+-- where position z lies among len cells, with position 0 at index o
 pub data Place (o len : ℕ) (z : ℤ) : Type 0 where
   below : up z + o < dn z → Place o len z
   inside : (i : ℕ) → i < len → up z + o ≡ i + dn z → Place o len z
@@ -47,9 +47,9 @@ module _ (o len : ℕ) (c : List ℕ) (z : ℤ) where
 pub cell-of-index : (o len : ℕ) (c : List ℕ) (i : ℕ) → i < len → cellAt o len c (i ⊖ o) ≡ getD c i 0
 cell-of-index o len c i h = cell-in o len c (i ⊖ o) i h (omega (arith, diff-⊖ i o))
 
--- ---- a growth cannot be seen
+-- ---- a growth changes no cell at any position
 
--- on no side is there less of the tape than before
+-- a growth takes no cells from either side
 grown-wide : (n : ℕ) (h : Held) (d : Dir) → (h .tape .origin ≤ grownBy n h d .tape .origin) × (h .tape .len + grownBy n h d .tape .origin ≤ grownBy n h d .tape .len + h .tape .origin)
 unfolding grownBy
 grown-wide n h L = (omega arith, omega arith)

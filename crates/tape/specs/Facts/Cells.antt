@@ -1,4 +1,4 @@
--- What the buffer holds at each index after a fresh start, a write and a growth. Bytes past the final length stay. Assumes nothing.
+-- The contents of the buffer at each index after a fresh start, a write and a growth. Bytes past the final length stay. Assumes nothing.
 use mathlib.Core.Path.{_≡_, refl, _∙_}
 use mathlib.Core.List.{List}
 use Prim.Native.Nat.{ℕ, _+_, _-_, _≤_, _<_}

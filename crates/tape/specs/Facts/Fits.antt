@@ -1,4 +1,4 @@
--- What a tape that fits has, by name, and that such a tape fits. Assumes nothing.
+-- A tape passes the test `tapeFits` exactly where `TapeFits` is true of it. Assumes nothing.
 use mathlib.Core.Path.{_≡_, sym, _∙_}
 use mathlib.Core.Bool.{Bool, true}
 use mathlib.Core.List.{List}
@@ -12,7 +12,7 @@ use Rattle.symbol.specs.Kinds.{symbolIn}
 use Rattle.tape.specs.declared.Tape.{Tape}
 use Rattle.tape.specs.Fits.{shapeFits, tapeFits, TapeFits, TapeOk}
 
--- the same of a Bool that a callee returned
+-- where `shape_fits` returned true, the tape is no longer than the buffer
 pub shape-len : (t : Tape) (cap : ℕ) (r : Bool) → r ≡ shapeFits t cap → r ≡ true → t .len ≤ cap
 shape-len t cap r e z = leb-true _ _ (both-split (both-split (sym e ∙ z) .1) .0)
 

@@ -55,7 +55,7 @@ module _ (t : Tape) (cap : ℕ) (d : Dir) (b : Bool) (is : b ≡ leaves t d) whe
   unfolding roomFor pick
   room-given z = simp (← is, z)
 
-  -- where a move leaves the cells, room is a cell at least
+  -- where a move leaves the cells and has room, the growth adds at least one cell
   pub room-says : b ≡ true → roomFor t cap d ≡ true → 1 ≤ extra (t .len) cap
   unfolding roomFor pick
   room-says z r = leb-true 1 (extra (t .len) cap) (simp (← is, z) at r)
@@ -93,7 +93,7 @@ module _ (t : Tape) (d : Dir) where
   unfolding shiftOf
   shift-none e = rw e
 
--- ---- after a growth by a cell at least the head's move stays inside the cells
+-- ---- after a growth by at least one cell the head's move stays inside the cells
 
 module _ (n : ℕ) (h : Held) where
   pub grown-stays : (d : Dir) → leaves (h .tape) d ≡ true → 1 ≤ n → leaves (grownBy n h d .tape) d ≡ false
@@ -119,7 +119,7 @@ grown-inside t g c c₁ c₂ w d b q p is z r ok =
       ap (λ (x : Held). leaves (x .tape) d) q ∙ grown-stays more (held t c₁) d (sym is ∙ z) (room-says t (length c₁) d b is z (rw (p, length-set) r)),
     )
 
--- ---- what `act` answers
+-- ---- the result of `act`
 
 module _ (t : Tape) (c : List ℕ) (w : ℕ) (d : Dir) where
   pub act-none : t .len ≤ t .head → held t c ≡ actOf (held t c) w d

@@ -22,7 +22,7 @@ use Rattle.tape.specs.Facts.Fits.{fits-says, fits-ok}
 use Rattle.tape.specs.Facts.MoveCases.{room-says, grown-stays}
 use Rattle.tape.specs.Facts.Cells.{length-fresh, fresh-low, fresh-word, fresh-high, length-grown, GrownCell, old, new-low, new-high, grown-holds}
 
--- of the numbers and the buffer together
+-- the same for the numbers and the buffer together
 abbrev pub HeldOk : Held → Type 0
 HeldOk h = TapeOk (h .tape) (h .cells)
 
@@ -149,7 +149,7 @@ write-fits k h w f b = record {
     at i a (yes q) = rw (q, getD-set-same (h .cells) (h .tape .head) w 0 (omega arith)) b
     at i a (no q) = rw (getD-set-other (h .cells) (h .tape .head) i w 0 q) (f .symbols i a)
 
--- n more cells, which the buffer has
+-- a growth by n cells, for which the buffer has room
 module _ (k n : ℕ) (h : Held) (f : HeldFits k h) (room : h .tape .len + n ≤ length (h .cells)) where
   some-symbol : 1 ≤ k
   some-symbol = omega (arith, f .symbols 0 (omega arith))

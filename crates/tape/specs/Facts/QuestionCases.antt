@@ -67,7 +67,7 @@ module _ (o : ℕ) where
   unfolding spanOf
   span-no-last f g i e k = rw (e, k)
 
--- ---- what is asked
+-- ---- the questions
 
 pub cell-is : (o len : ℕ) (c : List ℕ) (y z : ℤ) (x : ℕ) → x ≡ cellAt o len c y → y ≡ z → x ≡ cellAt o len c z
 cell-is o len c y z x p e = p ∙ ap (cellAt o len c) e

@@ -72,7 +72,7 @@ grownRight t n = record {
   highest = t .highest;
 }
 
--- n more cells on that side, blank
+-- the tape with n new blank cells on that side
 unfoldable pub grownBy : ℕ → Held → Dir → Held
 grownBy n h L = held (grownLeft (h .tape) n) (blanked 0 n (movedUp n (h .tape .len) (h .cells)))
 grownBy n h R = held (grownRight (h .tape) n) (blanked (h .tape .len) (h .tape .len + n) (h .cells))
@@ -81,7 +81,7 @@ grownBy n h N = h
 abbrev pub growOf : Held → Dir → Held
 growOf h d = grownBy (extra (h .tape .len) (length (h .cells))) h d
 
--- the head moved, and the lowest and the highest head so far
+-- the tape after the head's move, with the lowest and the highest head so far
 unfoldable pub shiftOf : Tape → Dir → Tape
 shiftOf t L = record {
   len = t .len;
@@ -102,7 +102,7 @@ shiftOf t N = t
 abbrev pub shifted : Held → Dir → Held
 shifted h d = held (shiftOf (h .tape) d) (h .cells)
 
--- a move, where it leaves the cells after a growth
+-- a move; where it leaves the cells, the tape grows first
 unfoldable pub moveOf : Held → Dir → Held
 moveOf h d = shifted (pick (leaves (h .tape) d) (growOf h d) h) d
 

@@ -25,7 +25,7 @@ pub use Rattle.tape_cells.specs.Model.{blankAt}
 unfoldable pub use Rattle.tape_cells.specs.Model.{firstWritten, lastWritten}
 unfoldable pub use Rattle.tape_positions.specs.Model.{cellAt}
 
--- every cell strictly beyond the head that way, of those that are there, is blank
+-- every cell of the tape strictly beyond the head in that direction is blank
 unfoldable pub blankBeyond : Held → Dir → Bool
 blankBeyond h L = allIn (blankAt (h .cells)) (h .tape .head) 0
 blankBeyond h R = allIn (blankAt (h .cells)) (h .tape .len - (h .tape .head + 1)) (h .tape .head + 1)
@@ -53,14 +53,14 @@ countOf h = countFails (blankAt (h .cells)) (h .tape .len)
 
 -- ---- "`window` fills its whole lent slice, positions past i64 blank"
 
--- place j holds the cell j places above a raised position
+-- place j holds the cell j places above the position raised − 2^63
 abbrev pub windowCell : Held → (raised : ℕ) → ℕ → ℕ
 windowCell h raised j = placeOf (h .tape .origin) (h .tape .len) (h .cells) raised j
 
 unfoldable pub windowFrom : Held → (raised : ℕ) → List ℕ → List ℕ
 windowFrom h raised out = Views.windowFrom (h .tape .origin) (h .tape .len) (h .cells) raised out
 
--- and from a position on
+-- the window from a position on
 abbrev pub windowOf : Held → (from : ℤ) → List ℕ → List ℕ
 windowOf h from out = windowFrom h (raisedOf from) out
 
@@ -70,7 +70,7 @@ unfoldable pub spotOf : (origin : ℕ) → Found → Spot
 spotOf origin (Index.At i) = At (i ⊖ origin)
 spotOf origin Index.Nothing = Nowhere
 
--- at `from` or beyond it that way; N looks at `from` alone
+-- at `from` or beyond it in that direction; N tests `from` alone
 unfoldable pub findOf : Held → (from : ℤ) → Dir → Spot
 findOf h z L = spotOf (h .tape .origin) (lastUpTo (h .tape .origin) (h .tape .len) (h .cells) z)
 findOf h z R = spotOf (h .tape .origin) (firstFrom (h .tape .origin) (h .tape .len) (h .cells) z)

@@ -1,4 +1,4 @@
--- The two laws of growth, and what follows from them. Nothing else looks into `extra` but the function that computes it. Assumes nothing.
+-- The two laws of growth, and their consequences. Assumes nothing.
 use Prim.Native.Nat.{ℕ, _+_, _≤_, _<_}
 use native.Mathlib.Decide.{decLt}
 use native.Mathlib.Omega.{arith}
@@ -7,19 +7,19 @@ use lib.Dec.{leb}
 use Rattle.notation.specs.Facts.Tests.{pick-cases}
 use Rattle.tape_cells.specs.Growth.{extra}
 
--- what a growth adds has room
+-- the buffer has space for the cells that a growth adds
 pub extra-room : (len cap : ℕ) → 1 ≤ extra len cap → len + extra len cap ≤ cap
 unfolding extra
 extra-room len cap = pick-cases (leb (len + len) cap) len 0 (λ n. 1 ≤ n → len + n ≤ cap)
     (λ t h. leb-true (len + len) cap t)
     (λ t h. absurd (omega arith))
 
--- and is no more than what is there
+-- a growth adds at most as many cells as there are
 pub extra-most : (len cap : ℕ) → extra len cap ≤ len
 unfolding extra
 extra-most len cap = pick-cases (leb (len + len) cap) len 0 (λ n. n ≤ len) (λ t. omega arith) (λ t. omega arith)
 
--- ---- what follows
+-- ---- consequences
 
 pub extra-within : (len cap : ℕ) → len ≤ cap → len + extra len cap ≤ cap
 extra-within len cap h = by (decLt 0 (extra len cap))

@@ -1,4 +1,4 @@
--- The loops over a tape's cells, one fact for each way through the code. Assumes nothing.
+-- The loops over a tape's cells, one fact for each path through the code. Assumes nothing.
 use mathlib.Core.Path.{_≡_, sym, ap, _∙_}
 use mathlib.Core.Option.{Option}
 use mathlib.Core.List.{List}
@@ -55,7 +55,7 @@ pub fresh-is : (w c c₁ c₂ c₃ : List ℕ) → c₁ ≡ blanked 0 16 c → c
     → c₃ ≡ freshCells w c
 fresh-is w c c₁ c₂ c₃ p q r = r ∙ ap (λ (l : List ℕ). blanked (16 + length w) (32 + length w) l) (q ∙ ap (λ (l : List ℕ). laid 16 w l) p)
 
--- ---- what the scans find is one of the cells that they look at
+-- ---- a scan finds one of the cells that it reads
 
 pub first-reach : (c : List ℕ) (from to n : ℕ) (f : Found) → f ≡ firstWritten c from to → to ≤ n → reach f ≤ n
 unfolding firstWritten

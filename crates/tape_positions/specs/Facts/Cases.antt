@@ -1,4 +1,4 @@
--- The questions that name positions, one fact for each way through the code. Assumes nothing.
+-- Questions about positions, one fact for each path through the code. Assumes nothing.
 use mathlib.Core.Path.{_≡_, ap, _∙_}
 use mathlib.Core.List.{List}
 use Prim.Native.Nat.{ℕ, _+_, _-_, _≤_, _<_, _^_, min}

@@ -1,4 +1,4 @@
--- How an engine's loop proves the law of an advance: it makes some steps, and the rest is an advance. Assumes nothing.
+-- Lemmas for the proof that an engine's loop meets the law of an advance: the loop makes some steps, and the rest is an advance. Assumes nothing.
 use Prim.Native.Nat.{ℕ, zero, suc, _+_, _-_, _<_}
 use mathlib.Core.Path.{_≡_, refl, sym, _∙_, ap, subst}
 use native.Mathlib.Decide.{decLt}
@@ -17,7 +17,7 @@ module _ {Mean : Type 0} (next : Mean → Mean) (NoRoom : Mean → Type 0) where
   unfolding iterate
   steps-none x = record { room = λ j l. absurd (omega arith); ends = refl }
 
-  -- room over a + b steps
+  -- there is room for a steps and then for b more
   room-add : (a b : ℕ) (x y : Mean) → y ≡ iterate next a x → ((j : ℕ) → j < a → ¬ NoRoom (iterate next j x)) → ((j : ℕ) → j < b → ¬ NoRoom (iterate next j y))
       → (j : ℕ) → j < b + a → ¬ NoRoom (iterate next j x)
   room-add a b x y q r s j l = go (decLt j a)
@@ -49,13 +49,13 @@ module _ {Mean : Type 0} (next : Mean → Mean) (NoRoom : Mean → Type 0) where
       still (suc j) = sym q ∙ ap next (still j)
 
   module _ (M : Automaton) (config : Mean → M .Config) where
-    -- an advance of n steps, done after a steps
+    -- a steps and then an advance of n steps are an advance of n + a steps
     pub advance-after : (a n : ℕ) (x y z : Mean) (o : M .Out) → Steps a x y → Advance M Mean config next NoRoom n y o z → Advance M Mean config next NoRoom (n + a) x o z
     advance-after a n x y z o s (went r q v) = went (room-add a n x y (s .ends) (s .room) r) (q ∙ from a n x y (s .ends)) v
     advance-after a n x y z o s (full j l r k q f d) = full (j + a) (omega arith) (room-add a j x y (s .ends) (s .room) r)
         (subst NoRoom (from a j x y (s .ends)) k) (q ∙ from a j x y (s .ends)) f d
 
-    -- the three ends of a loop: the fuel is used, the machine has halted, the step has no room
+    -- the ends of a loop: the fuel is used or the machine has halted; the step has no room
     pub advance-done : (n : ℕ) (x y : Mean) (o : M .Out) → Steps n x y → M .Verdict (config y) o → Advance M Mean config next NoRoom n x o y
     advance-done n x y o s v = went (s .room) (s .ends) v
 

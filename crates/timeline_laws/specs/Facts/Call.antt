@@ -1,4 +1,4 @@
--- One call. Assumes nothing.
+-- One call on a timeline that meets the invariant: its checks, its answer, and how it ends. Assumes nothing.
 use Prim.Native.Nat.{ℕ, _+_, _-_, _*_, _/_, _≤_, _<_, max}
 use mathlib.Core.Path.{_≡_, refl, sym, _∙_, ap, subst}
 use mathlib.Core.Bool.{true}
@@ -24,7 +24,7 @@ within-is : (a b x : ℕ) → a ≤ x → x ≤ b → within a b x ≡ true
 within-is a b x l h = both-true (le-leb a x l) (le-leb x b h)
 
 module _ {M : Automaton} {O : Ops (M .Out)} (E : Laws M O) (x : E .Mean) (good : E .Good x) where
-  -- an accepted call: its answer, and how its way ended
+  -- an accepted call to t: its answer, and how it ended
   pub record Taken (t : ℕ) (r : Reply (M .Out) × TimelineOver O) : Type 0 where
     pub out : M .Out
     pub says : r .0 ≡ answered out
@@ -38,7 +38,7 @@ module _ {M : Automaton} {O : Ops (M .Out)} (E : Laws M O) (x : E .Mean) (good :
       (both-true (within-is 1 (w .times .most) (w .times .count) (omega arith) (omega arith))
       (within-is (w .times .first) (due (w .times)) p (omega (arith, i .tidy .first-is, i .stands .low)) (i .behind))))
 
-  -- refusals 1 to 12, 14 and 15 never come
+  -- a call never gets refusals 1 to 12, 14 and 15
   pub call-is : (w : TimelineOver O) (p : ℕ) (c : Call) → Inv E x good w p
       → call O w c ≡ onCheck O (demand (leb (target p c) limit) Why.StepLimit Accepted) w (goTo O (max (target p c) (base E x)) w)
   unfolding call callCheck pick
@@ -72,7 +72,7 @@ module _ {M : Automaton} {O : Ops (M .Out)} (E : Laws M O) (x : E .Mean) (good :
     way = go-on E x good (gasFor O t w) t w p i l h (omega (arith, now-at E x good (w .engine) p (i .stands)));
   }
 
-  -- the slot that a target below p goes back to is not past it
+  -- the slot to go back to is not past the target
   slot-low : (w : TimelineOver O) (p t : ℕ) → Inv E x good w p → base E x ≤ t → slotStep t (w .times) ≤ t
   slot-low w p t i b = omega (arith, mul-le-mul-right (w .times .every) lower, div-mul-le-self (t - w .times .first) (w .times .every), i .tidy .first-is)
     where

@@ -21,7 +21,7 @@ use Rattle.timeline_laws.specs.Facts.Loop.{Way, there, stuck}
 use Rattle.timeline_laws.specs.Facts.Call.{Taken, call-is, taken}
 
 module _ {M : Automaton} {O : Ops (M .Out)} (E : Laws M O) (x : E .Mean) (good : E .Good x) where
-  -- what the invariant says of the configuration
+  -- by the invariant, the engine holds the configuration at step p
   pub inv-held : (w : TimelineOver O) (p : ℕ) → Inv E x good w p → E .config (E .mean (w .engine)) ≡ run M (E .config x) p
   inv-held w p i = ap (E .config) (i .stands .here) ∙ config-at E x good p (i .stands .low) (i .stands .room)
 
@@ -29,7 +29,7 @@ module _ {M : Automaton} {O : Ops (M .Out)} (E : Laws M O) (x : E .Mean) (good :
   abbrev pub aim : ℕ → Call → ℕ
   aim p c = max (target p c) (base E x)
 
-  -- the call c, made at p on w: its answer, and where the engine then stands
+  -- the call c, made at p on w: its answer, and the engine's step after it
   pub data Ends (w : TimelineOver O) (p : ℕ) (c : Call) : Type 0 where
     over : limit < target p c → call O w c ≡ (refused Why.StepLimit, w) → Ends w p c
     reached : target p c ≤ limit → (o : M .Out) → call O w c .0 ≡ answered o → Room E x (aim p c)
@@ -51,7 +51,7 @@ module _ {M : Automaton} {O : Ops (M .Out)} (E : Laws M O) (x : E .Mean) (good :
       took q = subst (Taken E x good (aim p c)) (sym (checks Accepted (pick-true (leb (target p c) limit) Accepted (Refused Why.StepLimit) q)))
           (taken E x good w p (aim p c) i (omega arith) (omega (arith, leb-true (target p c) limit q, i .stands .low, i .stands .small)))
 
-      -- the full step is not before p: up to there all had room
+      -- the full step is not before p, because all steps before p had room
       late : (j : ℕ) → base E x ≤ j → E .NoRoom (at E x j) → Dec (p ≤ j) → p ≤ j
       late j a k (yes h) = h
       late j a k (no h) = absurd (i .stands .room j a (omega arith) k)

@@ -1,4 +1,4 @@
--- What holds between the calls, and that saving and thinning keep it. Assumes nothing.
+-- The invariant between calls, and that saving and thinning keep it. Assumes nothing.
 use Prim.Native.Nat.{ℕ, zero, suc, _+_, _-_, _*_, _/_, _≤_, _<_, _^_}
 use mathlib.Core.Path.{_≡_, refl, sym, _∙_, ap, subst}
 use mathlib.Core.Bool.{true, false}
@@ -46,14 +46,14 @@ module _ {M : Automaton} {O : Ops (M .Out)} (E : Laws M O) where
       go (no q) n f = E .move-other (2 * suc k) (suc k) i (thin O k t) u (omega arith) (omega arith) q (f (omega arith))
 
 module _ {M : Automaton} {O : Ops (M .Out)} (E : Laws M O) (x : E .Mean) (good : E .Good x) where
-  -- slot i gives an engine of the meaning at its step: i intervals after the start
+  -- slot i holds an engine of the meaning at the slot's step, which is i intervals after the start
   pub record Slot (t : O .Store) (v : Times) (i : ℕ) : Type 0 where
     pub engine : O .State
     pub kept : E .Holds t i engine
     pub means : E .mean engine ≡ at E x (v .first + i * v .every)
     pub step : pos E x (v .first + i * v .every) ≡ v .first + i * v .every
 
-  -- the timeline's value and the store: nothing here names the engine
+  -- the invariant of the timeline's value and the store, without the engine
   pub record Tidy (t : O .Store) (v : Times) : Type 0 where
     pub most-low : 1 ≤ v .most
     pub most-high : v .most ≤ 512
@@ -65,7 +65,7 @@ module _ {M : Automaton} {O : Ops (M .Out)} (E : Laws M O) (x : E .Mean) (good :
     pub last-low : due v ≤ limit + v .every  -- the last slot is at most at the limit
     pub slot : (i : ℕ) → i < v .count → Slot t v i
 
-  -- the engine stands at p
+  -- the engine is at step p
   pub record Stands (s : O .State) (p : ℕ) : Type 0 where
     pub fits : E .Fits s
     pub low : base E x ≤ p
@@ -89,7 +89,7 @@ module _ {M : Automaton} {O : Ops (M .Out)} (E : Laws M O) (x : E .Mean) (good :
   unfolding pos
   slot-now t v i z = E .now-is (z .engine) ∙ (ap (λ y. M .steps (E .config y)) (z .means) ∙ z .step)
 
-  -- an engine that is now at k, all steps before k having had room
+  -- an engine whose meaning is that at step k, where all steps before k had room
   pub arrive : (s : O .State) (k : ℕ) → E .Fits s → base E x ≤ k → E .mean s ≡ at E x k → Room E x k → k ≤ limit
       → Stands s (pos E x k)
   arrive s k f b h r l =
@@ -103,7 +103,7 @@ module _ {M : Automaton} {O : Ops (M .Out)} (E : Laws M O) (x : E .Mean) (good :
         small = omega (arith, q .high);
       }
 
-  -- saving at the step that is due, and thinning, keep all; then the next slot is due later
+  -- saving at the step that is due, and thinning, keep the invariant; the next slot is then due later
   pub record Recorded (v : TimelineOver O) (p : ℕ) : Type 0 where
     pub inv : Inv v p
     pub later : p < due (v .times)

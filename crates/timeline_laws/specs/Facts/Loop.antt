@@ -15,7 +15,7 @@ use Rattle.timeline_laws.specs.Facts.Steps.{base, at, at-add, Room, pos,
 use Rattle.timeline_laws.specs.Facts.Invariant.{Inv, now-at, arrive, record-due}
 
 module _ {M : Automaton} {O : Ops (M .Out)} (E : Laws M O) (x : E .Mean) (good : E .Good x) where
-  -- How a way to t ends: there, or at a step that is full
+  -- How the loop to t ends: at t or at the halt before it, or at a full step
   pub data Way (t : ℕ) (o : M .Out) (w : TimelineOver O) : Type 0 where
     there : Room E x t → Inv E x good w (pos E x t) → M .Verdict (E .config (E .mean (w .engine))) o → Way t o w
     stuck : (j : ℕ) → j < t → E .NoRoom (at E x j) → Inv E x good w j → M .Full o → M .counted o ≡ j → Way t o w
@@ -40,7 +40,7 @@ module _ {M : Automaton} {O : Ops (M .Out)} (E : Laws M O) (x : E .Mean) (good :
         → M .Verdict (E .config (E .mean (w .engine))) o → OneAdvance t p o w
     off : (k : ℕ) → p ≤ k → k < t → E .NoRoom (at E x k) → Inv E x good w k → M .Full o → M .counted o ≡ k → OneAdvance t p o w
 
-  -- the timeline with an engine that has gone on to k
+  -- the invariant of a timeline whose engine has gone on to k
   pub gone : (v : TimelineOver O) (p : ℕ) → Inv E x good v p → (s : O .State) (k : ℕ) → E .Fits s → base E x ≤ k → E .mean s ≡ at E x k → Room E x k → k ≤ limit
       → k ≤ due (v .times) → Inv E x good (withEngine O v s) (pos E x k)
   gone v p i s k f b h r l d = record {
@@ -110,7 +110,7 @@ module _ {M : Automaton} {O : Ops (M .Out)} (E : Laws M O) (x : E .Mean) (good :
           there (halted-room E x good k t low r y)
           (subst (Inv E x good w) (sym (pos-of E x t k (halted-to E x good k t low b (good-at E x good k low r) y))) i) z
 
-  -- an advance after which it goes on, from a step that is past p
+  -- an advance after which the loop goes on, from a step past p
   goes : (t p : ℕ) (o : M .Out) (w : TimelineOver O) (r : M .Out × TimelineOver O) → base E x ≤ p → pos E x p ≡ p → OneAdvance t p o w
       → (O .now (w .engine) < t) × ¬ (O .now (w .engine) ≡ p)
       → ((q : ℕ) → Inv E x good w q → q ≤ t → p < q → Way t (r .0) (r .1)) → Way t (r .0) (r .1)
@@ -127,7 +127,7 @@ module _ {M : Automaton} {O : Ops (M .Out)} (E : Laws M O) (x : E .Mean) (good :
       (λ q. ends t p o w e l g (subst (λ a. (t ≤ O .now (w .engine)) ⊎ (O .now (w .engine) ≡ a)) m (done t (O .now (w .engine)) n q)))
       (λ q. goes t p o w r e y g (subst (λ a. (O .now (w .engine) < t) × ¬ (O .now (w .engine) ≡ a)) m (not-done t (O .now (w .engine)) n q)) ih)
 
-  -- the loop, with gas enough
+  -- the loop, with enough gas
   pub go-on : (gas t : ℕ) (w : TimelineOver O) (p : ℕ) → Inv E x good w p → p ≤ t → t ≤ limit → t < gas + p
       → Way t (advanceTo O gas t w .0) (advanceTo O gas t w .1)
   unfolding advanceTo

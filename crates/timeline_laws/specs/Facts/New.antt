@@ -19,7 +19,7 @@ use Rattle.timeline_laws.specs.Laws.{Laws}
 use Rattle.timeline_laws.specs.Facts.Steps.{base, at, at-low, pos, pos-base}
 use Rattle.timeline_laws.specs.Facts.Invariant.{Slot, Inv}
 
--- ---- what the checks of a new timeline say where it is made
+-- ---- what the checks imply for a new timeline that is made
 
 pub record Settings (m k : ℕ) : Type 0 where
   m-low : 1 ≤ m
@@ -40,7 +40,7 @@ settings m k q = record { m-low = of-m .0; m-high = of-m .1; k-low = of-k .0; k-
     of-k : (1 ≤ k) × (k ≤ 4294967296)
     of-k = inside 1 4294967296 k (both-split q .1)
 
--- what a new timeline says that was made
+-- the facts about a new timeline that was made
 pub record Begun {Out : Type 0} (O : Ops Out) (m k : ℕ) (s : O .State) (t : O .Store) (w : TimelineOver O) : Type 0 where
   pub checked : O .check s ≡ Accepted
   pub settings-in : Settings m k

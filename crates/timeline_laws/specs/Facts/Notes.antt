@@ -21,7 +21,7 @@ unfolding pick
 pick-map f true x y = refl
 pick-map f false x y = refl
 
--- ---- without its notes a noting timeline is the timeline
+-- ---- a timeline with notes, without them, is the timeline
 
 module _ {Out : Type 0} (O : Ops Out) where
   thin-bare : (k : ℕ) (t : Noted (O .Store) (O .State)) → thin (noting O) k t .bytes ≡ thin O k (t .bytes)
@@ -97,7 +97,7 @@ module _ {A : Type 0} (i : ℕ) (x : Option A) (f : ℕ → Option A) where
   pub note-other : (j : ℕ) → ¬ (j ≡ i) → noteAt i x f j ≡ f j
   note-other j n = pick-false (eqb j i) x (f j) (ne-eqb j i n)
 
--- the laws over a store with notes: a slot gives the engine that is noted for it
+-- the laws over a store with notes: a slot holds the engine that is noted for it
 abbrev pub noted : {M : Automaton} {O : Ops (M .Out)} → Laws M O → Laws M (noting O)
 noted {M} {O} E = record {
   Mean = E .Mean;

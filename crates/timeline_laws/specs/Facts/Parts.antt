@@ -1,4 +1,4 @@
--- What a kind of engine gives beside its models, and the laws made of it: the store's laws come from two facts of its slots. Assumes nothing.
+-- The facts to prove for a kind of engine, and the laws that follow: the store's laws come from two facts about its slots. Assumes nothing.
 use Prim.Native.Nat.{ℕ, _+_, _≤_}
 use mathlib.Core.Path.{_≡_}
 use mathlib.Core.List.{List}
@@ -15,7 +15,7 @@ use Rattle.timeline_laws.specs.Meaning.{EngineMeaning}
 use Rattle.timeline_laws.specs.Facts.TableRun.{machine}
 use Rattle.timeline_laws.specs.Facts.Slots.{Layout, HoldsIn, saves-slots, saves-same, saves-other, moves-slots, moves-same, moves-other, restores-from}
 
--- for one table, and buffers that make slots of that size; the fields are those of Laws, where more is said of them
+-- for one table, and buffers that give slots of that size; the fields are those of Laws, which has comments on them
 pub record Parts (X : EngineMeaning) (m : Machine) (s : List ℕ) (table : TableOf m (tableOf m s)) (size : ℕ) : Type 1 where
   pub Mean : Type 0
   pub mean : X .kind .State → Mean
@@ -35,7 +35,7 @@ pub record Parts (X : EngineMeaning) (m : Machine) (s : List ℕ) (table : Table
   pub advances : (n : ℕ) (u : X .kind .State) → Fits u → X .kind .now u + n ≤ limit
       → Advance (machine m s table) Mean config next NoRoom n (mean u) (X .kind .advance m s n u .0) (mean (X .kind .advance m s n u .1))
   pub advance-fits : (n : ℕ) (u : X .kind .State) → Fits u → X .kind .now u + n ≤ limit → Fits (X .kind .advance m s n u .1)
-  -- a slot: what was packed fills it, and is unpacked into the buffers of any fitting engine
+  -- a packed engine fills its slot, and can be unpacked into the buffers of any fitting engine
   pub pack-length : (u : X .kind .State) (old : List ℕ) → Fits u → length old ≡ size → length (X .kind .pack m u old) ≡ size
   pub unpack-pack : (u t : X .kind .State) (old : List ℕ) → Fits u → Fits t → length old ≡ size
       → (v : X .kind .State) × (X .kind .unpack m (X .kind .pack m u old) (X .kind .now u) t ≡ some v) × X .Same m v u × (mean v ≡ mean u) × Fits v

@@ -1,4 +1,4 @@
--- One call over a kind of engine: what the statement claims of its result, and p after it. Assumes nothing.
+-- One call over a kind of engine: the statement's claims about its result, and p after it. Assumes nothing.
 use Prim.Native.Nat.{ℕ, _-_, _≤_, _<_, max}
 use mathlib.Core.Path.{_≡_, refl, sym, ap, _∙_, subst}
 use mathlib.Core.Logic.{_↔_}
@@ -76,7 +76,7 @@ module _ (X : EngineMeaning) (m : Machine) (s : List ℕ) (e : X .kind .State) (
   abbrev c : Config
   c = X .config m e
 
-  -- the timeline stands at p, with all that holds between calls
+  -- the timeline is at step p, and has the invariant between calls
   abbrev pub StandsAt : TimelineOf (X .kind) → ℕ → Type 0
   StandsAt = Inv E (E .mean e) (E .fits-good e (I .fits))
 
@@ -110,7 +110,7 @@ module _ (X : EngineMeaning) (m : Machine) (s : List ℕ) (e : X .kind .State) (
     (λ n. subst (λ b. E .NoRoom (iterate (E .next) (j - b) (E .mean e))) (sym base-is) (I .full-is (j - c .steps) .1 n)),
   )
 
-  -- ---- where the engine stands
+  -- ---- the engine's step and configuration
 
   module _ (u : TimelineOf (X .kind)) (p : ℕ) (i : StandsAt u p) where
     pub stands-now : X .kind .now (u .engine) ≡ p
@@ -125,7 +125,7 @@ module _ (X : EngineMeaning) (m : Machine) (s : List ℕ) (e : X .kind .State) (
     pub stands-held : heldOn X m s u ≡ afterSteps m s c p
     stands-held = sym (I .same-config (u .engine)) ∙ mean-held
 
-  -- the buffers keep their sizes, so the call at hand is the call with the first engine's slots
+  -- the buffers keep their sizes, so the call uses slots of the first engine's size
   agrees : (u : TimelineOf (X .kind)) (k : Call) → E .Fits (u .engine) → callOn (X .kind) m s u k ≡ call ops u k
   unfolding callOn
   agrees u k f = ap (λ z. call (opsOf (X .kind) m s z) u k) (I .same-size (u .engine) f)
@@ -237,7 +237,7 @@ module _ (X : EngineMeaning) (m : Machine) (s : List ℕ) (e : X .kind .State) (
     pub result : StandsAt u p → Result X m s c e u p k (callOn (X .kind) m s u k)
     result i = subst (Result X m s c e u p k) (sym (agrees u k (i .stands .fits))) (claimed i (ended i))
 
-    -- ---- p after it
+    -- ---- p after the call
 
     abbrev Next : Reply Outcome × TimelineOf (X .kind) → Type 0
     Next z = StandsAt (z .1) (stoppedAt (z .0) (movedIn m s c p k))

@@ -1,4 +1,4 @@
--- The store's seven laws for any engine whose slots are bytes of one slice, from two facts of its slot layout. Assumes nothing.
+-- The store's seven laws for any engine whose slots are bytes of one slice, from two facts about its slot layout. Assumes nothing.
 use Prim.Native.Nat.{ℕ, _/_, _<_}
 use mathlib.Core.Path.{_≡_, sym, ap, subst}
 use mathlib.Core.List.{List}
@@ -7,7 +7,7 @@ use lib.ListN.{length}
 use Rattle.store_bytes.specs.Model.{slotCount, slotOf, putSlot, moveSlot}
 use Rattle.store_bytes.specs.Facts.Slots.{slot-length, put-length, put-same, put-other, move-length, move-same, move-other}
 
--- How an engine is laid out in a slot. `pack` is given the slot's old bytes, for those that it leaves.
+-- How an engine is laid out in a slot. `pack` takes the slot's old bytes too, for those that it does not change.
 pub record Layout {State Mean : Type 0} (Fits : State → Type 0) (mean : State → Mean) (now : State → ℕ) (Same : State → State → Type 0) : Type 0 where
   pub size : ℕ
   pub pack : State → List ℕ → List ℕ
@@ -23,7 +23,7 @@ module _ {State Mean : Type 0} {Fits : State → Type 0} {mean : State → Mean}
   abbrev pub restoreFrom : ℕ → ℕ → State → List ℕ → Option State
   restoreFrom i p s t = L .unpack (slotOf (L .size) i t) p s
 
-  -- the bytes give that engine, whoever's buffers are filled
+  -- the bytes give that engine, in the buffers of any fitting engine
   abbrev pub Reads : List ℕ → State → Type 0
   Reads b x = (u : State) → Fits u → (v : State) × (L .unpack b (now x) u ≡ some v) × Same v x × (mean v ≡ mean x) × Fits v
 

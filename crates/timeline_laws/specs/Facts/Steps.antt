@@ -1,4 +1,4 @@
--- The engine's meanings at step k, against the table machine: both from the step count of the first on. Assumes nothing.
+-- The engine's meaning at step k and the table machine's configuration there, both from the step count of the first meaning on. Assumes nothing.
 use Prim.Native.Nat.{ℕ, zero, suc, _+_, _-_, _≤_, _<_, min, max}
 use mathlib.Core.Path.{_≡_, refl, sym, _∙_, ap, subst}
 use mathlib.Core.Logic.{_⊎_, inl, inr}
@@ -58,7 +58,7 @@ module _ {A : Type 0} (f : A → A) (b : ℕ) (a : A) where
 -- ---- the table machine's run from c on
 
 module _ (M : Automaton) (c : M .Config) where
-  -- its step count
+  -- the step count of c
   abbrev first : ℕ
   first = M .steps c
 
@@ -92,7 +92,7 @@ module _ (M : Automaton) (c : M .Config) where
       up : t - h + h ≡ t
       up = omega arith
 
-  -- and one that halts at h stays there
+  -- a machine that halts at h stays there
   pub reach-halts : (h t : ℕ) → first ≤ h → first ≤ t → M .Halted (run M c h) → ((j : ℕ) → first ≤ j → j < h → ¬ M .Halted (run M c j)) → reach M c t ≡ min t h
   reach-halts h t a b q r = go (decLe h t)
     where
@@ -115,7 +115,7 @@ module _ (M : Automaton) (c : M .Config) where
           let steps : reach M c (suc t) ≡ suc (reach M c t) = ap (M .steps) (run-suc t l) ∙ M .adds (run M c t) q in
           (omega (arith, i .0), omega (arith, i .1), ap (run M c) steps ∙ (run-suc (reach M c t) (i .0) ∙ (ap (M .step) (i .2) ∙ sym (run-suc t l))))
 
-  -- to s and then d on is to s + d
+  -- a run to s and then d steps more is a run to s + d
   pub run-on : (s d : ℕ) → first ≤ s → run M c (d + reach M c s) ≡ run M c (d + s)
   run-on s d l = sym (run-add d (reach M c s) (run-reach s l .0)) ∙ (ap (iterate (M .step) d) (run-reach s l .2) ∙ run-add d s l)
 
@@ -127,7 +127,7 @@ module _ (M : Automaton) (c : M .Config) where
       each zero = r
       each (suc k) = M .real-step (iterate (M .step) k c) (each k)
 
-  -- what never halts from a step on has not halted before
+  -- a machine that never halts from a step on has not halted before it
   pub never-any : (q : ℕ) → first ≤ q → ((n : ℕ) → ¬ M .Halted (iterate (M .step) n (run M c q))) → (n : ℕ) → ¬ M .Halted (run M c n)
   never-any q l f n h = go (decLe first n)
     where
@@ -222,7 +222,7 @@ module _ {M : Automaton} {O : Ops (M .Out)} (E : Laws M O) (x : E .Mean) (good :
       up : k - p + p ≡ k
       up = omega arith
 
-  -- a halt before t is there at t too
+  -- a machine that has halted at k has the same meaning at t
   pub halted-to : (k t : ℕ) → base E x ≤ k → k ≤ t → E .Good (at E x k) → M .Halted (E .config (at E x k)) → at E x t ≡ at E x k
   halted-to k t b l g q = subst (λ n. at E x n ≡ at E x k) up (stays-at k (t - k) b g q)
     where
@@ -269,7 +269,7 @@ module _ {M : Automaton} {O : Ops (M .Out)} (E : Laws M O) (x : E .Mean) (good :
             same = ap (at E x) p ∙ (at-suc E x (pos E x k) (i .low) ∙ (ap (E .next) (i .same) ∙ sym (at-suc E x k l)));
           }
 
-  -- either every step was made, or it has halted
+  -- either every step was made, or the machine has halted
   pub exact : (k : ℕ) → base E x ≤ k → Room E x k → (pos E x k ≡ k) ⊎ M .Halted (E .config (at E x k))
   exact = from-on (base E x) (λ k. Room E x k → (pos E x k ≡ k) ⊎ M .Halted (E .config (at E x k))) (λ r. inl (pos-base E x))
       (λ k l i r. go k l r (i (λ j a b. r j a (omega arith))) (M .halted? (E .config (at E x k))))
@@ -280,7 +280,7 @@ module _ {M : Automaton} {O : Ops (M .Out)} (E : Laws M O) (x : E .Mean) (good :
       go k l r (inl p) (no q) = inl (step-runs k l (good-at k l (λ j a b. r j a (omega arith))) (r k l (omega arith)) q ∙ ap suc p)
       go k l r (inr p) (no q) = absurd (q p)
 
-  -- where a step is full, every step before was made
+  -- where a step is full, every step before it was made
   pub pos-no-room : (k : ℕ) → base E x ≤ k → Room E x k → E .NoRoom (at E x k) → pos E x k ≡ k
   pos-no-room k l r n = go (exact k l r)
     where

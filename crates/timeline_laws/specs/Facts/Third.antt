@@ -1,4 +1,4 @@
--- The third demand, proved for every kind of engine whose engines meet the laws: from any engine value on, and so of fresh engines. Assumes nothing.
+-- The third demand, proved for every kind of engine whose engines meet the laws: from any engine value, and so for fresh engines. Assumes nothing.
 use Prim.Native.Nat.{ℕ, _+_, _-_, _*_, _≤_, _<_}
 use mathlib.Core.Path.{_≡_, refl, sym, ap, _∙_, subst}
 use mathlib.Core.Logic.{_↔_}
@@ -34,7 +34,7 @@ use Rattle.timeline_laws.specs.Instance.{Instance, Instances, Beginnings
 use Rattle.timeline_laws.specs.Facts.Results.{full-of, StandsAt, runs-is, reach-in, base-is, stands-now, stands-low, stands-held, result, next-stands}
 use Rattle.timeline_laws.specs.Facts.Twice.{twice-is}
 
--- an answer that is not lack of space leaves p to the rule
+-- after an answer other than full, the rule gives p
 not-stopped : (r : Reply Outcome) (q : ℕ) → ((n : ℕ) → ¬ (r ≡ answered (Out.Full n))) → stoppedAt r q ≡ q
 not-stopped (refused why) q f = refl
 not-stopped (answered (Out.Halted n x)) q f = refl
@@ -64,7 +64,7 @@ module _ (X : EngineMeaning) (m : Machine) (s : List ℕ) (e : X .kind .State) (
       roomy-place (callOn (X .kind) m s u k .1) (stoppedAt (callOn (X .kind) m s u k .0) (movedIn m s c p k)) ks (r .1)
       ∙ ap (λ q. placeIn m s c q ks) (not-stopped (callOn (X .kind) m s u k .0) (movedIn m s c p k) (r .0))
 
-  -- not halted, as the laws' run has it
+  -- the table machine has not halted, in the form that the laws use
   not-halted : (j : ℕ) → ¬ HaltedAt m s c j → ¬ Halted (tableOf m s) (runs M (E .config (E .mean e)) j)
   not-halted j q = subst (λ y. ¬ Halted (tableOf m s) y) (sym (runs-is X m s e I j)) q
 
@@ -121,7 +121,7 @@ module _ (X : EngineMeaning) (m : Machine) (s : List ℕ) (e : X .kind .State) (
 
   -- ---- notes
 
-  -- a noting timeline stands at p
+  -- a timeline with notes is at step p, and has the invariant
   abbrev NotedAt : NotedOf (X .kind) → ℕ → Type 0
   NotedAt = Inv (noted E) (E .mean e) (E .fits-good e (I .fits))
 
@@ -175,7 +175,7 @@ module _ (X : EngineMeaning) (m : Machine) (s : List ℕ) (e : X .kind .State) (
     new-stands = subst (StandsAt X m s e I v) (sym first-is)
         (subst (λ z. Inv E (E .mean e) (E .fits-good e (I .fits)) z (base E (E .mean e))) (n .is) (born-inv E most every e store (I .fits) (n .settings-in) (n .slots-in)))
 
-    -- what a noting timeline is at the start
+    -- a new timeline with notes has the invariant
     new-noted : NotedAt (newNoted (X .kind) v) (base E (E .mean e))
     new-noted = subst (λ z. NotedAt (newNoted (X .kind) z) (base E (E .mean e))) (n .is)
         (born-inv (noted E) most every e (record { bytes = store; note = λ j. none }) (I .fits) (n .settings-in) (n .slots-in))
@@ -208,7 +208,7 @@ demand-from X i m s y e most every store v n ks =
     let b : Begun (opsFor (X .kind) m s e) most every e store v = begun (opsFor (X .kind) m s e) most every e store v n in
     whole X m s e (i m s y e (b .checked)) most every store v b ks
 
--- a fresh engine holds the word's configuration
+-- for fresh engines, which hold the word's configuration
 pub demand : (X : EngineMeaning) → Instances X → Beginnings X → Demand X
 demand X i f m s w y b e q most every store v n ks = record {
   whole = subst (λ c. WholeList X m s c e v ks) (f m s w b e q) (demand-from X i m s y e most every store v n ks);

@@ -1,4 +1,4 @@
--- Forward a and then forward b is forward a + b: from what the statement claims of the three calls. Assumes nothing.
+-- Forward a and then forward b is forward a + b: from the statement's claims about the three calls. Assumes nothing.
 use Prim.Native.Nat.{ℕ, _+_, _-_, _≤_, _<_}
 use mathlib.Core.Path.{_≡_, sym, ap, _∙_, subst}
 use mathlib.Core.List.{List}
@@ -28,14 +28,14 @@ module _ (X : EngineMeaning) (m : Machine) (s : List ℕ) (e : X .kind .State) (
   abbrev M : Automaton
   M = machine m s (I .table)
 
-  -- the run as the laws have it
+  -- the configuration that e holds, by the laws
   abbrev d : Config
   d = I .laws .config (I .laws .mean e)
 
   same-first : c .steps ≡ d .steps
   same-first = sym (base-is X m s e I)
 
-  -- ---- the table machine: no more than t steps are made in t, and the rest goes on from there
+  -- ---- the table machine: its step count after t steps is at most t, and the run goes on from there
 
   reach-low : (t : ℕ) → c .steps ≤ t → (c .steps ≤ reachIn m s c t) × (reachIn m s c t ≤ t)
   reach-low t l =
@@ -68,7 +68,7 @@ module _ (X : EngineMeaning) (m : Machine) (s : List ℕ) (e : X .kind .State) (
     q-high : q ≤ p + a
     q-high = reach-low (p + a) (omega arith) .1
 
-    -- no target is below the start
+    -- the target of a forward call is not below the start
     forward-goal : (p n : ℕ) → c .steps ≤ p → goalIn m s c p (forward n) ≡ p + n
     forward-goal p n l = omega arith
 
@@ -96,7 +96,7 @@ module _ (X : EngineMeaning) (m : Machine) (s : List ℕ) (e : X .kind .State) (
     one : Answered u (a + b)
     one = once .accepts (omega arith)
 
-    -- the two ends
+    -- the configurations after the two calls, and after the one
     abbrev there : Config
     there = afterSteps m s c (reachIn m s c (goalIn m s c q (forward b)))
 

@@ -31,7 +31,7 @@ forward-to p n = by-test (leb p limit)
     (λ a. inr (omega (arith, leb-false p limit a), pick-false _ _ _ a))
 
 module _ (X : Kind) (m : Machine) (s : List ℕ) (w : TimelineOf X) (x : Reply Outcome × TimelineOf X) where
-  -- the slot's size is that of the buffers at hand
+  -- the lent buffers determine the slot's size
   pub call-on : (size : ℕ) (c : Call) → x ≡ call (opsOf X m s size) w c → X .slotSize m (w .engine) ≡ size → x ≡ callOn X m s w c
   unfolding callOn
   call-on size c p q = p ∙ ap (λ n. call (opsOf X m s n) w c) (sym q)
@@ -53,7 +53,7 @@ module _ (X : Kind) (m : Machine) (s : List ℕ) (w : TimelineOf X) (x : Reply O
     unfolding callOn
     back-on q = p ∙ (ap (λ k. call (opsFor X m s (w .engine)) w (seek k)) q ∙ sym (back-is (opsFor X m s (w .engine)) w n))
 
--- ---- seek: the check is that of the buffers at hand, and the code has their slot's size as n
+-- ---- seek: the check uses the slot's size of the lent buffers, which the code computes as n
 
 module _ (X : Kind) (m : Machine) (s : List ℕ) (w : TimelineOf X) (t : ℕ) (r : Checked) (checked : r ≡ callCheck (opsFor X m s (w .engine)) w t) where
   pub seek-none : (why : Refusal) → r ≡ Refused why → (refused why, w) ≡ callOn X m s w (seek t)

@@ -1,4 +1,4 @@
--- The refusals 14, 15 and 13 in their order, and what a value that passes 14 is like. Assumes nothing.
+-- Refusals 14, 15 and 13 in their order, and the bounds on the numbers of a value that passes 14. Assumes nothing.
 use mathlib.Core.Path.{_≡_, sym, _∙_}
 use mathlib.Core.Bool.{Bool, true, false}
 use Prim.Native.Nat.{ℕ, _-_, _≤_, _<_}

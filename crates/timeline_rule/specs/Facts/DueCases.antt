@@ -1,4 +1,4 @@
--- The timeline's own numbers, one fact for each way through the code: what is due, the refusal 14, thinning. Assumes nothing.
+-- The timeline's own numbers, one lemma for each way through the code: the step that is due, refusal 14, thinning. Assumes nothing.
 use Prim.Native.Nat.{ℕ, _+_, _-_, _*_, _/_, _≤_, _<_, min, max}
 use mathlib.Core.Path.{_≡_, sym, _∙_, ap}
 use mathlib.Core.Bool.{Bool, false, not}
@@ -26,7 +26,7 @@ safe-due v f l = by-test (leb (v .count) ((limit - v .first) / v .every))
       pick-false (leb (v .count) ((limit - v .first) / v .every)) (v .first + v .count * v .every) (limit + 1) q,
     ))
 
--- both uses of it in the loop, and the one in the test 14, may read it for `due`
+-- `safeDue` gives what `due` gives, in both its uses in the loop and in the test of refusal 14
 pub safe-min : (v : Times) (t : ℕ) → v .first ≤ limit → 1 ≤ v .every → t ≤ limit → min t (safeDue v) ≡ min t (due v)
 safe-min v t f l h = go (safe-due v f l)
   where
@@ -48,7 +48,7 @@ safe-leb v p f l h = go (safe-due v f l)
     go (inl q) = ap (leb p) q
     go (inr q) = ap (leb p) (q .1) ∙ (le-leb p (limit + 1) (omega arith) ∙ sym (le-leb p (due v) (omega arith)))
 
--- what the code of it computes stays in 64 bits
+-- the sum that the code computes fits in 64 bits
 pub due-small : (first count every : ℕ) → first ≤ limit → count ≤ (limit - first) / every → first + count * every ≤ limit
 due-small first count every f l = omega (arith, mul-le-mul-right every l, div-mul-le-self (limit - first) every)
 
@@ -70,13 +70,13 @@ due-near first count every d f l e = by-test (leb count ((limit - first) / every
     (λ q. omega (arith, e, due-small first count every f (leb-true count ((limit - first) / every) q)) ∙ sym (pick-true _ _ _ q))
     (λ q. omega (arith, e, div-lt-iff-lt-mul {k = every} l .0 (leb-false count ((limit - first) / every) q)) ∙ sym (pick-false _ _ _ q))
 
--- doubling: the interval of a value at which a slot is due is at most 2^62
+-- doubling fits: where a slot is due, the interval is at most 2^62
 pub double-fits : (v : Times) (p : ℕ) → 1 ≤ v .count → p ≤ limit → p ≡ due v → 2 * v .every ≤ 9223372036854775808
 double-fits v p c l q = omega (arith, mul-le-mul-right (v .every) c)
 
--- ---- the returns of the tests
+-- ---- the results of the tests
 
--- of a test that the code has made and passed
+-- the lower bound, from a test `within` that passed
 pub within-low : (r : Bool) (low high x : ℕ) → r ≡ within low high x → not r ≡ false → low ≤ x
 within-low r low high x e h = within-passed r low high x e h .0
 

@@ -1,4 +1,4 @@
--- Where an accepted call goes, for each way through the code: on, back to a slot, or nowhere; and what its check says. Assumes nothing.
+-- The moves of an accepted call, for each way through the code: on, back to a slot, or none; and what its check implies. Assumes nothing.
 use mathlib.Core.Path.{_≡_, refl, sym, _∙_, ap}
 use mathlib.Core.Bool.{true}
 use mathlib.Core.List.{List}
@@ -26,7 +26,7 @@ use Rattle.timeline_rule.specs.Model.Kind.{Kind, TimelineOf, opsOf}
 use Rattle.timeline_rule.specs.Invariants.{timelineOf, Sound, Shape, LoopOk, GoOk, rewindOf, wayOf}
 use Rattle.timeline_rule.specs.Facts.CheckCases.{times-shape}
 
--- the step of the slot to go back to
+-- the step of the slot to go back to is at most the target
 pub back-small : (v : Times) (t i : ℕ) → i ≡ slotFor t v → v .first ≤ t → v .first + i * v .every ≤ t
 back-small v t i q h =
     let m : i ≤ (t - v .first) / v .every = omega arith in
@@ -99,7 +99,7 @@ module _ (X : Kind) (m : Machine) (s : List ℕ) (size : ℕ) where
     unfolding newCheck
     new-first n x k z q = q ∙ (ap (λ i. firstCheck most every (length b / i)) k ∙ ap (λ c. checkedOn c (firstCheck most every (length b / size))) (sym z ∙ checked))
 
-  -- ---- what an accepted call may assume
+  -- ---- what the check of an accepted call implies
 
   pub record Passed (t : ℕ) (w : TimelineOf X) : Type 0 where
     pub fits : X .check m s (w .engine) ≡ Accepted
@@ -135,7 +135,7 @@ module _ (X : Kind) (m : Machine) (s : List ℕ) (size : ℕ) where
         let h : Shape (w .times) = times-shape (w .times) (X .now (w .engine)) (a .times) (E .low (w .engine) f) in
         record { rec = record { fits = f; shape = h; room = a .room }; start = omega arith; top = omega (arith, a .top, h .first-in) }
 
-  -- ---- what the parts of a call ask, from what it may assume
+  -- ---- the requirements of the parts of a call, from those of the call
 
   module _ (Fits : X .State → Type 0) (E : Sound X m s size Fits) (t : ℕ) (w : TimelineOf X) (ok : GoOk X size Fits t w) where
     pub to-low : X .now (w .engine) + 0 ≤ limit

@@ -1,4 +1,4 @@
--- What the proofs of a timeline's code need beside the theorem: gas that is enough, and calls by their targets. Nothing here supposes a fresh timeline. Assumes nothing.
+-- Lemmas that the proofs of a timeline's code need beside the theorem: enough gas, and calls by their targets. None requires a fresh timeline. Assumes nothing.
 use Prim.Native.Nat.{ℕ, zero, suc, _+_, _-_, _≤_, _<_, max}
 use mathlib.Core.Path.{_≡_, refl, sym, _∙_, ap, subst}
 use mathlib.Core.Bool.{Bool, true, false}
@@ -26,7 +26,7 @@ module _ {Out : Type 0} (O : Ops Out) (w : TimelineOver O) where
   unfolding call
   back-is n = refl
 
-  -- all targets over 2^62 are refused alike
+  -- all targets over 2^62 get the same refusal
   module _ (t : ℕ) (l : limit < t) where
     late : demand (leb t limit) Why.StepLimit Accepted ≡ Refused Why.StepLimit
     late = pick-false (leb t limit) Accepted (Refused Why.StepLimit) (lt-leb t limit l)
@@ -56,7 +56,7 @@ module _ {Out : Type 0} (O : Ops Out) (w : TimelineOver O) where
         by Accepted = pick-cases (timesOk (w .times) (O .now (w .engine))) inner (Refused Why.Settings) Same
             (λ _. pick-cases (ltb (w .times .most) (O .slots (w .store))) (Refused Why.StepLimit) (Refused Why.StoreSize) Same (λ _. refl) (λ _. refl)) (λ _. refl)
 
-  -- so where p + n passes 2^62, the sum need not be computed
+  -- so the code need not compute p + n where it is over 2^62
   pub forward-over : (n : ℕ) → limit < O .now (w .engine) + n → call O w (forward n) ≡ call O w (seek (limit + 1))
   unfolding call
   forward-over n l =
@@ -68,7 +68,7 @@ module _ {Out : Type 0} (O : Ops Out) (w : TimelineOver O) where
 -- ---- the loop
 
 module _ {Out : Type 0} (O : Ops Out) where
-  -- the end of the loop, or its next turn
+  -- whether the loop ends at w, after a turn that began at step n
   abbrev pub Done : ℕ → TimelineOver O → ℕ → Bool
   Done t w n = ended t (O .now (w .engine)) n
 
@@ -85,20 +85,20 @@ pub either : {A : Type 0} (P : A → Type 0) (b : Bool) (x y : A) → P x → P 
 either P b x y p q = pick-cases b x y P (λ _. p) (λ _. q)
 
 module _ {Out : Type 0} (O : Ops Out) where
-  -- recording leaves the engine
+  -- recording leaves the engine as it is
   pub record-engine : (w : TimelineOver O) → recordDue O w .engine ≡ w .engine
   unfolding recordDue recorded thinned
   record-engine w = either (λ (v : TimelineOver O). v .engine ≡ w .engine) (eqb (O .now (w .engine)) (due (w .times))) (recorded O w) w
       (either (λ (v : TimelineOver O). v .engine ≡ w .engine) (ltb (w .times .most) (w .times .count + 1)) _ _ refl refl) refl
 
--- all that the proofs of the code ask of an engine (a part of Laws): an advance keeps the engine fitting and does not go back
+-- all that the proofs of the code require of an engine (a part of Laws): an advance keeps the engine fitting and does not go back
 pub record Moves {Out : Type 0} (O : Ops Out) : Type 1 where
   pub Fits : O .State → Type 0
   pub advance-fits : (n : ℕ) (s : O .State) → Fits s → O .now s + n ≤ limit → Fits (O .advance n s .1)
   pub advance-climbs : (n : ℕ) (s : O .State) → Fits s → O .now s + n ≤ limit → O .now s ≤ O .now (O .advance n s .1)
 
 module _ {Out : Type 0} {O : Ops Out} (E : Moves O) where
-  -- one turn goes on from a step that is past the last, below the target
+  -- after one turn the engine fits and has not gone back
   pub record Strides (t : ℕ) (w : TimelineOver O) : Type 0 where
     pub fits : E .Fits (turned O t w .engine)
     pub climbs : O .now (w .engine) ≤ O .now (turned O t w .engine)
@@ -121,7 +121,7 @@ module _ {Out : Type 0} {O : Ops Out} (E : Moves O) where
       small : O .now v + n ≤ limit
       small = omega (arith, ap (O .now) (record-engine O w))
 
-  -- any two amounts of gas that are enough give the same
+  -- any two amounts of gas that are enough give the same result
   pub gas-enough : (g k t : ℕ) (w : TimelineOver O) → E .Fits (w .engine) → O .now (w .engine) ≤ t → t ≤ limit
       → t < g + O .now (w .engine) → t < k + O .now (w .engine) → advanceTo O g t w ≡ advanceTo O k t w
   unfolding advanceTo
@@ -139,7 +139,7 @@ module _ {Out : Type 0} {O : Ops Out} (E : Moves O) where
           → advanceTo O g t v ≡ advanceTo O k t v
       on c r ih = ih (r .fits) (omega (arith, c .0)) h (omega (arith, c .1, r .climbs)) (omega (arith, c .1, r .climbs))
 
-  -- one turn of the loop at the gas of the contract: a loop's invariant is that `advanceTo` from here is `advanceTo` from the start
+  -- one turn of the loop, with the gas of the contract. The loop's invariant: `advanceTo` from here gives what `advanceTo` gives from the start
   pub turn-is : (t : ℕ) (w : TimelineOver O) → E .Fits (w .engine) → O .now (w .engine) ≤ t → t ≤ limit
       → advanceTo O (gasFor O t w) t w ≡ pick (Done O t (turned O t w) (O .now (w .engine))) (stride O t (recordDue O w) .0, turned O t w)
       (advanceTo O (gasFor O t (turned O t w)) t (turned O t w))

@@ -42,7 +42,7 @@ module _ (X : Kind) (m : Machine) (s : List ℕ) (size most every : ℕ) (e : X 
   new-goes t z p = ap (λ u. (answered (timelineOf X e u (record { most = most; first = X .now e; count = 1; every = every })), u)) p
       ∙ ap (λ (y : Reply (TimelineOf X)). (y, storeAfter X y b)) (sym (same-new Accepted z))
 
--- the same, with the slot's size as the code has it
+-- the same, with the slot's size as the code computes it
 module _ (X : Kind) (m : Machine) (s : List ℕ) (most every : ℕ) (e : X .State) (b : List ℕ) (r : Checked) (checked : r ≡ newCheck (opsFor X m s e) most every e b) where
   pub new-passed : r ≡ Accepted → X .check m s e ≡ Accepted
   unfolding newCheck

@@ -95,7 +95,7 @@ module _ (X : Kind) (m : Machine) (s : List ℕ) (size : ℕ) (Fits : X .State �
           made : timelineOf X e t₂ v₂ ≡ timelineOf X e (thinStore size (oneMore v) u) (thinTimes (oneMore v))
           made j = timelineOf X e (kept j) (p .value j)
 
-  -- the timeline's numbers stay in shape
+  -- recording keeps the bounds on the timeline's numbers
   pub rec-shape : (w : TimelineOf X) → RecOk X size Fits w → Shape (recordDue O w .times)
   unfolding recordDue recorded thinned
   rec-shape w o = either (λ (x : TimelineOf X). Shape (x .times)) (eqb (X .now (w .engine)) (due (w .times))) (recorded O w) w
@@ -125,7 +125,7 @@ module _ (X : Kind) (m : Machine) (s : List ℕ) (size : ℕ) (Fits : X .State �
   rec-most w = either (λ (x : TimelineOf X). x .times .most ≡ w .times .most) (eqb (X .now (w .engine)) (due (w .times))) (recorded O w) w
       (either (λ (x : TimelineOf X). x .times .most ≡ w .times .most) (ltb (w .times .most) (w .times .count + 1)) _ _ refl refl) refl
 
-  -- ---- what a turn says
+  -- ---- the result of a turn
 
   abbrev pub moves : Moves O
   moves = record { Fits = Fits; advance-fits = E .advance-fits; advance-climbs = E .advance-climbs }

@@ -1,4 +1,4 @@
--- How an advance ends, by whether its run was out of fuel. Assumes nothing.
+-- The outcome of an advance whose run is out of fuel, and of any other. Assumes nothing.
 use mathlib.Core.Path.{_≡_, refl}
 use mathlib.Core.Bool.{true, false}
 use Rattle.notation.specs.Facts.Tests.{clash}

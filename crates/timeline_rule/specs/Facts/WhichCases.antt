@@ -1,4 +1,4 @@
--- Which call was made, where two numbers say which: its target, and the call as a seek there. Assumes nothing.
+-- The call given by two numbers: its target, and the call as a seek to that target. Assumes nothing.
 use mathlib.Core.Path.{_≡_, refl, _∙_, ap}
 use mathlib.Core.List.{List}
 use Prim.Native.Nat.{ℕ, zero, suc, _-_}

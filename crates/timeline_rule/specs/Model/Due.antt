@@ -1,4 +1,4 @@
--- The step at which the next slot is due, as the code computes it, and thinning by its two results. Definitions only.
+-- The step at which the next slot is due, as the code computes it; and what thinning makes of the value and of the store. Definitions only.
 use mathlib.Core.Path.{_≡_}
 use mathlib.Core.Bool.{Bool}
 use mathlib.Core.List.{List}
@@ -11,7 +11,7 @@ use Rattle.timeline_rule.specs.declared.Times.{Times}
 use Rattle.timeline_rule.specs.Model.Engine.{limit}
 use Rattle.timeline_rule.specs.Model.Timeline.{due, halved}
 
--- computed with no sum over 2^62 but the last: a forged value (512 slots, interval 2^63) has `due` over 2^64
+-- `due`, or 2^62 + 1 where `due` is over 2^62: a forged value (512 slots, interval 2^63) has `due` over 2^64, which the code cannot compute
 unfoldable pub dueOf : (first count every : ℕ) → ℕ
 dueOf first count every = pick (leb count ((limit - first) / every)) (first + count * every) (limit + 1)
 
@@ -21,21 +21,21 @@ safeDue v = dueOf (v .first) (v .count) (v .every)
 abbrev pub isDue : Times → (steps : ℕ) → Bool
 isDue v p = eqb p (due v)
 
--- where an advance from step p stops: at the target, or at the next slot where that comes first
+-- the step at which an advance from step p stops: the target, or that of the next slot where it comes first
 abbrev pub stopFor : (target : ℕ) → Times → (p : ℕ) → ℕ
 stopFor t v p = max (min t (due v)) p
 
--- the target of a forward call, or 2^62 + 1 where it is over 2^62: all such are refused alike
+-- the target of a forward call, or 2^62 + 1 where it is over 2^62: all such targets get the same refusal
 unfoldable pub forwardTo : (p n : ℕ) → ℕ
 forwardTo p n = pick (leb p limit) (pick (leb n (limit - p)) (p + n) (limit + 1)) (limit + 1)
 
--- and that of the call meant by two numbers
+-- the target of a call given by two numbers: `which` is 0 for seek, 1 for forward, else back
 unfoldable pub targetTo : (which p n : ℕ) → ℕ
 targetTo zero p n = n
 targetTo (suc zero) p n = forwardTo p n
 targetTo (suc (suc k)) p n = p - n
 
--- ---- one slot more, thinned where there are more than m: the value, and the store
+-- ---- thinning where more than m slots are recorded: the value, and the store
 
 unfoldable pub thinTimes : Times → Times
 thinTimes v = pick (ltb (v .most) (v .count)) (halved v) v
@@ -47,7 +47,7 @@ pub record Thinned (v r : Times) (size : ℕ) (t t₁ : List ℕ) : Type 0 where
   pub value : r ≡ thinTimes v
   pub store : t₁ ≡ thinStore size v t
 
--- what the code asks: numbers of which no sum wraps, and slots inside the store
+-- the requirements of the code: no sum of the numbers wraps, and the slots lie inside the store
 pub record TimesFit (v : Times) : Type 0 where
   pub first-in : v .first ≤ limit
   pub every-in : 1 ≤ v .every

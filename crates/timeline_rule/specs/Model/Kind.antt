@@ -1,4 +1,4 @@
--- A kind of engine, by the models of its operations, with slots of bytes; and what the contracts of a timeline over it cite. Definitions only.
+-- A kind of engine: the models of its operations, with slots of bytes; and the definitions that the contracts of a timeline over it cite. Definitions only.
 use Prim.Native.Nat.{ℕ}
 use mathlib.Core.Bool.{Bool, true, false}
 use mathlib.Core.Option.{Option}
@@ -11,7 +11,7 @@ use Rattle.store_bytes.specs.Model.{slotCount, slotOf, putSlot, moveSlot}
 use Rattle.timeline_rule.specs.Model.Engine.{Ops}
 use Rattle.timeline_rule.specs.Model.Timeline.{Reply, refused, answered, TimelineWith, Call, call, new}
 
--- how an advance ends: as its run did, but out of fuel by the never test's verdict there
+-- the outcome of an advance: that of its run, or the never test's verdict where the run is out of fuel
 abbrev pub verdictOr : (ran verdict : Outcome) → Outcome
 verdictOr (OutOfFuel n) v = v
 verdictOr (Halted n q) v = Halted n q
@@ -19,7 +19,7 @@ verdictOr (NeverHalts n p) v = NeverHalts n p
 verdictOr (Stopped n) v = Stopped n
 verdictOr (Full n) v = Full n
 
--- whether it was out of fuel
+-- whether a run is out of fuel
 abbrev pub spent : Outcome → Bool
 spent (OutOfFuel n) = true
 spent (Halted n q) = false
@@ -28,25 +28,25 @@ spent (Stopped n) = false
 spent (Full n) = false
 
 pub record Kind : Type 1 where
-  -- an engine's value with its lent buffers, and the buffers that a fresh engine is lent
+  -- an engine's value with its lent buffers; the buffers lent to a fresh engine
   pub State : Type 0
   pub Lent : Type 0
   -- a fresh engine, on a machine, its table and a word
   pub create : Machine → (table word : List ℕ) → Lent → Reply State
   -- the step count
   pub now : State → ℕ
-  -- the table check, 8, 11, 12
+  -- the table check, then refusals 8, 11 and 12
   pub check : Machine → (table : List ℕ) → State → Checked
   -- "Each advance runs without the never test, then tests it with fuel 0."
   pub advance : Machine → (table : List ℕ) → ℕ → State → Outcome × State
   -- "A slot is 128 bytes more than the cells buffers, or than 9 × the run places."
   pub slotSize : Machine → State → ℕ
-  -- an engine into a slot, given the slot's old bytes
+  -- the bytes of a slot in which an engine is saved, given the slot's old bytes
   pub pack : Machine → State → List ℕ → List ℕ
-  -- a slot's bytes, which must hold a fitting engine of the given step, into the buffers of an engine
+  -- reads a slot's bytes, which must hold a fitting engine of the given step, into the buffers of an engine
   pub unpack : Machine → List ℕ → ℕ → State → Option State
 
--- the timeline's operations, with slots of that size
+-- the operations that a timeline uses, with slots of `size` bytes
 abbrev pub opsOf : (X : Kind) → Machine → (table : List ℕ) → (size : ℕ) → Ops Outcome
 opsOf X m s size = record {
   State = X .State;
@@ -60,7 +60,7 @@ opsOf X m s size = record {
   restore = λ i p e b. X .unpack m (slotOf size i b) p e;
 }
 
--- ---- new timeline, seek, forward and back: the slot's size is that of the buffers at hand
+-- ---- new timeline, seek, forward and back: the lent buffers determine the slot's size
 
 abbrev pub TimelineOf : Kind → Type 0
 TimelineOf X = TimelineWith (X .State) (List ℕ)
@@ -71,7 +71,7 @@ opsFor X m s e = opsOf X m s (X .slotSize m e)
 unfoldable pub newOn : (X : Kind) → Machine → (table : List ℕ) → (most every : ℕ) → X .State → List ℕ → Reply (TimelineOf X)
 newOn X m s most every e store = new (opsFor X m s e) most every e store
 
--- a new timeline, and the store as it is left
+-- the store after `newOn`
 abbrev pub storeAfter : (X : Kind) → Reply (TimelineOf X) → List ℕ → List ℕ
 storeAfter X (refused why) t = t
 storeAfter X (answered w) t = w .store

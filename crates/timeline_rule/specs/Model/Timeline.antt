@@ -18,7 +18,7 @@ use Rattle.timeline_rule.specs.Model.Engine.{limit, Ops}
 pub data Call : Type 0 where
   seek forward back : ℕ → Call
 
--- the call meant by two numbers: 0 seek, 1 forward, else back
+-- the call given by two numbers: `which` is 0 for seek, 1 for forward, else back
 abbrev pub callFor : (which number : ℕ) → Call
 callFor zero n = seek n
 callFor (suc zero) n = forward n
@@ -50,7 +50,7 @@ timesOk t p =
     both (within 1 512 (t .most))
     (both (within 1 9223372036854775808 (t .every)) (both (within 1 (t .most) (t .count)) (within (t .first) (due t) p)))
 
--- "14 ..; 15 a store under m + 1 slots", of a new timeline; and "13 target over 2^62", of a call at step p
+-- the refusals of a new timeline: "14 ..; 15 a store under m + 1 slots"; a call at step p has these, then "13 target over 2^62"
 abbrev pub firstCheck : (most every slots : ℕ) → Checked
 firstCheck m k n = demand (newOk m k) Why.Settings (demand (ltb m n) Why.StoreSize Accepted)
 
@@ -66,7 +66,7 @@ slotFor target t = min ((target - t .first) / t .every) (t .count - 1)
 abbrev pub slotStep : (target : ℕ) → Times → ℕ
 slotStep target t = t .first + slotFor target t * t .every
 
--- one slot more; and "keeps those of even index and doubles the interval"
+-- the value with one slot more; and that of thinning, which "keeps those of even index and doubles the interval"
 abbrev pub oneMore : Times → Times
 oneMore t = record { most = t .most; first = t .first; count = t .count + 1; every = t .every }
 
@@ -115,7 +115,7 @@ module _ {Out : Type 0} (O : Ops Out) where
   abbrev pub stride : ℕ → TimelineOver → Out × O .State
   stride target w = O .advance (stopAt target w - O .now (w .engine)) (w .engine)
 
-  -- one turn: record if due, and go on
+  -- one turn: records if a slot is due, then advances
   abbrev pub turned : ℕ → TimelineOver → TimelineOver
   turned target w = withEngine (recordDue w) (stride target (recordDue w) .1)
 
@@ -127,7 +127,7 @@ module _ {Out : Type 0} (O : Ops Out) where
       let on : Out × TimelineOver = advanceTo gas target v in
       pick (ended target (O .now (v .engine)) (O .now (w .engine))) (stride target (recordDue w) .0, v) on
 
-  -- gas that is enough
+  -- enough gas to reach the target
   abbrev pub gasFor : ℕ → TimelineOver → ℕ
   gasFor target w = suc (target - O .now (w .engine))
 
@@ -166,7 +166,7 @@ module _ {Out : Type 0} (O : Ops Out) where
   onCheck (Refused why) w done = (refused why, w)
   onCheck Accepted w done = done
 
-  -- a call: the answer, and what is handed back. "A target below the start counts as the start."
+  -- a call: its answer, and the timeline handed back. "A target below the start counts as the start."
   unfoldable pub call : TimelineOver → Call → Reply Out × TimelineOver
   call w c =
       let t : ℕ = target (O .now (w .engine)) c in

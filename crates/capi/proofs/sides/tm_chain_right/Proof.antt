@@ -1,5 +1,5 @@
--- `tm_chain_right` meets its contract: a walk of its MIR, by hand. All that is decided is in `right` and in the covered functions that read and write the numbers;
--- `runs` is given to `right` for good, `out` to `put_listed`, each at its own lifetime, share and name. `tm_chain_left` has the same walk. Assumes nothing.
+-- `tm_chain_right` meets its contract: a hand proof along its MIR. `right` and the covered functions that read and write the numbers make all decisions. `runs` is
+-- given to `right` for good, `out` to `put_listed`, each with its own lifetime, share and name. `tm_chain_left` has the same proof. Assumes nothing.
 use mathlib.Core.Path.{_≡_, refl, _∙_, ap, subst}
 use Prim.Native.Nat.{ℕ, _<_, _^_}
 use mathlib.Core.List.{[], _∷_, List}
@@ -150,7 +150,7 @@ module _ {M : Type 1} (𝓤 : URA M) (H : Heap 𝓤) (A : Atoms 𝓤) (W : Given
   abbrev vals : List Val × (List Val × (List Val × (List Val × (List Val × (List Val × (List Val × (List Val × (List Val × (List Val × (List Val × (List Val × (List Val × (List Val × Unit {0})))))))))))))
   vals = (vint w64 n₁ ∷ [], (vint w64 n₂ ∷ [], (vint w64 n₃ ∷ [], (vint w64 n₄ ∷ [], (s₁ ∷ [], (s₂ ∷ [], (s₃ ∷ [], (s₄ ∷ [], (s₅ ∷ [], (vint w16 k ∷ [], (vint w8 u ∷ [], (vptr (y .ptr .0) (y .ptr .1) ∷ [], (s ∷ [], (vptr (g .ptr .0) (g .ptr .1) ∷ [], tt))))))))))))))
 
-  -- the machine and the engine that the numbers say, the answer, and their machine values
+  -- the machine and the engine that the numbers describe, the answer, and their machine values
   abbrev m : Machine
   m = machineOf n₁ n₂ n₃ n₄
 
@@ -247,7 +247,7 @@ module _ {M : Type 1} (𝓤 : URA M) (H : Heap 𝓤) (A : Atoms 𝓤) (W : Given
       owned ! Ma.the-row (Is Ma.the-row) (LL.makes Ma.the-type Ma′.the-plain 𝓤 H A) m _ is-m $ fjoin ! $ owned ! Ch.the-row (Is Ch.the-row) (LL.makes Ch.the-type Ch′.the-plain 𝓤 H A) c _ is-c $ fjoin ! $
       move ! (1 ∷ 0 ∷ []) $ join ! $ frame ! $ done !
 
-  -- what it says of the answer and of the last list
+  -- its claim about the answer and about the last list
   abbrev Listing : Listed → List Run → Type 0
   Listing r zs = (r ≡ told) × (zs ≡ rightInto m (x₁ .now) σ ys)
 
@@ -318,7 +318,7 @@ module _ {M : Type 1} (𝓤 : URA M) (H : Heap 𝓤) (A : Atoms 𝓤) (W : Given
     tells told-is zs e l =
         assigns ! (addr ! (from ! (hop ! (look ! 16 refl) (stop !)))) (from ! (stop !)) (init ! 4 refl (tt, tt)) $
         move ! (2 ∷ 3 ∷ []) $ use2 W (raw (Put 𝓤 H A mem run .pre to-put)) (put-asked told-is) $
-        -- [what tell_listed asks; Toks₂; the last list; the locals at 3]
+        -- [what put_listed asks; Toks₂; the last list; the locals at 3]
         calls-at ! fm (Put 𝓤 H A mem run) put-known to-put (and-then ! (load ! (from ! (stop !)) (look ! 3 refl)) (and-then ! (load ! (from ! (stop !)) (look ! 9 refl)) (no-more !))) (λ w.
         use1 W (later (some (λ (r : ℕ). (Tok₃ ⊛ ‵ (u8 .own r (w ∷ []))) ⊛ raw (ensured 𝓤 H A put-listed.ended (put-listed.clauses 𝓤 H A mem run) (κ₃, tt) put-args tt r)))) (id⊢ 𝓤 _) $ await ! tt $ pick ! (λ r.
         split ! $ move ! (1 ∷ []) $ use1 W (some (λ (ws : List ℕ × (Unit {0} × Unit {0})). ‵ (lasts put-listed.ended (κ₃, tt) put-args ws) ⊛ raw (fact 𝓤 (Told r (ws .0))))) (id⊢ 𝓤 _) $ pick ! (λ ws.

@@ -5,22 +5,18 @@ use Rattle.capi_numbers.proofs.answers.put_place.Tie as tie
 use Rattle.capi_numbers.proofs.answers.put_place.Reads as reads
 use Rattle.capi_numbers.proofs.answers.put_place.Lts as lts
 
--- src/numbers.rt:104:19
 enum-known-place : tie.Need-enum-known-place
 enum-known-place c = search needs
 
--- src/numbers.rt:105:13
 element-write-xs : tie.Need-element-write-xs
 element-write-xs c = search needs
 
 enum-told : tie.Need-enum-told
 enum-told c = search needs
 
--- src/numbers.rt:100:1
 returns : tie.Need-returns
 returns c = rw (c .before .place .given .1) refl
 
--- src/numbers.rt:100:1
 returns-2 : tie.Need-returns-2
 returns-2 c = search needs
 

@@ -1,4 +1,4 @@
--- `left` meets its contract: a walk of its MIR, by hand. All that is decided is in the covered `left_check` and `written`;
+-- `left` meets its contract: a walk of its MIR, by hand. The covered functions `left_check` and `written` make every decision;
 -- `out` is given to `fill` for good, at its own lifetime, share and name. `right` has the same walk. Assumes nothing.
 use mathlib.Core.Path.{_≡_, refl, _∙_, ap, subst}
 use Prim.Native.Nat.{ℕ, _<_, _≤_, _^_}
@@ -193,7 +193,7 @@ module _ {M : Type 1} (𝓤 : URA M) (H : Heap 𝓤) (A : Atoms 𝓤) (W : Given
       move ! (2 ∷ 0 ∷ []) $ join ! $ move ! (3 ∷ 0 ∷ []) $ join ! $ move ! (4 ∷ 0 ∷ []) $ join ! $ move ! (5 ∷ 0 ∷ []) $ join ! $
       move ! (2 ∷ 1 ∷ []) $ join ! $ move ! (2 ∷ 0 ∷ []) $ join ! $ move ! (2 ∷ 0 ∷ []) $ join ! $ move ! (2 ∷ 0 ∷ []) $ join ! $ join ! $ done !
 
-  -- structs by value own facts only, which are made anew where they are asked for
+  -- structs by value own facts only, which are made again where they are required
   own-c : ent 𝓤 (emp 𝓤) (sem 𝓤 H A (Ch.the-row .own c (LL.vals Ch.the-type Ch′.the-laws c)))
   own-c = (LL.makes Ch.the-type Ch′.the-plain) 𝓤 H A c _ is-c
 

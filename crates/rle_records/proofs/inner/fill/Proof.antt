@@ -1,5 +1,5 @@
--- `fill` meets its contract: a walk of its MIR, by hand, with the loop. The borrow of `out` is opened once, before the
--- loop, and closed once, after it; the two plain slices are only passed on, to the covered `run_at`. Assumes nothing.
+-- `fill` meets its contract: a hand proof over its MIR, with the loop. The borrow of `out` is opened once, before the
+-- loop, and closed once, after it; the two plain slices are only passed on to `run_at`, which is proved. Assumes nothing.
 use mathlib.Core.Path.{_≡_, refl, sym, ap, subst}
 use mathlib.Core.Bool.{Bool, true, false, not}
 use Prim.Native.Nat.{ℕ, _<_, _≤_, _-_, _*_, _+_, _^_, zero-le}
@@ -150,7 +150,7 @@ module _ {M : Type 1} (𝓤 : URA M) (H : Heap 𝓤) (A : Atoms 𝓤) (W : Given
       qed W (Tok ∷ ‵ (owns (ShrSlice (named 0) κ₁ u8 ∷ ShrSlice (named 0) κ₁ u64 ∷ usize ∷ []) (passed i) (s₁ ∷ [], (s₂ ∷ [], (vint w64 i ∷ [], tt)))) ∷ []) ∵
       says ! (lt-of-lt-of-le less in₁, lt-of-lt-of-le less in₂) $ frame ! $ done !
 
-  -- the plain slices are Copy: what they own is had twice, and one copy is kept
+  -- the plain slices are Copy: what they own is duplicated, and one copy is kept
   apart : (i : ℕ) → i < n → i < 2 ^ 64 → ent 𝓤 (⋆ 𝓤 H A (Tok ∷ ‵ Lens ∷ ‵ Sym ∷ [])) (⋆ 𝓤 H A ((raw (RunAt 𝓤 H A mem run .pre (to-run i)) ⊛ (‵ Lens ⊛ ‵ Sym)) ∷ []))
   apart i less fits =
       qed W (Tok ∷ ‵ Lens ∷ ‵ Sym ∷ []) ∵ move ! (1 ∷ []) $ use1 W (‵ Lens ⊛ ‵ Lens) (shr-slice-copy 𝓤 H A W (named 0) κ₁ u64 .twice x₂ (s₂ ∷ [])) $ split ! $
@@ -221,7 +221,7 @@ module _ {M : Type 1} (𝓤 : URA M) (H : Heap 𝓤) (A : Atoms 𝓤) (W : Given
     abbrev Turned : Upto → Out → SProp 𝓤
     Turned i = afterTurn 𝓤 H (Below 𝓤 H A Nearer At i) Left
 
-    -- a turn that lays one run
+    -- a turn that writes one run
     more : (i : Upto) → i .0 < n → Sq W (At i) (runs C Λ En pieces.turn-1 (anyQ (Turned i)))
     unfolding afterTurn
     more i less =

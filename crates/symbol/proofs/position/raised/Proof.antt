@@ -1,4 +1,4 @@
--- `raised` meets its contract: each half of the signed numbers by what its test says. Assumes nothing.
+-- `raised` meets its contract: one case for each half of the signed numbers. Assumes nothing.
 use native.Mathlib.Omega.{arith}
 use lib.IntN.{negsuc, _-ℤ_}
 use mir.Syntax.{w64}
