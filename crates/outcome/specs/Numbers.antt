@@ -1,6 +1,7 @@
 -- For each answer enum, document 01's number and values of each of its cases. Definitions only.
 use Prim.Native.Nat.{ℕ}
 use mathlib.Core.Bool.{Bool, true, false}
+use mathlib.Core.Option.{Option, some}
 use Rattle.symbol.specs.Kinds.{dirNumber}
 use Rattle.symbol.specs.declared.State.{State}
 use Rattle.outcome.specs.declared.Status.{Status}
@@ -26,9 +27,10 @@ abbrev pub proofNumber : NonHaltProof → ℕ
 proofNumber (StayLoop q) = 0
 proofNumber (ChainToInfinity q d) = 1
 
-abbrev pub proofState : NonHaltProof → State
-proofState (StayLoop q) = q
-proofState (ChainToInfinity q d) = q
+-- the state that is never left, of a pattern that has one
+abbrev pub proofState : NonHaltProof → Option State
+proofState (StayLoop q) = some q
+proofState (ChainToInfinity q d) = some q
 
 -- "Halted (steps, state), OutOfFuel (steps), NeverHalts (steps, proof), Stopped (steps). The port adds Full (steps)."
 abbrev pub outcomeNumber : Outcome → ℕ

@@ -2,6 +2,7 @@
 use symbol::Dir;
 use symbol::State;
 ghost use mathlib.Core.Path.{_≡_};
+ghost use mathlib.Core.Option.{some};
 ghost use Rattle.outcome.specs.Numbers.{statusNumber, proofNumber, proofState, outcomeNumber, stepsOf, isHalted, values, valuesOf, refusalNumber, placeOf};
 
 // The result of one step.
@@ -46,7 +47,7 @@ impl NonHaltProof {
 
     // The state that is never left.
     pub fn state(self) -> State
-        ensures { λ r. ⌜ r ≡ proofState self ⌝ }
+        ensures { λ r. ⌜ some r ≡ proofState self ⌝ }
     {
         match self {
             NonHaltProof::StayLoop { state } => state,

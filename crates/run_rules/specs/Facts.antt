@@ -1,2 +1,3 @@
 pub mod RunCases
 pub mod AnswerCases
+pub mod Simulation

@@ -1,4 +1,3 @@
-pub mod Growth
 pub mod Fits
 pub mod Cells
 pub mod CellPlaces

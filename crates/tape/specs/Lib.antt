@@ -1,4 +1,3 @@
-pub mod Growth
 pub mod Model
 pub mod Fits
 pub mod Answers

@@ -82,7 +82,7 @@ stoppedAt (answered (Out.Full n)) q = n
 abbrev pub Numbers : Outcome → Config → Type 0
 Numbers (Out.Halted n q) c = (n ≡ c .steps) × (q ≡ stateOf (c .state))
 Numbers (Out.OutOfFuel n) c = n ≡ c .steps
-Numbers (Out.NeverHalts n p) c = (n ≡ c .steps) × (proofState p ≡ stateOf (c .state))
+Numbers (Out.NeverHalts n p) c = (n ≡ c .steps) × (proofState p ≡ some (stateOf (c .state)))
 Numbers (Out.Stopped n) c = ⊥
 Numbers (Out.Full n) c = n ≡ c .steps
 

@@ -24,7 +24,7 @@ use Rattle.table_machine.specs.Tables.{tableOf}
 use Rattle.table_machine.specs.Facts.Run.{not-defined}
 use Rattle.table_machine.specs.Facts.Verdict.{verdict-unique}
 use Rattle.tape.specs.declared.Tape.{Tape}
-use Rattle.tape.specs.Growth.{extra}
+use Rattle.tape_cells.specs.Facts.Growth.{extra-none, none-extra}
 use Rattle.tape.specs.Model.Moves.{Held, held, noTape, leaves, roomFor}
 use Rattle.run_rules.specs.declared.StopRule.the-variants as Rule
 use Rattle.run_checks.specs.declared.inner.look.Look.{Look}
@@ -50,26 +50,15 @@ off-holds t L e = eq-eqb _ _ e
 off-holds t R e = eq-eqb _ _ e
 off-holds t N e = absurd e
 
--- the growth has no room exactly where twice the length passes the buffer
-extra-none : (len cap : ℕ) → 1 ≤ len → leb 1 (extra len cap) ≡ false → cap < 2 * len
-unfolding extra
-extra-none len cap some = pick-cases (leb (len + len) cap) len 0 (λ n. leb 1 n ≡ false → cap < 2 * len)
-    (λ t e. absurd (omega (arith, leb-false 1 len e)))
-    (λ t e. omega (arith, leb-false (len + len) cap t))
-
-none-extra : (len cap : ℕ) → cap < 2 * len → leb 1 (extra len cap) ≡ false
-unfolding extra
-none-extra len cap l = pick-cases (leb (len + len) cap) len 0 (λ n. leb 1 n ≡ false) (λ t. absurd (omega (arith, leb-true (len + len) cap t))) (λ t. lt-leb 1 0 (omega arith))
-
 tape-full : (h : Held) (d : Dir) → h .tape .head < h .tape .len → roomFor (h .tape) (length (h .cells)) d ≡ false → TapeFull h d
 unfolding roomFor
 tape-full h d in-cells = pick-cases (leaves (h .tape) d) _ _ (λ b. b ≡ false → TapeFull h d)
-    (λ t e. record { off = off-says (h .tape) d t; passes = extra-none (h .tape .len) (length (h .cells)) (omega arith) e })
+    (λ t e. record { off = off-says (h .tape) d t; passes = omega (arith, extra-none (h .tape .len) (length (h .cells)) (omega arith) e) })
     (λ t e. absurd (clash refl e))
 
 full-tape : (h : Held) (d : Dir) → TapeFull h d → roomFor (h .tape) (length (h .cells)) d ≡ false
 unfolding roomFor
-full-tape h d f = pick-true _ _ _ (off-holds (h .tape) d (f .off)) ∙ none-extra (h .tape .len) (length (h .cells)) (f .passes)
+full-tape h d f = pick-true _ _ _ (off-holds (h .tape) d (f .off)) ∙ none-extra (h .tape .len) (length (h .cells)) (omega (arith, f .passes))
 
 -- ---- a tape that the machine has or lacks; one that it lacks never moves
 

@@ -9,7 +9,7 @@ use Rattle.notation.specs.Position.{_⊖_}
 use Rattle.machine.specs.Layout.{actionAt, entryAt}
 use Rattle.machine.specs.Model.Check.{entryOk, entriesCheck, sizeCheck, tableCheck}
 use Rattle.machine.specs.Model.Word.{symbolsCheck, wordCheck}
-use Rattle.tape.specs.Growth.{extra}
+use Rattle.tape_cells.specs.Growth.{extra}
 use Rattle.tape.specs.Model.Moves.{blanked, laid, movedUp, freshOf, readOf, leaves, roomFor, grownBy, shiftOf, moveOf, actOf}
 use Rattle.tape.specs.Fits.{tapeFits}
 use Rattle.tape.specs.Model.Questions.{blankBeyond, countOf}

@@ -2,14 +2,12 @@
 use mathlib.Core.Path.{_≡_, refl, ap, _∙_, subst⁻¹}
 use mathlib.Core.Bool.{Bool, true, false}
 use mathlib.Core.List.{List}
-use Prim.Native.Nat.{ℕ, zero, suc, _+_}
+use Prim.Native.Nat.{ℕ, _+_}
 use lib.Dec.{eqb}
 use Rattle.notation.specs.Choice.{pick, both}
 use Rattle.symbol.specs.declared.State.{State}
 use Rattle.symbol.specs.declared.Dir.{Dir}
-use Rattle.outcome.specs.declared.NonHaltProof.{NonHaltProof}
 use Rattle.outcome.specs.declared.NonHaltProof.the-variants.{StayLoop, ChainToInfinity}
-use Rattle.outcome.specs.declared.Outcome.the-variants.{Halted, OutOfFuel, NeverHalts, Stopped, Full}
 use Rattle.outcome.specs.declared.Status.the-variants as Step
 use Rattle.machine.specs.declared.Machine.{Machine}
 use Rattle.machine.specs.declared.Action.{Action}
@@ -21,7 +19,9 @@ use Rattle.tape.specs.Facts.Moves.{act-safe}
 use Rattle.tape.specs.Model.Questions.{blankBeyond}
 use Rattle.run_checks.specs.declared.inner.look.Look.{Look}
 use Rattle.run_checks.specs.declared.inner.look.Look.the-variants.{Halt, Never, Go}
-use Rattle.sim.specs.Model.Engine.{Task, Conf, tape0, tape1, tape2, End, onLook, staysAll, loopOf, judgeOf, lookOn, entryOf, lookWith, lookOf, matches, haltedEnd, neverEnd, fuelEnd, fullEnd, stoppedEnd, roomsOf, roomyOf, stepOf, runWith, runOf, Once, once, onceOf}
+use Rattle.run_rules.specs.Simulation.{Simulation}
+use Rattle.run_rules.specs.Facts.Simulation.{run-related}
+use Rattle.sim.specs.Model.Engine.{Task, Conf, tape0, tape1, tape2, End, end, onLook, staysAll, loopOf, judgeOf, lookOn, entryOf, lookWith, matches, roomsOf, roomyOf, stepOf, stepsOf, runOf, Once, once, onceOf}
 use Rattle.sim_refines.specs.Facts.LiveCells.{Alike, alike-reads, read-same, beyond-same, act-alike}
 
 -- ---- two engines side by side: all three tapes are alike, and safe
@@ -82,55 +82,20 @@ pub record SameEnd (x y : End) : Type 0 where
   pub outcome : x .outcome ≡ y .outcome
   pub at : Beside (x .at) (y .at)
 
-module _ (σ τ : Conf) (b : Beside σ τ) where
-  halted-same : SameEnd (haltedEnd σ) (haltedEnd τ)
-  halted-same = record { outcome = λ i. Halted (b .steps i) (b .state i); at = b }
-
-  never-same : (p : NonHaltProof) → SameEnd (neverEnd σ p) (neverEnd τ p)
-  never-same p = record { outcome = ap (λ n. NeverHalts n p) (b .steps); at = b }
-
-  fuel-same : SameEnd (fuelEnd σ) (fuelEnd τ)
-  fuel-same = record { outcome = ap OutOfFuel (b .steps); at = b }
-
-  full-same : SameEnd (fullEnd σ) (fullEnd τ)
-  full-same = record { outcome = ap Full (b .steps); at = b }
-
-  stopped-same : SameEnd (stoppedEnd σ) (stoppedEnd τ)
-  stopped-same = record { outcome = ap Stopped (b .steps); at = b }
-
 module _ (k : Task) where
-  -- the end of a run that follows entry a, by the tests of space and of the stop rule
-  abbrev goOn : ℕ → Conf → Action → (roomy stops : Bool) → End
-  goOn f σ a roomy stops = pick roomy (pick stops (stoppedEnd (stepOf σ a)) (runOf k f (stepOf σ a))) (fullEnd σ)
+  beside : Simulation (stepsOf k) (stepsOf k) Beside
+  beside = record {
+    state = λ σ τ b. b .state;
+    steps = λ σ τ b. b .steps;
+    look = λ σ τ b. look-same σ τ b (k .machine) (k .table) (k .proves);
+    roomy = λ σ τ b a. roomy-same σ τ b a;
+    stops = λ σ τ b i. matches (k .rule) (b .state i);
+    step = λ σ τ b a r. step-beside σ τ b a;
+  }
 
   pub run-beside : (f : ℕ) (σ τ : Conf) → Beside σ τ → SameEnd (runOf k f σ) (runOf k f τ)
-  unfolding runOf runWith pick
-  run-beside zero σ τ b = subst⁻¹ (λ x. SameEnd (on σ x) (on τ (lookOf k τ))) (look-same σ τ b (k .machine) (k .table) (k .proves)) (by (lookOf k τ))
-    where
-      on : Conf → Look → End
-      on σ x = onLook x (haltedEnd σ) (neverEnd σ) (λ a. fuelEnd σ)
-
-      by : (x : Look) → SameEnd (on σ x) (on τ x)
-      by Halt = halted-same σ τ b
-      by (Never p) = never-same σ τ b p
-      by (Go a) = fuel-same σ τ b
-  run-beside (suc f) σ τ b =
-      subst⁻¹ (λ x. SameEnd (on σ x) (on τ (lookOf k τ))) (look-same σ τ b (k .machine) (k .table) (k .proves)) (by (λ a. run-beside f (stepOf σ a) (stepOf τ a)) (lookOf k τ))
-    where
-      on : Conf → Look → End
-      on σ x = onLook x (haltedEnd σ) (neverEnd σ) (λ a. goOn f σ a (roomyOf σ a) (matches (k .rule) (σ .sim .state)))
-
-      go : (a : Action) → SameEnd (runOf k f (stepOf σ a)) (runOf k f (stepOf τ a)) → (roomy stops : Bool) → SameEnd (goOn f σ a roomy stops) (goOn f τ a roomy stops)
-      go a r false stops = full-same σ τ b
-      go a r true true = stopped-same (stepOf σ a) (stepOf τ a) (step-beside σ τ b a)
-      go a r true false = r
-
-      by : ((a : Action) → Beside (stepOf σ a) (stepOf τ a) → SameEnd (runOf k f (stepOf σ a)) (runOf k f (stepOf τ a))) → (x : Look) → SameEnd (on σ x) (on τ x)
-      by rest Halt = halted-same σ τ b
-      by rest (Never p) = never-same σ τ b p
-      by rest (Go a) = subst⁻¹ (λ e. SameEnd e (goOn f τ a (roomyOf τ a) (matches (k .rule) (τ .sim .state))))
-          (λ i. goOn f σ a (roomy-same σ τ b a i) (matches (k .rule) (b .state i)))
-          (go a (rest a (step-beside σ τ b a)) (roomyOf τ a) (matches (k .rule) (τ .sim .state)))
+  unfolding runOf
+  run-beside = run-related (stepsOf k) (stepsOf k) Beside beside end end SameEnd (λ σ τ o b. record { outcome = refl; at = b })
 
 pub record SameOnce (x y : Once) : Type 0 where
   pub status : x .status ≡ y .status

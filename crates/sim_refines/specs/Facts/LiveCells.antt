@@ -22,8 +22,8 @@ use Rattle.symbol.specs.declared.Dir.{Dir}
 use Rattle.symbol.specs.declared.Dir.the-variants.{L, R, N}
 use Rattle.tape.specs.declared.Tape.{Tape}
 use Rattle.tape.specs.declared.Spot.the-variants.{At, Nowhere}
-use Rattle.tape.specs.Growth.{extra}
-use Rattle.tape.specs.Facts.Growth.{extra-within}
+use Rattle.tape_cells.specs.Growth.{extra}
+use Rattle.tape_cells.specs.Facts.Growth.{extra-within}
 use Rattle.tape.specs.Model.Moves.{Held, held, readOf, leaves, grownBy, growOf, shiftOf, shifted, moveOf, actOf}
 use Rattle.tape.specs.Fits.{shapeFits, tapeFits}
 use Rattle.tape.specs.Model.Questions.{blankAt, blankBeyond, cellOf, firstWritten, lastWritten, spanOf, nonBlankOf, countOf, windowFrom, windowOf, spotOf, findOf}

@@ -18,7 +18,7 @@ use Rattle.machine.specs.declared.Action.{Action}
 use Rattle.machine.specs.declared.Checked.{Checked}
 use Rattle.machine.specs.declared.Checked.the-variants.{Accepted, Refused}
 use Rattle.tape.specs.declared.Tape.{Tape}
-use Rattle.tape.specs.Growth.{extra}
+use Rattle.tape_cells.specs.Growth.{extra}
 use Rattle.tape.specs.Model.Moves.{Held, held, noTape, freshOf, writeOf, leaves, grownBy, growOf, shiftOf, shifted, moveOf, actOf}
 use Rattle.tape.specs.Facts.Cells.{fresh-past, grown-past}
 use Rattle.run_checks.specs.Model.Sizes as Sizes

@@ -20,8 +20,8 @@ use Rattle.symbol.specs.declared.Dir.{Dir}
 use Rattle.symbol.specs.declared.Dir.the-variants.{L, R, N}
 use Rattle.table_machine.specs.TableMachine.{readT, put, writeT, moveT, update, wordCell, startTape, Sideways, Beyond}
 use Rattle.table_machine.specs.Facts.Tape.{put-same, put-other, tape-≡}
-use Rattle.tape.specs.Growth.{extra}
-use Rattle.tape.specs.Facts.Growth.{extra-room}
+use Rattle.tape_cells.specs.Growth.{extra}
+use Rattle.tape_cells.specs.Facts.Growth.{extra-room}
 use Rattle.tape.specs.Model.Moves.{Held, freshOf, readOf, writeOf, leaves, roomFor, grownBy, growOf, shiftOf, shifted, moveOf, actOf}
 use Rattle.tape.specs.Model.Questions.{cellOf, blankBeyond}
 use Rattle.tape.specs.Facts.CellPlaces.{Place, below, inside, past, place, cell-in, cell-below, cell-past, cell-of-index, grown-cell}

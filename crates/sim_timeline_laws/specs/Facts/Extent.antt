@@ -10,26 +10,13 @@ use Rattle.notation.specs.Choice.{pick, both}
 use Rattle.notation.specs.Facts.Tests.{clash, both-split, pick-cases, pick-true, pick-false, by-test}
 use Rattle.symbol.specs.declared.Dir.{Dir}
 use Rattle.symbol.specs.declared.Dir.the-variants.{L, R, N}
-use Rattle.tape.specs.Growth.{extra}
+use Rattle.tape_cells.specs.Growth.{extra}
+use Rattle.tape_cells.specs.Facts.Growth.{extra-room, extra-doubles, extra-none}
 use Rattle.tape.specs.Model.Moves.{Held, writeOf, leaves, roomFor, grownBy, growOf, shiftOf, shifted, moveOf, actOf}
 use Rattle.tape.specs.Facts.Moves.{HeldFits, none-room, length-grow}
 use Rattle.tape.specs.Facts.MoveCases.{room-says}
 use Rattle.sim_refines.specs.Meaning.{FitsIf}
 use Rattle.sim_timeline_laws.specs.Meaning.{movesOff, doubled, headMoved, movedBy, passes, extentOf, extentIf, noExtent}
-
--- ---- the engine's growth is a doubling
-
-extra-doubles : (len cap : ℕ) → 1 ≤ extra len cap → (extra len cap ≡ len) × (len + len ≤ cap)
-unfolding extra
-extra-doubles len cap = pick-cases (leb (len + len) cap) len 0 (λ n. 1 ≤ n → (n ≡ len) × (len + len ≤ cap))
-    (λ t h. (refl, leb-true (len + len) cap t))
-    (λ t h. absurd (omega arith))
-
-extra-none : (len cap : ℕ) → 1 ≤ len → leb 1 (extra len cap) ≡ false → cap < len + len
-unfolding extra
-extra-none len cap p = pick-cases (leb (len + len) cap) len 0 (λ n. leb 1 n ≡ false → cap < len + len)
-    (λ t h. absurd (omega (arith, leb-false 1 len h)))
-    (λ t h. leb-false (len + len) cap t)
 
 off-is : (h : Held) (d : Dir) → leaves (h .tape) d ≡ movesOff (extentOf h) d
 unfolding leaves
@@ -51,8 +38,8 @@ module _ (k : ℕ) (h : Held) (d : Dir) (f : HeldFits k h) where
       (λ t.
       let p = both-split t in
       let over = p .1 in
-      let b = extra-doubles (h .tape .len) (length (h .cells)) (room-says (h .tape) (length (h .cells)) d true (sym (off-is h d ∙ p .0)) refl r) in
-      absurd (omega (arith, ltb-true, b .1)))
+      let n = room-says (h .tape) (length (h .cells)) d true (sym (off-is h d ∙ p .0)) refl r in
+      absurd (omega (arith, ltb-true, extra-room (h .tape .len) (length (h .cells)) n, extra-doubles (h .tape .len) (length (h .cells)) n)))
       (λ t. t)
 
   no-room-passes : roomFor (h .tape) (length (h .cells)) d ≡ false → passes (extentOf h) d ≡ true
@@ -84,7 +71,7 @@ move-extent h d r = pick-cases (leaves (h .tape) d) (growOf h d) h (λ g. extent
     (λ t.
     let n = extra-doubles (h .tape .len) (length (h .cells)) (room-says (h .tape) (length (h .cells)) d true (sym t) refl r) in
     shift-extent (growOf h d) d
-    ∙ ap (λ x. headMoved x d) (grow-extent h d (n .0) ∙ sym (pick-true (movesOff (extentOf h) d) (doubled (extentOf h) d) (extentOf h) (sym (off-is h d) ∙ t))))
+    ∙ ap (λ x. headMoved x d) (grow-extent h d n ∙ sym (pick-true (movesOff (extentOf h) d) (doubled (extentOf h) d) (extentOf h) (sym (off-is h d) ∙ t))))
     (λ t. shift-extent h d ∙ ap (λ x. headMoved x d) (sym (pick-false (movesOff (extentOf h) d) (doubled (extentOf h) d) (extentOf h) (sym (off-is h d) ∙ t))))
 
 act-extent : (k : ℕ) (h : Held) (w : ℕ) (d : Dir) → HeldFits k h → roomFor (h .tape) (length (h .cells)) d ≡ true → extentOf (actOf h w d) ≡ movedBy (extentOf h) d

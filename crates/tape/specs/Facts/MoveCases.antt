@@ -12,8 +12,8 @@ use Rattle.notation.specs.Facts.Tests.{clash}
 use Rattle.symbol.specs.declared.Dir.{Dir}
 use Rattle.symbol.specs.declared.Dir.the-variants.{L, R, N}
 use Rattle.tape.specs.declared.Tape.{Tape}
-use Rattle.tape.specs.Growth.{extra}
-use Rattle.tape.specs.Facts.Growth.{extra-most, extra-within}
+use Rattle.tape_cells.specs.Growth.{extra}
+use Rattle.tape_cells.specs.Facts.Growth.{extra-most, extra-within}
 use Rattle.tape.specs.Model.Moves.{Held, held, freshTape, freshCells, freshOf, movedUp, blanked, leaves, roomFor, grownLeft, grownRight, grownBy, growOf, shiftOf, moveOf, actOf}
 use Rattle.tape.specs.Fits.{TapeOk}
 

@@ -14,8 +14,8 @@ use Rattle.notation.specs.Facts.Tests.{pick-cases}
 use Rattle.symbol.specs.declared.Dir.{Dir}
 use Rattle.symbol.specs.declared.Dir.the-variants.{L, R, N}
 use Rattle.tape.specs.declared.Tape.{Tape}
-use Rattle.tape.specs.Growth.{extra}
-use Rattle.tape.specs.Facts.Growth.{extra-room, extra-within}
+use Rattle.tape_cells.specs.Growth.{extra}
+use Rattle.tape_cells.specs.Facts.Growth.{extra-room, extra-within}
 use Rattle.tape.specs.Model.Moves.{Held, held, freshOf, noTape, readOf, writeOf, leaves, roomFor, grownBy, growOf, shiftOf, shifted, moveOf, actOf}
 use Rattle.tape.specs.Fits.{tapeFits, TapeFits, TapeOk, TapeSafe}
 use Rattle.tape.specs.Facts.Fits.{fits-says, fits-ok}

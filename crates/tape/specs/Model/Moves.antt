@@ -9,7 +9,7 @@ use Rattle.notation.specs.Choice.{pick}
 use Rattle.symbol.specs.declared.Dir.{Dir}
 use Rattle.symbol.specs.declared.Dir.the-variants.{L, R, N}
 use Rattle.tape.specs.declared.Tape.{Tape}
-use Rattle.tape.specs.Growth.{extra}
+use Rattle.tape_cells.specs.Growth.{extra}
 pub use Rattle.tape_cells.specs.Model.{blankCell, placed, freshCells}
 unfoldable pub use Rattle.tape_cells.specs.Model.{blanked, laid, movedUp}
 

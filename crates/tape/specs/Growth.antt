@@ -1,2 +1,0 @@
--- How many cells a growth adds. Definitions only.
-unfoldable pub use Rattle.tape_cells.specs.Growth.{extra}
