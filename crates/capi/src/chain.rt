@@ -1,13 +1,10 @@
 // The run-length engine: a fresh engine, and a run.
-use capi_numbers::answers;
-use capi_numbers::engines;
-use rle::ChainSim;
-use rle::Fresh;
+use machine::Machine;
 ghost use mathlib.Core.Path.{_≡_};
 ghost use Rattle.rle.specs.Model.Engine.{conf};
 ghost use Rattle.rle.specs.Model.Operations.{newAnswer, runAnswer};
 ghost use Rattle.capi_numbers.specs.Model.Engines.{machineOf, ruleOf, chainOf};
-ghost use Rattle.capi.specs.Model.Chains.{chainCall, chainNewCall, chainRanCall};
+ghost use Rattle.capi_rle.specs.Model.Calls.{chainCall, chainNewCall, chainRanCall};
 
 #[no_mangle]
 pub extern "C" fn tm_chain_new(
@@ -28,19 +25,13 @@ pub extern "C" fn tm_chain_new(
 ) -> u8
     ensures { λ r. ⌜ chainCall r (now (state .exit)) (now (cur .exit)) (now (engine .exit)) (now (out .exit)) (now (ls .entry)) (now (ll .entry)) (now (rs .exit)) (now (rl .exit)) ≡ chainNewCall (newAnswer (machineOf tapes symbols states start) (now (table .entry)) (now (word .entry)) (now (ls .entry)) (now (ll .entry)) (now (rs .entry)) (now (rl .entry))) (now (state .entry)) (now (cur .entry)) (now (engine .entry)) (now (out .entry)) (now (ls .entry)) (now (ll .entry)) ⌝ }
 {
-    let m = engines::machine_of(tapes, symbols, states, start);
-    let fresh = ChainSim::new(m, table, word, ls, ll, rs, rl);
-    match fresh {
-        Fresh::Made(sim) => {
-            *state = sim.state.0;
-            *cur = sim.tape.cur;
-            engines::put_chain(engine, sim);
-            return 0;
-        }
-        Fresh::Refused(why) => {
-            return answers::refuse(out, why);
-        }
-    }
+    let m = Machine {
+        tapes,
+        symbols,
+        states,
+        start,
+    };
+    capi_rle::new(m, table, word, ls, ll, rs, rl, state, cur, engine, out)
 }
 
 #[no_mangle]
@@ -63,14 +54,24 @@ pub extern "C" fn tm_chain_run(
 ) -> u8
     ensures { λ r. ⌜ chainCall r (now (state .exit)) (now (cur .exit)) (now (engine .exit)) (now (out .exit)) (now (ls .exit)) (now (ll .exit)) (now (rs .exit)) (now (rl .exit)) ≡ chainRanCall (runAnswer (machineOf tapes symbols states start) (now (table .entry)) (ruleOf rule) fuel (conf (chainOf (now (state .entry)) (now (cur .entry)) (now (engine .entry))) (now (ls .entry)) (now (ll .entry)) (now (rs .entry)) (now (rl .entry)))) (now (engine .entry)) (now (out .entry)) ⌝ }
 {
-    let m = engines::machine_of(tapes, symbols, states, start);
-    let sim = engines::chain_of(*state, *cur, engine);
-    let stop = engines::rule_of(rule);
-    let ran = sim.run(m, table, ls, ll, rs, rl, stop, fuel);
-    let after = ran.sim;
-    let answer = ran.answer;
-    *state = after.state.0;
-    *cur = after.tape.cur;
-    engines::put_chain(engine, after);
-    answers::put_answer(out, answer)
+    let m = Machine {
+        tapes,
+        symbols,
+        states,
+        start,
+    };
+    capi_rle::run(
+        m,
+        table,
+        ls,
+        ll,
+        rs,
+        rl,
+        state,
+        cur,
+        engine,
+        rule,
+        fuel,
+        out,
+    )
 }

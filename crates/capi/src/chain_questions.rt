@@ -1,6 +1,6 @@
 // Questions about the run-length engine's tape. The answers have the form of those about the plain engine's.
-use capi_numbers::answers;
-use capi_numbers::engines;
+use capi_rle::questions;
+use machine::Machine;
 ghost use mathlib.Core.Path.{_≡_};
 ghost use Rattle.rle.specs.Model.Engine.{conf};
 ghost use Rattle.rle.specs.Fits.{engineCheck};
@@ -28,10 +28,13 @@ pub extern "C" fn tm_chain_get<'a>(
 ) -> u8
     ensures { λ r. ⌜ (r ≡ gotCode (getAnswer (machineOf tapes symbols states start) (now (table .entry)) at (conf (chainOf state cur (now (engine .entry))) (now (ls .entry)) (now (ll .entry)) (now (rs .entry)) (now (rl .entry))))) × (now (out .exit) ≡ gotOut (getAnswer (machineOf tapes symbols states start) (now (table .entry)) at (conf (chainOf state cur (now (engine .entry))) (now (ls .entry)) (now (ll .entry)) (now (rs .entry)) (now (rl .entry)))) (now (out .entry))) ⌝ }
 {
-    let m = engines::machine_of(tapes, symbols, states, start);
-    let sim = engines::chain_of(state, cur, engine);
-    let answer = sim.get(m, table, ls, ll, rs, rl, at);
-    answers::put_got(out, answer)
+    let m = Machine {
+        tapes,
+        symbols,
+        states,
+        start,
+    };
+    questions::get(m, table, ls, ll, rs, rl, state, cur, engine, at, out)
 }
 
 // Whether a cell is not blank, in out[0]; the lowest and highest such positions, raised by 2^63, in out[1] and out[2].
@@ -53,10 +56,13 @@ pub extern "C" fn tm_chain_non_blank<'a>(
 ) -> u8
     ensures { λ r. ⌜ (r ≡ extentCode (extentAnswer (machineOf tapes symbols states start) (now (table .entry)) (conf (chainOf state cur (now (engine .entry))) (now (ls .entry)) (now (ll .entry)) (now (rs .entry)) (now (rl .entry))))) × (now (out .exit) ≡ extentOut (extentAnswer (machineOf tapes symbols states start) (now (table .entry)) (conf (chainOf state cur (now (engine .entry))) (now (ls .entry)) (now (ll .entry)) (now (rs .entry)) (now (rl .entry)))) (now (out .entry))) ⌝ }
 {
-    let m = engines::machine_of(tapes, symbols, states, start);
-    let sim = engines::chain_of(state, cur, engine);
-    let answer = sim.non_blank(m, table, ls, ll, rs, rl);
-    answers::put_extent(out, answer)
+    let m = Machine {
+        tapes,
+        symbols,
+        states,
+        start,
+    };
+    questions::non_blank(m, table, ls, ll, rs, rl, state, cur, engine, out)
 }
 
 // The number of cells that are not blank, in out[0].
@@ -78,10 +84,13 @@ pub extern "C" fn tm_chain_count<'a>(
 ) -> u8
     ensures { λ r. ⌜ (r ≡ countedCode (countAnswer (machineOf tapes symbols states start) (now (table .entry)) (conf (chainOf state cur (now (engine .entry))) (now (ls .entry)) (now (ll .entry)) (now (rs .entry)) (now (rl .entry))))) × (now (out .exit) ≡ countedOut (countAnswer (machineOf tapes symbols states start) (now (table .entry)) (conf (chainOf state cur (now (engine .entry))) (now (ls .entry)) (now (ll .entry)) (now (rs .entry)) (now (rl .entry)))) (now (out .entry))) ⌝ }
 {
-    let m = engines::machine_of(tapes, symbols, states, start);
-    let sim = engines::chain_of(state, cur, engine);
-    let answer = sim.count_non_blank(m, table, ls, ll, rs, rl);
-    answers::put_counted(out, answer)
+    let m = Machine {
+        tapes,
+        symbols,
+        states,
+        start,
+    };
+    questions::count(m, table, ls, ll, rs, rl, state, cur, engine, out)
 }
 
 // The symbols from a position on, into the whole of `cells`.
@@ -105,8 +114,24 @@ pub extern "C" fn tm_chain_window<'a>(
 ) -> u8
     ensures { λ r. ⌜ (r ≡ checkedCode (engineCheck (machineOf tapes symbols states start) (now (table .entry)) (conf (chainOf state cur (now (engine .entry))) (now (ls .entry)) (now (ll .entry)) (now (rs .entry)) (now (rl .entry))))) × (now (out .exit) ≡ checkedOut (engineCheck (machineOf tapes symbols states start) (now (table .entry)) (conf (chainOf state cur (now (engine .entry))) (now (ls .entry)) (now (ll .entry)) (now (rs .entry)) (now (rl .entry)))) (now (out .entry))) × (now (cells .exit) ≡ windowInto (machineOf tapes symbols states start) (now (table .entry)) from (conf (chainOf state cur (now (engine .entry))) (now (ls .entry)) (now (ll .entry)) (now (rs .entry)) (now (rl .entry))) (now (cells .entry))) ⌝ }
 {
-    let m = engines::machine_of(tapes, symbols, states, start);
-    let sim = engines::chain_of(state, cur, engine);
-    let answer = sim.window(m, table, ls, ll, rs, rl, from, cells);
-    answers::put_checked(out, answer)
+    let m = Machine {
+        tapes,
+        symbols,
+        states,
+        start,
+    };
+    questions::window(
+        m,
+        table,
+        ls,
+        ll,
+        rs,
+        rl,
+        state,
+        cur,
+        engine,
+        from,
+        cells,
+        out,
+    )
 }

@@ -1,17 +1,15 @@
 // A timeline over the run-length engine: a new one, and its calls. Its store of slots is lent, as the run places are.
-use capi_numbers::answers;
-use capi_numbers::engines;
-use rle_timeline::Begun;
-use rle_timeline::Timeline;
+use capi_rle::timelines;
+use machine::Machine;
 ghost use mathlib.Core.Path.{_≡_};
 ghost use Rattle.rle.specs.Model.Engine.{conf};
+ghost use Rattle.timeline_rule.specs.Model.Timeline.{callFor};
 ghost use Rattle.timeline_rule.specs.Model.Kind.{callOn, newWith};
 ghost use Rattle.rle_slots.specs.Model.Kind.{chainKind};
 ghost use Rattle.rle_timeline.specs.Model.{withLent, tl};
 ghost use Rattle.capi_numbers.specs.Model.Engines.{machineOf, chainOf, timesFrom};
-ghost use Rattle.timeline_rule.specs.Model.Timeline.{callFor};
-ghost use Rattle.capi.specs.Model.Timelines.{timelineNew, timelineNewCall};
-ghost use Rattle.capi.specs.Model.ChainTimelines.{chainTimelineCall, chainMovedCall};
+ghost use Rattle.capi_numbers.specs.Model.Timelines.{timelineNew, timelineNewCall};
+ghost use Rattle.capi_rle.specs.Model.Timelines.{chainTimelineCall, chainMovedCall};
 
 #[no_mangle]
 pub extern "C" fn tm_chain_timeline_new(
@@ -35,18 +33,28 @@ pub extern "C" fn tm_chain_timeline_new(
 ) -> u8
     ensures { λ r. ⌜ timelineNew r (now (times .exit)) (now (out .exit)) (now (store .exit)) ≡ timelineNewCall chainKind (newWith chainKind (machineOf tapes symbols states start) (now (table .entry)) most every (conf (chainOf state cur (now (engine .entry))) (now (ls .entry)) (now (ll .entry)) (now (rs .entry)) (now (rl .entry))) (now (store .entry))) (now (times .entry)) (now (out .entry)) ⌝ }
 {
-    let m = engines::machine_of(tapes, symbols, states, start);
-    let sim = engines::chain_of(state, cur, engine);
-    let begun = Timeline::new(sim, m, table, ls, ll, rs, rl, store, most, every);
-    match begun {
-        Begun::Made(timeline) => {
-            engines::put_times(times, timeline.times);
-            return 0;
-        }
-        Begun::Refused(why) => {
-            return answers::refuse(out, why);
-        }
-    }
+    let m = Machine {
+        tapes,
+        symbols,
+        states,
+        start,
+    };
+    timelines::new(
+        m,
+        table,
+        ls,
+        ll,
+        rs,
+        rl,
+        store,
+        state,
+        cur,
+        engine,
+        times,
+        most,
+        every,
+        out,
+    )
 }
 
 #[no_mangle]
@@ -71,18 +79,26 @@ pub extern "C" fn tm_chain_timeline_call(
 ) -> u8
     ensures { λ r. ⌜ chainTimelineCall r (now (state .exit)) (now (cur .exit)) (now (engine .exit)) (now (times .exit)) (now (out .exit)) (now (ls .exit)) (now (ll .exit)) (now (rs .exit)) (now (rl .exit)) (now (store .exit)) ≡ chainMovedCall (callOn chainKind (machineOf tapes symbols states start) (now (table .entry)) (withLent (tl (chainOf (now (state .entry)) (now (cur .entry)) (now (engine .entry))) (timesFrom (now (times .entry)))) (now (ls .entry)) (now (ll .entry)) (now (rs .entry)) (now (rl .entry)) (now (store .entry))) (callFor which number)) (now (engine .entry)) (now (times .entry)) (now (out .entry)) ⌝ }
 {
-    let m = engines::machine_of(tapes, symbols, states, start);
-    let timeline = Timeline {
-        engine: engines::chain_of(*state, *cur, engine),
-        times: engines::times_of(times),
+    let m = Machine {
+        tapes,
+        symbols,
+        states,
+        start,
     };
-    let answered = timeline.call(m, table, ls, ll, rs, rl, store, which as u64, number);
-    let after = answered.timeline;
-    let answer = answered.answer;
-    let sim = after.engine;
-    *state = sim.state.0;
-    *cur = sim.tape.cur;
-    engines::put_chain(engine, sim);
-    engines::put_times(times, after.times);
-    answers::put_answer(out, answer)
+    timelines::call(
+        m,
+        table,
+        ls,
+        ll,
+        rs,
+        rl,
+        store,
+        state,
+        cur,
+        engine,
+        times,
+        which,
+        number,
+        out,
+    )
 }

@@ -1,13 +1,10 @@
 // The plain engine: a fresh engine, one step, and a run over the table or over its packed words.
-use capi_numbers::answers;
-use capi_numbers::engines;
-use sim::Fresh;
-use sim::Simulator;
+use machine::Machine;
 ghost use mathlib.Core.Path.{_≡_};
 ghost use Rattle.sim.specs.Model.Engine.{conf};
 ghost use Rattle.sim.specs.Model.Operations.{newAnswer, stepAnswer, runAnswer, fastAnswer};
 ghost use Rattle.capi_numbers.specs.Model.Engines.{machineOf, engineOf, ruleOf};
-ghost use Rattle.capi.specs.Model.Calls.{call, newCall, stepCall, ranCall};
+ghost use Rattle.capi_sim.specs.Model.Calls.{call, newCall, stepCall, ranCall};
 
 #[no_mangle]
 pub extern "C" fn tm_sim_new(
@@ -26,18 +23,13 @@ pub extern "C" fn tm_sim_new(
 ) -> u8
     ensures { λ r. ⌜ call r (now (state .exit)) (now (engine .exit)) (now (out .exit)) (now (c0 .exit)) (now (c1 .exit)) (now (c2 .exit)) ≡ newCall (newAnswer (machineOf tapes symbols states start) (now (table .entry)) (now (word .entry)) (now (c0 .entry)) (now (c1 .entry)) (now (c2 .entry))) (now (state .entry)) (now (engine .entry)) (now (out .entry)) ⌝ }
 {
-    let m = engines::machine_of(tapes, symbols, states, start);
-    let fresh = Simulator::new(m, table, word, c0, c1, c2);
-    match fresh {
-        Fresh::Made(sim) => {
-            *state = sim.state.0;
-            engines::put_engine(engine, sim);
-            return 0;
-        }
-        Fresh::Refused(why) => {
-            return answers::refuse(out, why);
-        }
-    }
+    let m = Machine {
+        tapes,
+        symbols,
+        states,
+        start,
+    };
+    capi_sim::new(m, table, word, c0, c1, c2, state, engine, out)
 }
 
 #[no_mangle]
@@ -56,14 +48,13 @@ pub extern "C" fn tm_sim_step(
 ) -> u8
     ensures { λ r. ⌜ call r (now (state .exit)) (now (engine .exit)) (now (out .exit)) (now (c0 .exit)) (now (c1 .exit)) (now (c2 .exit)) ≡ stepCall (stepAnswer (machineOf tapes symbols states start) (now (table .entry)) (conf (engineOf (now (state .entry)) (now (engine .entry))) (now (c0 .entry)) (now (c1 .entry)) (now (c2 .entry)))) (now (engine .entry)) (now (out .entry)) ⌝ }
 {
-    let m = engines::machine_of(tapes, symbols, states, start);
-    let sim = engines::engine_of(*state, engine);
-    let stepped = sim.step(m, table, c0, c1, c2);
-    let after = stepped.sim;
-    let answer = stepped.answer;
-    *state = after.state.0;
-    engines::put_engine(engine, after);
-    answers::put_step(out, answer)
+    let m = Machine {
+        tapes,
+        symbols,
+        states,
+        start,
+    };
+    capi_sim::step(m, table, c0, c1, c2, state, engine, out)
 }
 
 #[no_mangle]
@@ -84,15 +75,13 @@ pub extern "C" fn tm_sim_run(
 ) -> u8
     ensures { λ r. ⌜ call r (now (state .exit)) (now (engine .exit)) (now (out .exit)) (now (c0 .exit)) (now (c1 .exit)) (now (c2 .exit)) ≡ ranCall (runAnswer (machineOf tapes symbols states start) (now (table .entry)) (ruleOf rule) fuel (conf (engineOf (now (state .entry)) (now (engine .entry))) (now (c0 .entry)) (now (c1 .entry)) (now (c2 .entry)))) (now (engine .entry)) (now (out .entry)) ⌝ }
 {
-    let m = engines::machine_of(tapes, symbols, states, start);
-    let sim = engines::engine_of(*state, engine);
-    let stop = engines::rule_of(rule);
-    let ran = sim.run(m, table, c0, c1, c2, stop, fuel);
-    let after = ran.sim;
-    let answer = ran.answer;
-    *state = after.state.0;
-    engines::put_engine(engine, after);
-    answers::put_answer(out, answer)
+    let m = Machine {
+        tapes,
+        symbols,
+        states,
+        start,
+    };
+    capi_sim::run(m, table, c0, c1, c2, state, engine, rule, fuel, out)
 }
 
 #[no_mangle]
@@ -114,13 +103,11 @@ pub extern "C" fn tm_sim_run_packed(
 ) -> u8
     ensures { λ r. ⌜ call r (now (state .exit)) (now (engine .exit)) (now (out .exit)) (now (c0 .exit)) (now (c1 .exit)) (now (c2 .exit)) ≡ ranCall (fastAnswer (machineOf tapes symbols states start) (now (table .entry)) (now (words .entry)) (ruleOf rule) fuel (conf (engineOf (now (state .entry)) (now (engine .entry))) (now (c0 .entry)) (now (c1 .entry)) (now (c2 .entry)))) (now (engine .entry)) (now (out .entry)) ⌝ }
 {
-    let m = engines::machine_of(tapes, symbols, states, start);
-    let sim = engines::engine_of(*state, engine);
-    let stop = engines::rule_of(rule);
-    let ran = sim.run_packed(m, table, words, c0, c1, c2, stop, fuel);
-    let after = ran.sim;
-    let answer = ran.answer;
-    *state = after.state.0;
-    engines::put_engine(engine, after);
-    answers::put_answer(out, answer)
+    let m = Machine {
+        tapes,
+        symbols,
+        states,
+        start,
+    };
+    capi_sim::run_packed(m, table, words, c0, c1, c2, state, engine, rule, fuel, out)
 }

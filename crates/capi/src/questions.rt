@@ -1,6 +1,6 @@
 // Questions about one tape of the plain engine.
-use capi_numbers::answers;
-use capi_numbers::engines;
+use capi_sim::questions;
+use machine::Machine;
 ghost use mathlib.Core.Path.{_≡_};
 ghost use Rattle.machine.specs.Layout.{dirOf};
 ghost use Rattle.sim.specs.Model.Engine.{conf};
@@ -27,10 +27,13 @@ pub extern "C" fn tm_sim_get<'a>(
 ) -> u8
     ensures { λ r. ⌜ (r ≡ gotCode (getAnswer (machineOf tapes symbols states start) (now (table .entry)) tape at (conf (engineOf state (now (engine .entry))) (now (c0 .entry)) (now (c1 .entry)) (now (c2 .entry))))) × (now (out .exit) ≡ gotOut (getAnswer (machineOf tapes symbols states start) (now (table .entry)) tape at (conf (engineOf state (now (engine .entry))) (now (c0 .entry)) (now (c1 .entry)) (now (c2 .entry)))) (now (out .entry))) ⌝ }
 {
-    let m = engines::machine_of(tapes, symbols, states, start);
-    let sim = engines::engine_of(state, engine);
-    let answer = sim.get(m, table, c0, c1, c2, tape, at);
-    answers::put_got(out, answer)
+    let m = Machine {
+        tapes,
+        symbols,
+        states,
+        start,
+    };
+    questions::get(m, table, c0, c1, c2, state, engine, tape, at, out)
 }
 
 // Whether a cell is not blank, in out[0]; the lowest and highest such positions, raised by 2^63, in out[1] and out[2].
@@ -51,10 +54,13 @@ pub extern "C" fn tm_sim_non_blank<'a>(
 ) -> u8
     ensures { λ r. ⌜ (r ≡ extentCode (extentAnswer (machineOf tapes symbols states start) (now (table .entry)) tape (conf (engineOf state (now (engine .entry))) (now (c0 .entry)) (now (c1 .entry)) (now (c2 .entry))))) × (now (out .exit) ≡ extentOut (extentAnswer (machineOf tapes symbols states start) (now (table .entry)) tape (conf (engineOf state (now (engine .entry))) (now (c0 .entry)) (now (c1 .entry)) (now (c2 .entry)))) (now (out .entry))) ⌝ }
 {
-    let m = engines::machine_of(tapes, symbols, states, start);
-    let sim = engines::engine_of(state, engine);
-    let answer = sim.non_blank(m, table, c0, c1, c2, tape);
-    answers::put_extent(out, answer)
+    let m = Machine {
+        tapes,
+        symbols,
+        states,
+        start,
+    };
+    questions::non_blank(m, table, c0, c1, c2, state, engine, tape, out)
 }
 
 // The number of cells that are not blank, in out[0].
@@ -75,10 +81,13 @@ pub extern "C" fn tm_sim_count<'a>(
 ) -> u8
     ensures { λ r. ⌜ (r ≡ countedCode (countAnswer (machineOf tapes symbols states start) (now (table .entry)) tape (conf (engineOf state (now (engine .entry))) (now (c0 .entry)) (now (c1 .entry)) (now (c2 .entry))))) × (now (out .exit) ≡ countedOut (countAnswer (machineOf tapes symbols states start) (now (table .entry)) tape (conf (engineOf state (now (engine .entry))) (now (c0 .entry)) (now (c1 .entry)) (now (c2 .entry)))) (now (out .entry))) ⌝ }
 {
-    let m = engines::machine_of(tapes, symbols, states, start);
-    let sim = engines::engine_of(state, engine);
-    let answer = sim.count_non_blank(m, table, c0, c1, c2, tape);
-    answers::put_counted(out, answer)
+    let m = Machine {
+        tapes,
+        symbols,
+        states,
+        start,
+    };
+    questions::count(m, table, c0, c1, c2, state, engine, tape, out)
 }
 
 // The symbols from a position on, into the whole of `cells`.
@@ -101,10 +110,13 @@ pub extern "C" fn tm_sim_window<'a>(
 ) -> u8
     ensures { λ r. ⌜ (r ≡ checkedCode (questionCheck (machineOf tapes symbols states start) (now (table .entry)) tape (conf (engineOf state (now (engine .entry))) (now (c0 .entry)) (now (c1 .entry)) (now (c2 .entry))))) × (now (out .exit) ≡ checkedOut (questionCheck (machineOf tapes symbols states start) (now (table .entry)) tape (conf (engineOf state (now (engine .entry))) (now (c0 .entry)) (now (c1 .entry)) (now (c2 .entry)))) (now (out .entry))) × (now (cells .exit) ≡ windowInto (machineOf tapes symbols states start) (now (table .entry)) tape from (conf (engineOf state (now (engine .entry))) (now (c0 .entry)) (now (c1 .entry)) (now (c2 .entry))) (now (cells .entry))) ⌝ }
 {
-    let m = engines::machine_of(tapes, symbols, states, start);
-    let sim = engines::engine_of(state, engine);
-    let answer = sim.window(m, table, c0, c1, c2, tape, from, cells);
-    answers::put_checked(out, answer)
+    let m = Machine {
+        tapes,
+        symbols,
+        states,
+        start,
+    };
+    questions::window(m, table, c0, c1, c2, state, engine, tape, from, cells, out)
 }
 
 // Whether there is a cell that is not blank from a position on in a direction (0 L, 1 R, else the position alone), in
@@ -128,17 +140,11 @@ pub extern "C" fn tm_sim_find<'a>(
 ) -> u8
     ensures { λ r. ⌜ (r ≡ locatedCode (findAnswer (machineOf tapes symbols states start) (now (table .entry)) tape from (dirOf dir) (conf (engineOf state (now (engine .entry))) (now (c0 .entry)) (now (c1 .entry)) (now (c2 .entry))))) × (now (out .exit) ≡ locatedOut (findAnswer (machineOf tapes symbols states start) (now (table .entry)) tape from (dirOf dir) (conf (engineOf state (now (engine .entry))) (now (c0 .entry)) (now (c1 .entry)) (now (c2 .entry)))) (now (out .entry))) ⌝ }
 {
-    let m = engines::machine_of(tapes, symbols, states, start);
-    let sim = engines::engine_of(state, engine);
-    let answer = sim.find_non_blank(
-        m,
-        table,
-        c0,
-        c1,
-        c2,
-        tape,
-        from,
-        machine::inner::dir_of(dir),
-    );
-    answers::put_located(out, answer)
+    let m = Machine {
+        tapes,
+        symbols,
+        states,
+        start,
+    };
+    questions::find(m, table, c0, c1, c2, state, engine, tape, from, dir, out)
 }

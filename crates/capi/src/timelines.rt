@@ -1,16 +1,15 @@
 // A timeline over the plain engine: a new one, and its calls. Its store of slots is lent, as the cells are.
-use capi_numbers::answers;
-use capi_numbers::engines;
-use sim_timeline::Begun;
-use sim_timeline::Timeline;
+use capi_sim::timelines;
+use machine::Machine;
 ghost use mathlib.Core.Path.{_≡_};
 ghost use Rattle.sim.specs.Model.Engine.{conf};
+ghost use Rattle.timeline_rule.specs.Model.Timeline.{callFor};
 ghost use Rattle.timeline_rule.specs.Model.Kind.{callOn, newWith};
 ghost use Rattle.sim_slots.specs.Model.Kind.{plainKind};
 ghost use Rattle.sim_timeline.specs.Model.{withLent, tl};
 ghost use Rattle.capi_numbers.specs.Model.Engines.{machineOf, engineOf, timesFrom};
-ghost use Rattle.timeline_rule.specs.Model.Timeline.{callFor};
-ghost use Rattle.capi.specs.Model.Timelines.{timelineNew, timelineNewCall, timelineCall, movedCall};
+ghost use Rattle.capi_numbers.specs.Model.Timelines.{timelineNew, timelineNewCall};
+ghost use Rattle.capi_sim.specs.Model.Timelines.{timelineCall, movedCall};
 
 #[no_mangle]
 pub extern "C" fn tm_sim_timeline_new(
@@ -32,18 +31,26 @@ pub extern "C" fn tm_sim_timeline_new(
 ) -> u8
     ensures { λ r. ⌜ timelineNew r (now (times .exit)) (now (out .exit)) (now (store .exit)) ≡ timelineNewCall plainKind (newWith plainKind (machineOf tapes symbols states start) (now (table .entry)) most every (conf (engineOf state (now (engine .entry))) (now (c0 .entry)) (now (c1 .entry)) (now (c2 .entry))) (now (store .entry))) (now (times .entry)) (now (out .entry)) ⌝ }
 {
-    let m = engines::machine_of(tapes, symbols, states, start);
-    let sim = engines::engine_of(state, engine);
-    let begun = Timeline::new(sim, m, table, c0, c1, c2, store, most, every);
-    match begun {
-        Begun::Made(timeline) => {
-            engines::put_times(times, timeline.times);
-            return 0;
-        }
-        Begun::Refused(why) => {
-            return answers::refuse(out, why);
-        }
-    }
+    let m = Machine {
+        tapes,
+        symbols,
+        states,
+        start,
+    };
+    timelines::new(
+        m,
+        table,
+        c0,
+        c1,
+        c2,
+        store,
+        state,
+        engine,
+        times,
+        most,
+        every,
+        out,
+    )
 }
 
 #[no_mangle]
@@ -66,17 +73,24 @@ pub extern "C" fn tm_sim_timeline_call(
 ) -> u8
     ensures { λ r. ⌜ timelineCall r (now (state .exit)) (now (engine .exit)) (now (times .exit)) (now (out .exit)) (now (c0 .exit)) (now (c1 .exit)) (now (c2 .exit)) (now (store .exit)) ≡ movedCall (callOn plainKind (machineOf tapes symbols states start) (now (table .entry)) (withLent (tl (engineOf (now (state .entry)) (now (engine .entry))) (timesFrom (now (times .entry)))) (now (c0 .entry)) (now (c1 .entry)) (now (c2 .entry)) (now (store .entry))) (callFor which number)) (now (engine .entry)) (now (times .entry)) (now (out .entry)) ⌝ }
 {
-    let m = engines::machine_of(tapes, symbols, states, start);
-    let timeline = Timeline {
-        engine: engines::engine_of(*state, engine),
-        times: engines::times_of(times),
+    let m = Machine {
+        tapes,
+        symbols,
+        states,
+        start,
     };
-    let answered = timeline.call(m, table, c0, c1, c2, store, which as u64, number);
-    let after = answered.timeline;
-    let answer = answered.answer;
-    let sim = after.engine;
-    *state = sim.state.0;
-    engines::put_engine(engine, sim);
-    engines::put_times(times, after.times);
-    answers::put_answer(out, answer)
+    timelines::call(
+        m,
+        table,
+        c0,
+        c1,
+        c2,
+        store,
+        state,
+        engine,
+        times,
+        which,
+        number,
+        out,
+    )
 }

@@ -43,12 +43,13 @@ use Rattle.rle_timeline.specs.Model as ChainTimes
 use Rattle.capi_numbers.specs.Model.Engines.{engineOf, chainOf, timesFrom}
 use Rattle.capi_numbers.specs.Model.Answers.{checkedCode, checkedOut, gotCode, gotOut, countedCode, countedOut, extentCode, extentOut, locatedCode, locatedOut}
 use Rattle.capi_numbers.specs.Model.Parts.{lookedCode, lookedOut, listedCode, listedOut}
+use Rattle.capi_numbers.specs.Model.Timelines.{TimelineNew, timelineNew, timelineNewCall}
 use Rattle.demands.specs.FirstClaims.{ofFresh, ofAnswer, ofStep, ofGot, ofExtent, ofCounted, ofLocated, ofLooked, ofChain, ofListed}
 use Rattle.demands.specs.FirstTimeline.{ofReply}
-use Rattle.capi.specs.Model.Calls.{Call, call, newCall, stepCall, ranCall}
-use Rattle.capi.specs.Model.Chains.{ChainCall, chainCall, chainNewCall, chainRanCall}
-use Rattle.capi.specs.Model.Timelines.{TimelineNew, timelineNew, timelineNewCall, TimelineCall, timelineCall, movedCall}
-use Rattle.capi.specs.Model.ChainTimelines.{ChainTimelineCall, chainTimelineCall, chainMovedCall}
+use Rattle.capi_sim.specs.Model.Calls.{Call, call, newCall, stepCall, ranCall}
+use Rattle.capi_rle.specs.Model.Calls.{ChainCall, chainCall, chainNewCall, chainRanCall}
+use Rattle.capi_sim.specs.Model.Timelines.{TimelineCall, timelineCall, movedCall}
+use Rattle.capi_rle.specs.Model.Timelines.{ChainTimelineCall, chainTimelineCall, chainMovedCall}
 
 -- ---- a refused call
 

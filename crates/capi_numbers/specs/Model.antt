@@ -1,3 +1,4 @@
 pub mod Engines
 pub mod Answers
 pub mod Parts
+pub mod Timelines

@@ -1,23 +1,16 @@
 -- The demands' claim about a run that ends for lack of space, and each engine's rule for a full step. Definitions only.
 use mathlib.Core.Path.{_≡_}
 use mathlib.Core.List.{List}
-use Prim.Native.Nat.{ℕ, _+_, _*_, _<_}
-use lib.ListN.{length}
-use Rattle.symbol.specs.declared.Dir.{Dir}
-use Rattle.symbol.specs.declared.Dir.the-variants.{L, R, N}
+use Prim.Native.Nat.{ℕ, _+_, _<_}
 use Rattle.machine.specs.declared.Machine.{Machine}
-use Rattle.machine.specs.declared.Action.{Action}
-use Rattle.machine.specs.declared.Entry.the-variants.{Defined}
-use Rattle.table_machine.specs.TableMachine.{Table, Config, entry, run, outOfFuelAt, Verdict}
+use Rattle.table_machine.specs.TableMachine.{Table, Config, run, outOfFuelAt, Verdict}
 use Rattle.table_machine.specs.Tables.{tableOf}
-use Rattle.tape.specs.declared.Tape.{Tape}
-use Rattle.tape.specs.Model.Moves.{Held}
-use Rattle.sim.specs.Model.Engine.{Conf, tape0, tape1, tape2}
-use Rattle.sim_refines.specs.Meaning.{configOf}
+use Rattle.sim.specs.Model.Engine.{Conf}
 use Rattle.rle_stack.specs.Model.{placesOf}
 use Rattle.rle.specs.Model.Engine as Chain
 use Rattle.rle_refines.specs.Meaning.{configOf as chainConfig}
 use Rattle.rle_refines.specs.Full.{FullAt}
+use Rattle.sim_timeline_laws.specs.Meaning.{meanOf, NoRoom}
 
 -- the table machine's verdict at the configuration is out of fuel: there is an entry, and no proved loop
 abbrev pub GoesOn : Machine → Table → Config → Type 0
@@ -41,26 +34,11 @@ pub record EndsFull (m : Machine) (d : Table) (before after : Config) (fuel n : 
   pub stops : StopsFull d before after (before .steps + fuel) n NextIsFull
   pub going : GoesOn m d after
 
--- ---- the plain engine: "Moving off either end doubles the length ..; full exactly when that passes the buffer, on any tape."
+-- ---- the plain engine: "Moving off either end doubles the length ..; full exactly when that passes the buffer, on any tape." `NoRoom` says this of the
+-- engine's tapes.
 
-abbrev pub OffEnd : Tape → Dir → Type 0
-OffEnd t L = t .head ≡ 0
-OffEnd t R = t .head + 1 ≡ t .len
-OffEnd t N = ⊥
-
-pub record TapeFull (h : Held) (d : Dir) : Type 0 where
-  pub off : OffEnd (h .tape) d
-  pub passes : length (h .cells) < 2 * h .tape .len
-
-pub data OnSomeTape (m : Machine) (σ : Conf) (a : Action) : Type 0 where
-  on0 : TapeFull (tape0 σ) (a .dir0) → OnSomeTape m σ a
-  on1 : 1 < m .tapes → TapeFull (tape1 σ) (a .dir1) → OnSomeTape m σ a
-  on2 : 2 < m .tapes → TapeFull (tape2 σ) (a .dir2) → OnSomeTape m σ a
-
-pub record PlainFull (m : Machine) (s : List ℕ) (σ : Conf) : Type 0 where
-  pub act : Action
-  pub has : entry (tableOf m s) (configOf m σ) ≡ Defined act
-  pub full : OnSomeTape m σ act
+abbrev pub PlainFull : Machine → List ℕ → Conf → Type 0
+PlainFull m s σ = NoRoom m s (meanOf m σ)
 
 -- ---- the run-length engine: "Full exactly when the step's push needs a new run on a side whose live runs fill its lent places."
 

@@ -4,9 +4,9 @@ use mathlib.Core.Logic.{_↔_}
 use mathlib.Core.Bool.{Bool, true, false}
 use mathlib.Core.Option.{Option, none, some}
 use mathlib.Core.List.{List, [], _∷_, _++_}
-use Prim.Native.Nat.{ℕ, _+_, _-_, _*_, _/_, _<_, min, max}
+use Prim.Native.Nat.{ℕ, _+_, _-_, _*_, _/_, _<_, min, max, _^_}
 use lib.Dec.{ltb, leb}
-use Rattle.notation.specs.Choice.{pick}
+use Rattle.notation.specs.Choice.{pick, both}
 use Rattle.outcome.specs.declared.Outcome.{Outcome}
 use Rattle.outcome.specs.declared.Outcome.the-variants.{Full}
 use Rattle.outcome.specs.declared.Refusal.the-variants as Why
@@ -17,8 +17,7 @@ use Rattle.table_laws.specs.WellFormed.{Bytes}
 use Rattle.table_machine.specs.Tables.{tableOf}
 use Rattle.store_bytes.specs.Model.{slotCount, slotOf}
 use Rattle.timeline_rule.specs.declared.Times.{Times}
-use Rattle.timeline_rule.specs.Model.Engine.{limit}
-use Rattle.timeline_rule.specs.Model.Timeline.{Call, Reply, refused, answered, target, newOk, timesOk, slotFor, slotStep}
+use Rattle.timeline_rule.specs.Model.Timeline.{Call, Reply, refused, answered, target, slotFor, slotStep}
 use Rattle.timeline_rule.specs.Model.Kind.{Kind, TimelineOf, callOn, newWith}
 use Rattle.sim.specs.Model.Engine.{Conf}
 use Rattle.demands.specs.FirstClaims.{Test, or, TurnsAway}
@@ -49,6 +48,23 @@ slotHolds X m w t =
 abbrev pub plainEngineTests : Machine → List ℕ → Conf → List Test
 plainEngineTests m s σ = tableTests m s ++ plainSizes m s σ ∷ plainFits m s σ ∷ []
 
+-- ---- refusal 14
+
+-- x is not below `low` and not above `high`
+abbrev pub between : (low x high : ℕ) → Bool
+between low x high = both (leb low x) (leb x high)
+
+-- "m not 1 to 512, first interval not 1 to 2^32"
+abbrev pub newSettings : (most every : ℕ) → Bool
+newSettings most every = both (between 1 most 512) (between 1 every (2 ^ 32))
+
+-- "or a later value with interval not 1 to 2^63, count not 1 to m, or steps outside start to start + count × interval"
+abbrev pub laterSettings : Times → (steps : ℕ) → Bool
+laterSettings t steps =
+    both (between 1 (t .most) 512)
+    (both (between 1 (t .every) (2 ^ 63))
+    (both (between 1 (t .count) (t .most)) (between (t .first) steps (t .first + t .count * t .every))))
+
 -- ---- a timeline over a kind of engine: "8, 11, 12; 14 ..; 15 ..; 13 ..; 16 .."
 
 module _ (X : Kind) (engineTests : Machine → (table : List ℕ) → X .State → List Test) (m : Machine) (s : List ℕ) where
@@ -56,7 +72,7 @@ module _ (X : Kind) (engineTests : Machine → (table : List ℕ) → X .State �
   abbrev pub timelineNewTests : (most every : ℕ) → X .State → (store : List ℕ) → List Test
   timelineNewTests most every e store =
       engineTests m s e
-      ++ or (newOk most every) Why.Settings
+      ++ or (newSettings most every) Why.Settings
       ∷ or (ltb most (slotCount (X .slotSize m e) store)) Why.StoreSize
       ∷ []
 
@@ -65,9 +81,9 @@ module _ (X : Kind) (engineTests : Machine → (table : List ℕ) → X .State �
   abbrev pub timelineCallTests : TimelineOf X → Call → List Test
   timelineCallTests w c =
       engineTests m s (w .engine)
-      ++ or (timesOk (w .times) (X .now (w .engine))) Why.Settings
+      ++ or (laterSettings (w .times) (X .now (w .engine))) Why.Settings
       ∷ or (ltb (w .times .most) (slotCount (X .slotSize m (w .engine)) (w .store))) Why.StoreSize
-      ∷ or (leb (target (X .now (w .engine)) c) limit) Why.StepLimit
+      ∷ or (leb (target (X .now (w .engine)) c) (2 ^ 62)) Why.StepLimit
       ∷ or (slotHolds X m w (max (target (X .now (w .engine)) c) (w .times .first))) Why.Slot
       ∷ []
 

@@ -1,5 +1,5 @@
 -- THE OUTPUT of document 01 ("Listing"): from the bytes of the input to the bytes that `seekrun` prints. Definitions only.
-use Prim.Native.Nat.{ℕ, _≤_}
+use Prim.Native.Nat.{ℕ, _+_, _*_, _≤_}
 use mathlib.Core.List.{List, [], _++_}
 use lib.Dec.{ltb}
 use lib.ListN.{length, drop, replicate}
@@ -14,7 +14,7 @@ use Rattle.timeline_rule.specs.Model.Kind.{newOn}
 use Rattle.sim_slots.specs.Model.Kind.{Lent, createOf, plainKind}
 use Rattle.listing_reader.specs.Listing.{Sofar, tableIn, Listing, listing}
 use Rattle.listing_reader.specs.Listing as Read
-use Rattle.listing_rows.specs.Rows.{rowsOf, refusedLine, output}
+use Rattle.listing_rows.specs.Rows.{rowMost, rowsOf, refusedLine, output}
 use Rattle.listing.specs.declared.Listed.{Listed}
 use Rattle.listing.specs.declared.Listed.the-variants as Did
 
@@ -60,11 +60,16 @@ answerFor (Read.asked x) = answerOf x
 unfoldable pub answerTo : (input : List ℕ) → List ℕ
 answerTo input = answerFor (listing input)
 
--- ---- the whole function, with its lent output: refusal 18 where that is too short for a names line of 39 bytes and 64 rows of 136
+-- ---- the whole function, with its lent output
 
+-- the most bytes of an answer: a names line of 39 bytes, and 64 rows
+abbrev pub outputMost : ℕ
+outputMost = 39 + 64 * rowMost
+
+-- refusal 18 where the output is shorter than that
 unfoldable pub listOf : (input out : List ℕ) → Listed × List ℕ
 listOf input out =
-    pick (ltb (length out) 8743) (Did.Refused Why.OutputSize, out)
+    pick (ltb (length out) outputMost) (Did.Refused Why.OutputSize, out)
     (Did.Printed (length (answerTo input)), answerTo input ++ drop (length (answerTo input)) out)
 
 -- what was printed lies in the output

@@ -9,7 +9,7 @@ ghost use lib.ListN.{length};
 ghost use Rattle.sim.specs.Model.Engine.{conf};
 ghost use Rattle.listing_lines.specs.Model.{callsOf};
 ghost use Rattle.listing_text.specs.Model.{Wrote};
-ghost use Rattle.listing.specs.Output.{lentOf, answerOn, answerWith, blankCells, blankStore};
+ghost use Rattle.listing.specs.Output.{outputMost, lentOf, answerOn, answerWith, blankCells, blankStore};
 
 // Makes a timeline, and prints the names line and the rows.
 fn on_timeline(
@@ -24,7 +24,7 @@ fn on_timeline(
     calls: &[u64],
     n: usize,
 ) -> usize
-    requires { ⌜ (8743 ≤ length (now out)) × (128 ≤ length (now calls)) × (n ≤ 64) ⌝ }
+    requires { ⌜ (outputMost ≤ length (now out)) × (128 ≤ length (now calls)) × (n ≤ 64) ⌝ }
     ensures { λ r. ⌜ Wrote (now (out .entry)) 0 (answerOn m (now (table .entry)) (now (store .entry)) (callsOf n (now (calls .entry))) (conf sim (now (c0 .entry)) (now (c1 .entry)) (now (c2 .entry)))) (now (out .exit)) r ⌝ }
 {
     let begun = Timeline::new(sim, m, table, c0, c1, c2, store, 8, 16);
@@ -64,7 +64,7 @@ fn on_engine(
     calls: &[u64],
     n: usize,
 ) -> usize
-    requires { ⌜ (8743 ≤ length (now out)) × (128 ≤ length (now calls)) × (n ≤ 64) ⌝ }
+    requires { ⌜ (outputMost ≤ length (now out)) × (128 ≤ length (now calls)) × (n ≤ 64) ⌝ }
     ensures { λ r. ⌜ Wrote (now (out .entry)) 0 (answerWith m (now (table .entry)) (now (word .entry)) (lentOf (now (c0 .entry)) (now (c1 .entry)) (now (c2 .entry))) (now (store .entry)) (callsOf n (now (calls .entry)))) (now (out .exit)) r ⌝ }
 {
     let fresh = Simulator::new(m, table, word, c0, c1, c2);
@@ -87,7 +87,7 @@ pub(crate) fn in_buffers(
     calls: &[u64],
     n: usize,
 ) -> usize
-    requires { ⌜ (8743 ≤ length (now out)) × (128 ≤ length (now calls)) × (n ≤ 64) ⌝ }
+    requires { ⌜ (outputMost ≤ length (now out)) × (128 ≤ length (now calls)) × (n ≤ 64) ⌝ }
     ensures { λ r. ⌜ Wrote (now (out .entry)) 0 (answerWith m (now (table .entry)) (now (word .entry)) blankCells blankStore (callsOf n (now (calls .entry)))) (now (out .exit)) r ⌝ }
 {
     let mut c0: [u8; 4096] = [0; 4096];

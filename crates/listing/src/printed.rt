@@ -7,11 +7,11 @@ ghost use Prim.Native.Nat.{_≤_};
 ghost use lib.ListN.{length};
 ghost use Rattle.listing_text.specs.Model.{Wrote};
 ghost use Rattle.listing_reader.specs.Invariants.{sofar, ReaderOk};
-ghost use Rattle.listing.specs.Output.{answerOf, answerTo};
+ghost use Rattle.listing.specs.Output.{outputMost, answerOf, answerTo};
 
 // Prints the answer to an input without a bad line, on the machine's part of the table.
 fn answer(x: Reader, out: &mut [u8], table: &[u8], word: &[u8], calls: &[u64]) -> usize
-    requires { ⌜ (8743 ≤ length (now out)) × ReaderOk x × (length (now table) ≡ 4096) × (length (now word) ≡ 81) × (length (now calls) ≡ 128) ⌝ }
+    requires { ⌜ (outputMost ≤ length (now out)) × ReaderOk x × (length (now table) ≡ 4096) × (length (now word) ≡ 81) × (length (now calls) ≡ 128) ⌝ }
     ensures { λ r. ⌜ Wrote (now (out .entry)) 0 (answerOf (sofar x (now (table .entry)) (now (word .entry)) (now (calls .entry)))) (now (out .exit)) r ⌝ }
 {
     let m = x.machine;
@@ -22,7 +22,7 @@ fn answer(x: Reader, out: &mut [u8], table: &[u8], word: &[u8], calls: &[u64]) -
 
 // Prints `refused` and a bad line's number, or the answer.
 pub(crate) fn print(input: &[u8], out: &mut [u8]) -> usize
-    requires { ⌜ 8743 ≤ length (now out) ⌝ }
+    requires { ⌜ outputMost ≤ length (now out) ⌝ }
     ensures { λ r. ⌜ Wrote (now (out .entry)) 0 (answerTo (now (input .entry))) (now (out .exit)) r ⌝ }
 {
     let got = listing_reader::read(input);

@@ -40,12 +40,8 @@ fn store(table: &mut [u8], at: usize, e: Rule)
     requires { ⌜ (at + 8 ≤ length (now table)) × (e .next < 65536) × (e .write < 256) × (e .dir < 3) ⌝ }
     ensures { λ _. ⌜ now (table .exit) ≡ paste (now (table .entry)) at (entryBytes (Defined (actionOf e))) 8 ⌝ }
 {
-    let lo = (e.next % 256) as u8;
-    let hi = (e.next / 256) as u8;
-    let w = e.write as u8;
-    let d = (e.dir + 24) as u8;
-    let b = [1, lo, hi, w, 0, 0, d, 0];
-    listing_text::inner::put(table, at, &b);
+    let moves = (e.dir + 24) as u8;
+    table_bytes::inner::put_entry(table, at, e.next as u16, e.write as u8, 0, 0, moves);
 }
 
 // Reads the word line's symbols into the first places of `word`, up to the first bad one. The other places stay.

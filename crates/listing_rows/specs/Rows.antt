@@ -2,10 +2,10 @@
 use Prim.Native.Nat.{ℕ}
 use mathlib.Core.List.{List, [], _∷_, _++_}
 use lib.IntN.{ℤ}
+use lib.ListN.{getD}
 use Rattle.notation.specs.Position.{_⊖_}
 use Rattle.outcome.specs.declared.Outcome.{Outcome}
-use Rattle.outcome.specs.declared.Outcome.the-variants.{Halted, OutOfFuel, NeverHalts, Stopped, Full}
-use Rattle.outcome.specs.Numbers.{refusalNumber}
+use Rattle.outcome.specs.Numbers.{outcomeNumber, refusalNumber}
 use Rattle.machine.specs.declared.Machine.{Machine}
 use Rattle.tape.specs.Model.Moves.{held}
 use Rattle.tape.specs.Model.Questions.{countOf}
@@ -55,13 +55,12 @@ replyOf (Ans.Done o) = answered o
 
 -- ---- its bytes
 
--- the word for an outcome; no call on a timeline has a stop rule, so no call answers Stopped
+-- the word for an outcome, by its number; no call on a timeline has a stop rule, so no call answers Stopped
+abbrev pub words : List (List ℕ)
+words = bytes "halted" ∷ bytes "fuel" ∷ bytes "never" ∷ bytes "fuel" ∷ bytes "full" ∷ []
+
 abbrev pub said : Outcome → List ℕ
-said (OutOfFuel n) = bytes "fuel"
-said (Stopped n) = bytes "fuel"
-said (Halted n q) = bytes "halted"
-said (NeverHalts n p) = bytes "never"
-said (Full n) = bytes "full"
+said o = getD words (outcomeNumber o) []
 
 -- "`refused` and the line number", or "the refusal's number"
 unfoldable pub refusedLine : ℕ → List ℕ
@@ -78,6 +77,10 @@ rowLines (r ∷ rs) = rowLine r ++ rowLines rs
 
 abbrev pub namesLine : List ℕ
 namesLine = bytes "answer steps state head low high score\n"
+
+-- the most bytes of a row, with its newline
+abbrev pub rowMost : ℕ
+rowMost = 136
 
 -- the names line, and the rows
 unfoldable pub output : List Row → List ℕ

@@ -15,7 +15,7 @@ ghost use Rattle.sim.specs.Model.Operations.{engineCheck};
 ghost use Rattle.sim_timeline.specs.Model.{withLent};
 ghost use Rattle.listing_text.specs.Model.{Wrote};
 ghost use Rattle.listing_lines.specs.Model.{callsOf};
-ghost use Rattle.listing_rows.specs.Rows.{rowOf, rowsOf, rowsOn, lentIn, replyOf, refusedLine, rowLine, rowLines};
+ghost use Rattle.listing_rows.specs.Rows.{rowOf, rowsOf, rowsOn, lentIn, replyOf, refusedLine, rowLine, rowLines, rowMost};
 
 // Prints `refused` and a number.
 pub fn refused(out: &mut [u8], at: usize, n: u64) -> usize
@@ -29,8 +29,8 @@ pub fn refused(out: &mut [u8], at: usize, n: u64) -> usize
 
 // Prints the row of a call's answer.
 fn row(out: &mut [u8], at: usize, answer: Answer, sim: Simulator, cells: &[u8]) -> usize
-    requires { ⌜ (at + 136 ≤ length (now out)) × TapeOk (sim .t0) (now cells) ⌝ }
-    ensures { λ r. ⌜ Wrote (now (out .entry)) at (rowLine (rowOf (replyOf answer) sim (now (cells .entry)))) (now (out .exit)) r × (r ≤ at + 136) ⌝ }
+    requires { ⌜ (at + rowMost ≤ length (now out)) × TapeOk (sim .t0) (now cells) ⌝ }
+    ensures { λ r. ⌜ Wrote (now (out .entry)) at (rowLine (rowOf (replyOf answer) sim (now (cells .entry)))) (now (out .exit)) r × (r ≤ at + rowMost) ⌝ }
 {
     match answer {
         Answer::Refused(why) => {
@@ -57,8 +57,8 @@ pub fn rows(
     calls: &[u64],
     n: usize,
 ) -> usize
-    requires { ⌜ (at + 136 * n ≤ length (now out)) × (2 * n ≤ length (now calls)) × (engineCheck m (now table) (conf (timeline .engine) (now c0) (now c1) (now c2)) ≡ Accepted) ⌝ }
-    ensures { λ r. ⌜ Wrote (now (out .entry)) at (rowLines (rowsOf m (now (table .entry)) (withLent timeline (now (c0 .entry)) (now (c1 .entry)) (now (c2 .entry)) (now (store .entry))) (callsOf n (now (calls .entry))))) (now (out .exit)) r × (r ≤ at + 136 * n) × ((now (c0 .exit), now (c1 .exit), now (c2 .exit), now (store .exit)) ≡ lentIn (rowsOn m (now (table .entry)) (withLent timeline (now (c0 .entry)) (now (c1 .entry)) (now (c2 .entry)) (now (store .entry))) (callsOf n (now (calls .entry))) .1)) ⌝ }
+    requires { ⌜ (at + rowMost * n ≤ length (now out)) × (2 * n ≤ length (now calls)) × (engineCheck m (now table) (conf (timeline .engine) (now c0) (now c1) (now c2)) ≡ Accepted) ⌝ }
+    ensures { λ r. ⌜ Wrote (now (out .entry)) at (rowLines (rowsOf m (now (table .entry)) (withLent timeline (now (c0 .entry)) (now (c1 .entry)) (now (c2 .entry)) (now (store .entry))) (callsOf n (now (calls .entry))))) (now (out .exit)) r × (r ≤ at + rowMost * n) × ((now (c0 .exit), now (c1 .exit), now (c2 .exit), now (store .exit)) ≡ lentIn (rowsOn m (now (table .entry)) (withLent timeline (now (c0 .entry)) (now (c1 .entry)) (now (c2 .entry)) (now (store .entry))) (callsOf n (now (calls .entry))) .1)) ⌝ }
 {
     let mut line = timeline;
     let mut end = at;

@@ -11,7 +11,7 @@ ghost use Rattle.tape.specs.Fits.{TapeOk};
 ghost use Rattle.timeline_rule.specs.Model.Timeline.{answered};
 ghost use Rattle.listing_text.specs.Show.{show, showℤ};
 ghost use Rattle.listing_text.specs.Model.{Wrote};
-ghost use Rattle.listing_rows.specs.Rows.{said, rowOf, rowLine};
+ghost use Rattle.listing_rows.specs.Rows.{said, rowOf, rowLine, rowMost};
 
 // Prints the word of an answer.
 fn answer(out: &mut [u8], at: usize, outcome: Outcome) -> usize
@@ -73,8 +73,8 @@ pub(crate) fn row(
     sim: Simulator,
     cells: &[u8],
 ) -> usize
-    requires { ⌜ (at + 136 ≤ length (now out)) × TapeOk (sim .t0) (now cells) ⌝ }
-    ensures { λ r. ⌜ Wrote (now (out .entry)) at (rowLine (rowOf (answered outcome) sim (now (cells .entry)))) (now (out .exit)) r × (r ≤ at + 136) ⌝ }
+    requires { ⌜ (at + rowMost ≤ length (now out)) × TapeOk (sim .t0) (now cells) ⌝ }
+    ensures { λ r. ⌜ Wrote (now (out .entry)) at (rowLine (rowOf (answered outcome) sim (now (cells .entry)))) (now (out .exit)) r × (r ≤ at + rowMost) ⌝ }
 {
     let t = sim.t0;
     let state = sim.state;

@@ -1,5 +1,6 @@
 // The check of an input word, for every operation that takes one.
 use super::Checked;
+use notation::limits;
 use outcome::Refusal;
 use symbol::position::Found;
 use table_bytes::inner as bytes;
@@ -10,7 +11,7 @@ ghost use Rattle.machine.specs.Model.Word.{wordCheck, symbolsCheck};
 pub fn check_word(symbols: u64, word: &[u8]) -> Checked
     ensures { λ r. ⌜ r ≡ wordCheck symbols (now (word .entry)) ⌝ }
 {
-    if 1048576 < word.len() {
+    if limits::WORD < word.len() {
         return Checked::Refused(Refusal::WordLength);
     }
     check_symbols(symbols, word)

@@ -1,4 +1,5 @@
 pub mod Choice
+pub mod Limits
 pub mod Scan
 pub mod ScanDown
 pub mod Fill

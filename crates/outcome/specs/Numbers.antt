@@ -1,7 +1,8 @@
 -- For each answer enum, document 01's number and values of each of its cases. Definitions only.
 use Prim.Native.Nat.{ℕ}
-use mathlib.Core.Bool.{Bool, true, false}
+use mathlib.Core.Bool.{Bool}
 use mathlib.Core.Option.{Option, some}
+use lib.Dec.{eqb}
 use Rattle.symbol.specs.Kinds.{dirNumber}
 use Rattle.symbol.specs.declared.State.{State}
 use Rattle.outcome.specs.declared.Status.{Status}
@@ -13,6 +14,7 @@ use Rattle.outcome.specs.declared.Outcome.{Outcome}
 use Rattle.outcome.specs.declared.Outcome.the-variants.{Halted, OutOfFuel, NeverHalts, Stopped, Full}
 use Rattle.outcome.specs.declared.Refusal.{Refusal}
 use Rattle.outcome.specs.declared.Refusal.the-variants.{Tapes, Symbols, States, Start, TableSize, Entry, PackedWords, SeveralTapes, WordLength, WordSymbol, BufferSize, Misfit, StepLimit, Settings, StoreSize, Slot, Glyph, OutputSize}
+use Rattle.outcome.specs.declared.Said.{Said}
 use Rattle.outcome.specs.declared.Place.{Place}
 use Rattle.outcome.specs.declared.Place.the-variants.{At, Unsaid}
 
@@ -48,11 +50,10 @@ stepsOf (Stopped s) = s
 stepsOf (Full s) = s
 
 abbrev pub isHalted : Outcome → Bool
-isHalted (Halted s q) = true
-isHalted (OutOfFuel s) = false
-isHalted (NeverHalts s p) = false
-isHalted (Stopped s) = false
-isHalted (Full s) = false
+isHalted o = eqb (outcomeNumber o) 0
+
+abbrev pub isFull : Outcome → Bool
+isFull o = eqb (outcomeNumber o) 4
 
 -- the number and all values: steps, state, which pattern, its move
 abbrev pub values : (number steps state pattern dir : ℕ) → Values
@@ -76,44 +77,33 @@ valuesOf (NeverHalts s p) = neverValues s p
 valuesOf (Stopped s) = values 3 s 0 0 0
 valuesOf (Full s) = values 4 s 0 0 0
 
--- "What each operation turns away", 1 to 18
-abbrev pub refusalNumber : Refusal → ℕ
-refusalNumber Tapes = 1
-refusalNumber Symbols = 2
-refusalNumber States = 3
-refusalNumber Start = 4
-refusalNumber TableSize = 5
-refusalNumber (Entry i) = 6
-refusalNumber PackedWords = 7
-refusalNumber SeveralTapes = 8
-refusalNumber WordLength = 9
-refusalNumber (WordSymbol i) = 10
-refusalNumber BufferSize = 11
-refusalNumber Misfit = 12
-refusalNumber StepLimit = 13
-refusalNumber Settings = 14
-refusalNumber StoreSize = 15
-refusalNumber Slot = 16
-refusalNumber (Glyph i) = 17
-refusalNumber OutputSize = 18
+-- what a refusal says: its number, and its place
+abbrev pub said : (number : ℕ) → Place → Said
+said number place = record { 0 = number; 1 = place }
 
--- 6 gives the lowest entry number, 10 and 17 the first place
+-- "What each operation turns away", 1 to 18; 6 gives the lowest entry number, 10 and 17 the first place
+abbrev pub saidOf : Refusal → Said
+saidOf Tapes = said 1 Unsaid
+saidOf Symbols = said 2 Unsaid
+saidOf States = said 3 Unsaid
+saidOf Start = said 4 Unsaid
+saidOf TableSize = said 5 Unsaid
+saidOf (Entry i) = said 6 (At i)
+saidOf PackedWords = said 7 Unsaid
+saidOf SeveralTapes = said 8 Unsaid
+saidOf WordLength = said 9 Unsaid
+saidOf (WordSymbol i) = said 10 (At i)
+saidOf BufferSize = said 11 Unsaid
+saidOf Misfit = said 12 Unsaid
+saidOf StepLimit = said 13 Unsaid
+saidOf Settings = said 14 Unsaid
+saidOf StoreSize = said 15 Unsaid
+saidOf Slot = said 16 Unsaid
+saidOf (Glyph i) = said 17 (At i)
+saidOf OutputSize = said 18 Unsaid
+
+abbrev pub refusalNumber : Refusal → ℕ
+refusalNumber why = saidOf why .0
+
 abbrev pub placeOf : Refusal → Place
-placeOf Tapes = Unsaid
-placeOf Symbols = Unsaid
-placeOf States = Unsaid
-placeOf Start = Unsaid
-placeOf TableSize = Unsaid
-placeOf (Entry i) = At i
-placeOf PackedWords = Unsaid
-placeOf SeveralTapes = Unsaid
-placeOf WordLength = Unsaid
-placeOf (WordSymbol i) = At i
-placeOf BufferSize = Unsaid
-placeOf Misfit = Unsaid
-placeOf StepLimit = Unsaid
-placeOf Settings = Unsaid
-placeOf StoreSize = Unsaid
-placeOf Slot = Unsaid
-placeOf (Glyph i) = At i
-placeOf OutputSize = Unsaid
+placeOf why = saidOf why .1

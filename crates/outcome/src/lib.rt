@@ -3,7 +3,7 @@ use symbol::Dir;
 use symbol::State;
 ghost use mathlib.Core.Path.{_≡_};
 ghost use mathlib.Core.Option.{some};
-ghost use Rattle.outcome.specs.Numbers.{statusNumber, proofNumber, proofState, outcomeNumber, stepsOf, isHalted, values, valuesOf, refusalNumber, placeOf};
+ghost use Rattle.outcome.specs.Numbers.{statusNumber, proofNumber, proofState, outcomeNumber, stepsOf, isHalted, values, valuesOf, saidOf, refusalNumber, placeOf};
 
 // The result of one step.
 pub enum Status {
@@ -107,13 +107,7 @@ impl Outcome {
     pub fn is_halted(self) -> bool
         ensures { λ r. ⌜ r ≡ isHalted self ⌝ }
     {
-        match self {
-            Outcome::Halted { steps: _, state: _ } => true,
-            Outcome::OutOfFuel { steps: _ } => false,
-            Outcome::NeverHalts { steps: _, proof: _ } => false,
-            Outcome::Stopped { steps: _ } => false,
-            Outcome::Full { steps: _ } => false,
-        }
+        self.number() == 0
     }
 
     pub fn as_values(self) -> Values
@@ -192,54 +186,46 @@ pub enum Place {
     Unsaid,
 }
 
+// What a refusal says: its number, and its place.
+struct Said(u8, Place);
+
 impl Refusal {
     pub fn number(self) -> u8
         ensures { λ r. ⌜ r ≡ refusalNumber self ⌝ }
     {
-        match self {
-            Refusal::Tapes => 1,
-            Refusal::Symbols => 2,
-            Refusal::States => 3,
-            Refusal::Start => 4,
-            Refusal::TableSize => 5,
-            Refusal::Entry(_) => 6,
-            Refusal::PackedWords => 7,
-            Refusal::SeveralTapes => 8,
-            Refusal::WordLength => 9,
-            Refusal::WordSymbol(_) => 10,
-            Refusal::BufferSize => 11,
-            Refusal::Misfit => 12,
-            Refusal::StepLimit => 13,
-            Refusal::Settings => 14,
-            Refusal::StoreSize => 15,
-            Refusal::Slot => 16,
-            Refusal::Glyph(_) => 17,
-            Refusal::OutputSize => 18,
-        }
+        let said = self.said();
+        said.0
     }
 
     pub fn place(self) -> Place
         ensures { λ r. ⌜ r ≡ placeOf self ⌝ }
     {
+        let said = self.said();
+        said.1
+    }
+
+    fn said(self) -> Said
+        ensures { λ r. ⌜ r ≡ saidOf self ⌝ }
+    {
         match self {
-            Refusal::Entry(i) => Place::At(i),
-            Refusal::WordSymbol(i) => Place::At(i),
-            Refusal::Glyph(i) => Place::At(i),
-            Refusal::Tapes => Place::Unsaid,
-            Refusal::Symbols => Place::Unsaid,
-            Refusal::States => Place::Unsaid,
-            Refusal::Start => Place::Unsaid,
-            Refusal::TableSize => Place::Unsaid,
-            Refusal::PackedWords => Place::Unsaid,
-            Refusal::SeveralTapes => Place::Unsaid,
-            Refusal::WordLength => Place::Unsaid,
-            Refusal::BufferSize => Place::Unsaid,
-            Refusal::Misfit => Place::Unsaid,
-            Refusal::StepLimit => Place::Unsaid,
-            Refusal::Settings => Place::Unsaid,
-            Refusal::StoreSize => Place::Unsaid,
-            Refusal::Slot => Place::Unsaid,
-            Refusal::OutputSize => Place::Unsaid,
+            Refusal::Tapes => Said(1, Place::Unsaid),
+            Refusal::Symbols => Said(2, Place::Unsaid),
+            Refusal::States => Said(3, Place::Unsaid),
+            Refusal::Start => Said(4, Place::Unsaid),
+            Refusal::TableSize => Said(5, Place::Unsaid),
+            Refusal::Entry(i) => Said(6, Place::At(i)),
+            Refusal::PackedWords => Said(7, Place::Unsaid),
+            Refusal::SeveralTapes => Said(8, Place::Unsaid),
+            Refusal::WordLength => Said(9, Place::Unsaid),
+            Refusal::WordSymbol(i) => Said(10, Place::At(i)),
+            Refusal::BufferSize => Said(11, Place::Unsaid),
+            Refusal::Misfit => Said(12, Place::Unsaid),
+            Refusal::StepLimit => Said(13, Place::Unsaid),
+            Refusal::Settings => Said(14, Place::Unsaid),
+            Refusal::StoreSize => Said(15, Place::Unsaid),
+            Refusal::Slot => Said(16, Place::Unsaid),
+            Refusal::Glyph(i) => Said(17, Place::At(i)),
+            Refusal::OutputSize => Said(18, Place::Unsaid),
         }
     }
 }

@@ -1,22 +1,18 @@
 // Replays a fixed list of the Rust's answers: each file of the data holds the cases of one kind, a line for each.
 // Prints for each kind how many cases there are, and for how many the port's answers differ.
-mod asks;
 mod chain;
-mod chain_asks;
-mod chain_timelines;
-mod encoder;
-mod ground;
-mod lines;
-mod lists;
-mod orders;
-mod packing;
+mod compare;
 mod plain;
-mod settings;
-mod telling;
-mod timelines;
-mod values;
+mod read;
+mod rows;
+mod tables;
 
 use machine::Machine;
+use read::lines;
+use read::lines::Line;
+use read::lists;
+use read::table;
+use rows::PLACES;
 
 // The kind of the cases in a file.
 enum Kind {
@@ -42,41 +38,30 @@ struct Tally {
 fn replayed(kind: Kind, row: &[u64]) -> usize {
     match kind {
         Kind::On(engine) => {
-            return on_ground(engine, row);
+            return on_engine(engine, row);
         }
         Kind::Pack => {
-            return packing::replay(row);
+            return tables::packing::replay(row);
         }
         Kind::Encode => {
-            return encoder::replay(row);
+            return tables::encoder::replay(row);
         }
     }
 }
 
-fn on_ground(engine: Engine, row: &[u64]) -> usize {
-    let mut table: [u8; 4096] = [0; 4096];
-    let read = ground::read(row, &mut table);
-    let m = read.machine;
-    on_table(
-        engine,
-        row,
-        read.at,
-        m,
-        lists::first_bytes(&table, read.size),
-    )
-}
-
-fn on_table(engine: Engine, row: &[u64], at: usize, m: Machine, table: &[u8]) -> usize {
-    let mut word: [u8; 4096] = [0; 4096];
-    let length = ground::read_bytes(row, at, &mut word);
-    let next = lists::past(at, lists::past(length, 1));
+// Reads the machine and the word, and replays the case on the engine.
+fn on_engine(engine: Engine, row: &[u64]) -> usize {
+    let case = table::read(row);
+    let word = lists::read(row, case.next);
+    let table = case.table;
+    let symbols = word.bytes;
     on_word(
         engine,
         row,
-        next,
-        m,
-        table,
-        lists::first_bytes(&word, length),
+        word.next,
+        case.machine,
+        lists::head(&table, case.size),
+        lists::head(&symbols, word.count),
     )
 }
 
@@ -91,22 +76,26 @@ fn on_word(engine: Engine, row: &[u64], at: usize, m: Machine, table: &[u8], wor
     }
 }
 
-// 1 where the port's answers differ from the row, else 0.
-fn differs(kind: Kind, row: &[u64]) -> u64 {
-    if replayed(kind, row) == row.len() {
-        return 0;
+// 1 where the port's answers differ from the line, else 0. A line that is not good differs always.
+fn differs(kind: Kind, row: &[u64; PLACES], line: Line) -> u64 {
+    let numbers = lists::number_head(row, line.count);
+    if line.good {
+        if replayed(kind, numbers) == numbers.len() {
+            return 0;
+        }
     }
     1
 }
 
+// Replays the line that begins where the tally says.
 fn next_line(kind: Kind, text: &[u8], tally: Tally) -> Tally {
-    let mut row: [u64; 1024] = [0; 1024];
+    let mut row: [u64; PLACES] = [0; PLACES];
     let line = lines::read_line(text, tally.at, &mut row);
-    let more = differs(kind, lists::first_numbers(&row, line.count));
+    let differ = differs(kind, &row, line);
     Tally {
         at: line.next,
         cases: std::num::wrapping_add_u64(tally.cases, 1),
-        differ: std::num::wrapping_add_u64(tally.differ, more),
+        differ: std::num::wrapping_add_u64(tally.differ, differ),
     }
 }
 

@@ -4,33 +4,30 @@ use mathlib.Core.List.{List}
 use Prim.Native.Nat.{ℕ, _+_, _-_}
 use lib.Dec.{eqb, ltb, leb}
 use Rattle.notation.specs.Choice.{both}
+use Rattle.notation.specs.Limits.{stepsMost, runsMost, slack, raisedZero}
 use Rattle.outcome.specs.declared.Refusal.the-variants as Why
 use Rattle.machine.specs.declared.Machine.{Machine}
 use Rattle.machine.specs.declared.Checked.{Checked}
 use Rattle.machine.specs.declared.Checked.the-variants.{Accepted}
 use Rattle.machine.specs.Model.Check.{demand, checkedOn, tableCheck}
-use Rattle.run_checks.specs.Model.Sizes.{stepsMost, fuelFits}
+use Rattle.run_checks.specs.Model.Sizes.{fuelFits}
 use Rattle.rle_stack.specs.Model.{placesOf, cellsOf}
-pub use Rattle.rle_counts.specs.Model.Sums.{slack, sidesFit}
+pub use Rattle.rle_counts.specs.Model.Sums.{sidesFit}
 unfoldable pub use Rattle.rle_counts.specs.Model.Sums.{sideFits}
 use Rattle.rle.specs.declared.ChainSim.{ChainSim}
 use Rattle.rle.specs.Model.Engine.{Conf, leftOf, rightOf}
-
--- position 0, raised
-abbrev pub zeroAt : ℕ
-zeroAt = 9223372036854775808
 
 -- "lowest ≤ head ≤ highest, all within steps of 0"
 unfoldable pub headFits : ChainSim → Bool
 headFits v =
     both (leb (v .lowest) (v .tape .head))
     (both (leb (v .tape .head) (v .highest))
-    (both (leb (zeroAt - v .steps) (v .lowest)) (leb (v .highest) (zeroAt + v .steps))))
+    (both (leb (raisedZero - v .steps) (v .lowest)) (leb (v .highest) (raisedZero + v .steps))))
 
 -- a side's "furthest cell's distance from 0, at most steps + 2^20"; by `headFits` the head is within steps of 0
 unfoldable pub reachFits : ChainSim → (lefts rights : ℕ) → Bool
 reachFits v l r =
-    both (leb (zeroAt + l) (v .tape .head + v .steps + slack)) (leb (v .tape .head + r) (zeroAt + v .steps + slack))
+    both (leb (raisedZero + l) (v .tape .head + v .steps + slack)) (leb (v .tape .head + r) (raisedZero + v .steps + slack))
 
 -- "Fits: state below n, steps to 2^62, symbols below k .. macro steps at most steps."
 unfoldable pub countsFit : Machine → ChainSim → Bool
@@ -47,7 +44,7 @@ chainFits m σ =
 
 -- "a run side over 1,048,576"
 unfoldable pub placesFit : Conf → Bool
-placesFit σ = both (leb (placesOf (σ .ls) (σ .ll)) slack) (leb (placesOf (σ .rs) (σ .rl)) slack)
+placesFit σ = both (leb (placesOf (σ .ls) (σ .ll)) runsMost) (leb (placesOf (σ .rs) (σ .rl)) runsMost)
 
 -- refusals 8, 11, 12
 unfoldable pub valueCheck : Machine → Conf → Checked

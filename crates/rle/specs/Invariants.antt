@@ -4,6 +4,7 @@ use mathlib.Core.Bool.{true}
 use mathlib.Core.List.{List}
 use Prim.Native.Nat.{ℕ, _+_, _≤_}
 use lib.ListN.{length}
+use Rattle.notation.specs.Limits.{stepsMost, slack, raisedZero}
 use Rattle.symbol.specs.declared.State.{State}
 use Rattle.symbol.specs.declared.Dir.{Dir}
 use Rattle.outcome.specs.declared.Outcome.{Outcome}
@@ -26,15 +27,15 @@ pub record TableOk (m : Machine) (stride : ℕ) : Type 0 where
 
 -- both sides' live runs have places, and their cells are few enough to be counted
 pub record SidesOk (σ : Conf) : Type 0 where
-  pub left : SideOk (placesOf (σ .ls) (σ .ll)) (σ .sim .steps + 1048576) (leftOf σ)
-  pub right : SideOk (placesOf (σ .rs) (σ .rl)) (σ .sim .steps + 1048576) (rightOf σ)
+  pub left : SideOk (placesOf (σ .ls) (σ .ll)) (σ .sim .steps + slack) (leftOf σ)
+  pub right : SideOk (placesOf (σ .rs) (σ .rl)) (σ .sim .steps + slack) (rightOf σ)
 
 -- with this much fuel no count and no position passes its bound
 pub record CountsOk (v : ChainSim) (fuel : ℕ) : Type 0 where
-  pub steps-in : v .steps + fuel ≤ 4611686018427387904
+  pub steps-in : v .steps + fuel ≤ stepsMost
   pub fewer : v .macros ≤ v .steps
-  pub above : 9223372036854775808 ≤ v .tape .head + v .steps
-  pub below : v .tape .head ≤ 9223372036854775808 + v .steps
+  pub above : raisedZero ≤ v .tape .head + v .steps
+  pub below : v .tape .head ≤ raisedZero + v .steps
 
 pub record RunOk (m : Machine) (stride : ℕ) (σ : Conf) (fuel : ℕ) : Type 0 where
   pub table : TableOk m stride
@@ -68,5 +69,5 @@ pub record Judged (m : Machine) (s : List ℕ) (v : ChainSim) (o : Outcome) : Ty
 pub record AskOk (σ : Conf) : Type 0 where
   pub sides : SidesOk σ
   pub counts : CountsOk (σ .sim) 0
-  pub left-far : 9223372036854775808 + cellsOf (leftOf σ) ≤ σ .sim .tape .head + σ .sim .steps + 1048576
-  pub right-far : σ .sim .tape .head + cellsOf (rightOf σ) ≤ 9223372036854775808 + σ .sim .steps + 1048576
+  pub left-far : raisedZero + cellsOf (leftOf σ) ≤ σ .sim .tape .head + σ .sim .steps + slack
+  pub right-far : σ .sim .tape .head + cellsOf (rightOf σ) ≤ raisedZero + σ .sim .steps + slack

@@ -3,6 +3,7 @@ use super::ChainSim;
 use super::inner::fits;
 use machine::Checked;
 use machine::Machine;
+use notation::limits;
 use outcome::Refusal;
 use rle_stack::inner as stack;
 use run_checks::inner::sizes;
@@ -10,13 +11,14 @@ ghost use mathlib.Core.Path.{_≡_};
 ghost use Prim.Native.Nat.{_+_, _≤_, _<_};
 ghost use lib.ListN.{length};
 ghost use Rattle.notation.specs.Choice.{pick};
+ghost use Rattle.notation.specs.Limits.{raisedZero};
 ghost use Rattle.rle_stack.specs.Model.{side, cellsOf};
 ghost use Rattle.rle.specs.Model.Engine.{conf};
 ghost use Rattle.rle.specs.Fits.{sideFits, chainFits, valueCheck, engineCheck, runCheck};
 
 // The number of a side's cells, at most `most`, where the side fits; else `most + 1`.
 fn measure(symbols: &[u8], lengths: &[u64], count: usize, places: usize, k: u64, most: u64) -> u64
-    requires { ⌜ (places ≤ length (now symbols)) × (places ≤ length (now lengths)) × (most < 9223372036854775808) ⌝ }
+    requires { ⌜ (places ≤ length (now symbols)) × (places ≤ length (now lengths)) × (most < raisedZero) ⌝ }
     ensures { λ r. ⌜ r ≡ pick (sideFits k places most (side (now (symbols .entry)) (now (lengths .entry)) count)) (cellsOf (side (now (symbols .entry)) (now (lengths .entry)) count)) (most + 1) ⌝ }
 {
     if places < count {
@@ -39,7 +41,7 @@ impl ChainSim {
             return false;
         }
         let tape = self.tape;
-        let most = self.steps + 1048576;
+        let most = self.steps + limits::SLACK;
         let lp = stack::places(ls, ll);
         let lefts = measure(ls, ll, tape.left, lp, m.symbols, most);
         if most < lefts {
@@ -59,10 +61,10 @@ impl ChainSim {
         if m.tapes != 1 {
             return Checked::Refused(Refusal::SeveralTapes);
         }
-        if 1048576 < stack::places(ls, ll) {
+        if limits::RUNS < stack::places(ls, ll) {
             return Checked::Refused(Refusal::BufferSize);
         }
-        if 1048576 < stack::places(rs, rl) {
+        if limits::RUNS < stack::places(rs, rl) {
             return Checked::Refused(Refusal::BufferSize);
         }
         if !self.fits(m, ls, ll, rs, rl) {

@@ -7,6 +7,7 @@ use super::RunTape;
 use machine::Action;
 use machine::Entry;
 use machine::Machine;
+use notation::number;
 use outcome::Outcome;
 use rle_macro::inner::macro_step;
 use rle_macro::inner::macro_step::Moved;
@@ -130,8 +131,8 @@ impl ChainSim {
         let dir = s.dir;
         let next = s.next;
         let head = macro_step::head_for(dir, tape.head, w.repeats);
-        let lowest = macro_step::lower(self.lowest, head);
-        let highest = macro_step::upper(self.highest, head);
+        let lowest = number::min(self.lowest, head);
+        let highest = number::max(self.highest, head);
         ChainSim {
             state: next,
             steps: self.steps + w.repeats,

@@ -1,6 +1,7 @@
 // The run-length engine: a machine of one tape, whose tape is two stacks of runs around the cell under the head.
 use machine::Checked;
 use machine::Machine;
+use notation::limits;
 use outcome::Refusal;
 use rle_macro::inner::word;
 use rle_stack::inner as stack;
@@ -85,10 +86,10 @@ impl ChainSim {
                         left: 0,
                         cur,
                         right,
-                        head: 9223372036854775808,
+                        head: limits::RAISED_ZERO,
                     },
-                    lowest: 9223372036854775808,
-                    highest: 9223372036854775808,
+                    lowest: limits::RAISED_ZERO,
+                    highest: limits::RAISED_ZERO,
                 });
             }
         }

@@ -2,6 +2,7 @@
 use super::ChainSim;
 use machine::Checked;
 use machine::Machine;
+use notation::limits;
 use rle_macro::inner::questions;
 use rle_stack::inner as stack;
 use run_rules::questions::Counted;
@@ -41,7 +42,7 @@ impl ChainSim {
     {
         let tape = self.tape;
         if tape.left != 0 {
-            return tape.head - stack::cells(ll, tape.left, self.steps + 1048576);
+            return tape.head - stack::cells(ll, tape.left, self.steps + limits::SLACK);
         }
         if tape.cur != 0 {
             return tape.head;
@@ -56,7 +57,7 @@ impl ChainSim {
     {
         let tape = self.tape;
         if tape.right != 0 {
-            return tape.head + stack::cells(rl, tape.right, self.steps + 1048576);
+            return tape.head + stack::cells(rl, tape.right, self.steps + limits::SLACK);
         }
         if tape.cur != 0 {
             return tape.head;

@@ -1,5 +1,5 @@
 // The tape questions `left` and `right`, which write the runs of a side as records into a lent slice. These two take
-// the slice and are proved by hand; the checks make every decision.
+// the slice and are proved by hand; the check makes every decision.
 use super::ChainSim;
 use machine::Checked;
 use machine::Machine;
@@ -12,14 +12,14 @@ ghost use Rattle.rle.specs.Model.Records.{sideAnswer, leftAnswer, leftIn
 
 impl ChainSim {
     // The table check, refusals 8, 11 and 12, then 18 where `room` records are too few for `count` runs.
-    fn list_check(
+    fn list_check<'a>(
         self,
         m: Machine,
-        table: &[u8],
-        ls: &[u8],
-        ll: &[u64],
-        rs: &[u8],
-        rl: &[u64],
+        table: &'a [u8],
+        ls: &'a [u8],
+        ll: &'a [u64],
+        rs: &'a [u8],
+        rl: &'a [u64],
         count: usize,
         room: usize,
     ) -> Listed
@@ -36,38 +36,6 @@ impl ChainSim {
         }
     }
 
-    fn left_check<'a>(
-        self,
-        m: Machine,
-        table: &'a [u8],
-        ls: &'a [u8],
-        ll: &'a [u64],
-        rs: &'a [u8],
-        rl: &'a [u64],
-        room: usize,
-    ) -> Listed
-        ensures { λ r. ⌜ r ≡ leftAnswer m (now (table .entry)) room (conf self (now (ls .entry)) (now (ll .entry)) (now (rs .entry)) (now (rl .entry))) ⌝ }
-    {
-        let tape = self.tape;
-        self.list_check(m, table, ls, ll, rs, rl, tape.left, room)
-    }
-
-    fn right_check<'a>(
-        self,
-        m: Machine,
-        table: &'a [u8],
-        ls: &'a [u8],
-        ll: &'a [u64],
-        rs: &'a [u8],
-        rl: &'a [u64],
-        room: usize,
-    ) -> Listed
-        ensures { λ r. ⌜ r ≡ rightAnswer m (now (table .entry)) room (conf self (now (ls .entry)) (now (ll .entry)) (now (rs .entry)) (now (rl .entry))) ⌝ }
-    {
-        let tape = self.tape;
-        self.list_check(m, table, ls, ll, rs, rl, tape.right, room)
-    }
-
     // Writes the runs of the left side, the topmost last, into the first places of `out`; returns their number.
     pub fn left<'a, 'b>(
         self,
@@ -81,7 +49,7 @@ impl ChainSim {
     ) -> Listed
         ensures { λ r. ⌜ (r ≡ leftAnswer m (now (table .entry)) (length (now (out .entry))) (conf self (now (ls .entry)) (now (ll .entry)) (now (rs .entry)) (now (rl .entry)))) × (now (out .exit) ≡ leftInto m (now (table .entry)) (conf self (now (ls .entry)) (now (ll .entry)) (now (rs .entry)) (now (rl .entry))) (now (out .entry))) ⌝ }
     {
-        let listed = self.left_check(m, table, ls, ll, rs, rl, out.len());
+        let listed = self.list_check(m, table, ls, ll, rs, rl, self.tape.left, out.len());
         let count = rle_records::inner::written(listed);
         rle_records::inner::fill(ls, ll, count, out);
         listed
@@ -100,7 +68,7 @@ impl ChainSim {
     ) -> Listed
         ensures { λ r. ⌜ (r ≡ rightAnswer m (now (table .entry)) (length (now (out .entry))) (conf self (now (ls .entry)) (now (ll .entry)) (now (rs .entry)) (now (rl .entry)))) × (now (out .exit) ≡ rightInto m (now (table .entry)) (conf self (now (ls .entry)) (now (ll .entry)) (now (rs .entry)) (now (rl .entry))) (now (out .entry))) ⌝ }
     {
-        let listed = self.right_check(m, table, ls, ll, rs, rl, out.len());
+        let listed = self.list_check(m, table, ls, ll, rs, rl, self.tape.right, out.len());
         let count = rle_records::inner::written(listed);
         rle_records::inner::fill(rs, rl, count, out);
         listed

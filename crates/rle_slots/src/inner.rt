@@ -14,6 +14,7 @@ ghost use mathlib.Core.Path.{_≡_};
 ghost use Prim.Native.Nat.{_+_, _*_, _≤_};
 ghost use lib.ListN.{length};
 ghost use lib.Seq.{paste};
+ghost use Rattle.notation.specs.Limits.{runsMost};
 ghost use Rattle.machine.specs.declared.Checked.the-variants.{Accepted};
 ghost use Rattle.rle_stack.specs.Model.{placesOf};
 ghost use Rattle.rle.specs.Model.Engine.{conf};
@@ -79,7 +80,7 @@ pub fn advance(
 
 // The number of bytes of a slot for an engine with these places.
 pub fn slot_size(ls: &[u8], ll: &[u64], rs: &[u8], rl: &[u64]) -> usize
-    requires { ⌜ (placesOf (now ls) (now ll) ≤ 1048576) × (placesOf (now rs) (now rl) ≤ 1048576) ⌝ }
+    requires { ⌜ (placesOf (now ls) (now ll) ≤ runsMost) × (placesOf (now rs) (now rl) ≤ runsMost) ⌝ }
     ensures { λ r. ⌜ r ≡ bytesFor (placesOf (now (ls .entry)) (now (ll .entry))) (placesOf (now (rs .entry)) (now (rl .entry))) ⌝ }
 {
     let lp = stack::places(ls, ll);

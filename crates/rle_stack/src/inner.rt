@@ -4,6 +4,7 @@ ghost use mathlib.Core.Bool.{false};
 ghost use mathlib.Core.List.{List};
 ghost use Prim.Native.Nat.{ℕ, _+_, _-_, _≤_, _<_, min};
 ghost use lib.ListN.{length, getD};
+ghost use Rattle.notation.specs.Limits.{raisedZero};
 ghost use Rattle.rle_stack.specs.Model.{side, placesOf, symbolUnder, aheadOf, pushOf, lacks, takeOf, runFits, runsFit, sumOf, symbolIn, weightAt, weightOf, nearOf};
 
 // The symbol next to the head; below the bottom run all cells are blank.
@@ -134,7 +135,7 @@ pub fn runs_fit(symbols: &[u8], lengths: &[u64], count: usize, k: u64) -> bool
 
 // How many cells the live runs have, or `most + 1` where they have more than `most`.
 pub fn cells(lengths: &[u64], count: usize, most: u64) -> u64
-    requires { ⌜ (count ≤ length (now lengths)) × (most < 9223372036854775808) ⌝ }
+    requires { ⌜ (count ≤ length (now lengths)) × (most < raisedZero) ⌝ }
     ensures { λ r. ⌜ r ≡ min (sumOf (now (lengths .entry)) count) (most + 1) ⌝ }
 {
     let mut i = 0;
@@ -181,7 +182,7 @@ fn weight(symbols: &[u8], lengths: &[u64], i: usize) -> u64
 // How many cells of the live runs are not blank.
 pub fn written(symbols: &[u8], lengths: &[u64], count: usize) -> u64
     requires { ⌜ (count ≤ length (now symbols)) × (count ≤ length (now lengths)) ⌝ }
-    requires { ⌜ sumOf (now lengths) count < 9223372036854775808 ⌝ }
+    requires { ⌜ sumOf (now lengths) count < raisedZero ⌝ }
     ensures { λ r. ⌜ (r ≡ weightOf (now (symbols .entry)) (now (lengths .entry)) count) × (r ≤ sumOf (now (lengths .entry)) count) ⌝ }
 {
     let mut i = 0;
@@ -196,7 +197,7 @@ pub fn written(symbols: &[u8], lengths: &[u64], count: usize) -> u64
 // The distance of the nearest cell that is not blank, on a side with runs; the next cell is at distance 1.
 pub fn near(symbols: &[u8], lengths: &[u64], count: usize) -> u64
     requires { ⌜ (0 < count) × (count ≤ length (now symbols)) × (count ≤ length (now lengths)) ⌝ }
-    requires { ⌜ sumOf (now lengths) count < 9223372036854775808 ⌝ }
+    requires { ⌜ sumOf (now lengths) count < raisedZero ⌝ }
     ensures { λ r. ⌜ (r ≡ nearOf (side (now (symbols .entry)) (now (lengths .entry)) count)) × (r ≤ sumOf (now (lengths .entry)) count + 1) ⌝ }
 {
     if top(symbols, count) == 0 {

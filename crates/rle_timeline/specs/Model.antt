@@ -3,6 +3,7 @@ use mathlib.Core.Path.{_≡_}
 use mathlib.Core.List.{List}
 use Prim.Native.Nat.{ℕ, _+_, _*_, _≤_}
 use lib.ListN.{length}
+use Rattle.notation.specs.Limits.{stepsMost}
 use Rattle.outcome.specs.declared.Outcome.{Outcome}
 use Rattle.machine.specs.declared.Machine.{Machine}
 use Rattle.machine.specs.declared.Checked.the-variants.{Accepted}
@@ -12,7 +13,6 @@ use Rattle.run_rules.specs.declared.Answer.the-variants as Ans
 use Rattle.rle.specs.Model.Engine.{Conf, conf}
 use Rattle.rle.specs.Fits.{engineCheck}
 use Rattle.timeline_rule.specs.declared.Times.{Times}
-use Rattle.timeline_rule.specs.Model.Engine.{limit}
 use Rattle.timeline_rule.specs.Model.Due.{TimesFit}
 use Rattle.timeline_rule.specs.Model.Timeline.{Reply, refused, answered}
 use Rattle.timeline_rule.specs.Model.Kind.{TimelineOf}
@@ -59,4 +59,4 @@ pub record StrideAt (m : Machine) (s : List ℕ) (target : ℕ) (v : Times) (e :
   pub accepted : engineCheck m s e ≡ Accepted
   pub numbers : TimesFit v
   pub below : e .sim .steps ≤ target
-  pub top : target ≤ limit
+  pub top : target ≤ stepsMost

@@ -1,6 +1,7 @@
 // A timeline over the run-length engine: seek, forward and back over slots in a lent store.
 use machine::Checked;
 use machine::Machine;
+use notation::number;
 use outcome::Refusal;
 use rle::ChainSim;
 use rle_slots::inner as engine;
@@ -98,7 +99,7 @@ impl Timeline {
             Checked::Accepted => {
                 let size = engine::slot_size(ls, ll, rs, rl);
                 let times = self.times;
-                let goal = sums::max(target, times.first);
+                let goal = number::max(target, times.first);
                 return self.go_to(m, table, ls, ll, rs, rl, store, size, goal);
             }
         }

@@ -67,12 +67,10 @@ fn step_answer(answer: Answer) -> StepAnswer
 fn status_of(outcome: Outcome) -> Status
     ensures { λ r. ⌜ r ≡ statusOf outcome ⌝ }
 {
-    match outcome {
-        Outcome::Halted { steps: _, state: _ } => Status::Halted,
-        Outcome::OutOfFuel { steps: _ } => Status::Running,
-        Outcome::NeverHalts { steps: _, proof: _ } => Status::Halted,
-        Outcome::Stopped { steps: _ } => Status::Running,
-        Outcome::Full { steps: _ } => Status::Full,
+    match outcome.number() {
+        1 | 3 => Status::Running,
+        4 => Status::Full,
+        _ => Status::Halted,
     }
 }
 

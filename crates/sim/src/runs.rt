@@ -16,6 +16,7 @@ use tape::Tape;
 ghost use mathlib.Core.Path.{_≡_};
 ghost use mathlib.Core.Bool.{false};
 ghost use Prim.Native.Nat.{_+_, _-_, _≤_, _<_};
+ghost use Rattle.notation.specs.Limits.{stepsMost};
 ghost use Rattle.outcome.specs.declared.Outcome.the-variants.{Stopped};
 ghost use Rattle.sim.specs.Model.Engine.{task, conf, end, runOf};
 ghost use Rattle.sim.specs.Model.Operations.{given, answerOf};
@@ -105,7 +106,7 @@ impl Simulator {
 
     // The value after a burst that began with fuel `left`.
     fn after(self, at: BurstState, left: u64) -> Ahead
-        requires { ⌜ (self .steps + left ≤ 4611686018427387904) × (at .left ≤ left) × (at .state < 65536) ⌝ }
+        requires { ⌜ (self .steps + left ≤ stepsMost) × (at .left ≤ left) × (at .state < 65536) ⌝ }
         ensures { λ r. ⌜ (r .sim ≡ into self (self .steps + (left - at .left)) at) × (r .left ≡ at .left) ⌝ }
     {
         let t0 = self.t0;
@@ -178,7 +179,7 @@ impl Simulator {
 
     // The value after a burst on several tapes that began with fuel `left`.
     fn onward(self, at: WideBurstState, left: u64) -> Ahead
-        requires { ⌜ (self .steps + left ≤ 4611686018427387904) × (at .left ≤ left) ⌝ }
+        requires { ⌜ (self .steps + left ≤ stepsMost) × (at .left ≤ left) ⌝ }
         ensures { λ r. ⌜ (r .sim ≡ intoWide (self .steps + (left - at .left)) at) × (r .left ≡ at .left) ⌝ }
     {
         let t0 = at.t0;

@@ -6,6 +6,7 @@ use Prim.Native.Nat.{ℕ, _-_, _≤_}
 use lib.Dec.{ltb}
 use lib.ListN.{length, set}
 use Rattle.notation.specs.Choice.{pick}
+use Rattle.notation.specs.Limits.{cellsMost}
 use Rattle.symbol.specs.Kinds.{symbolOf, stateOf}
 use Rattle.symbol.specs.declared.Dir.the-variants.{N}
 use Rattle.machine.specs.declared.Action.{Action}
@@ -75,11 +76,11 @@ pub record NextIf (x : WideBurstState) (o : Decoded) (r : Next) : Type 0 where
 
 pub record HeadsIn (x : WideBurstState) : Type 0 where
   pub head0 : x .t0 .head ≤ x .t0 .len
-  pub len0 : x .t0 .len ≤ 1073741824
+  pub len0 : x .t0 .len ≤ cellsMost
   pub head1 : x .t1 .head ≤ x .t1 .len
-  pub len1 : x .t1 .len ≤ 1073741824
+  pub len1 : x .t1 .len ≤ cellsMost
   pub head2 : x .t2 .head ≤ x .t2 .len
-  pub len2 : x .t2 .len ≤ 1073741824
+  pub len2 : x .t2 .len ≤ cellsMost
 
 pub record SafeAll (x : WideBurstState) (c0 c1 c2 : List ℕ) : Type 0 where
   pub safe0 : TapeSafe (x .t0) c0

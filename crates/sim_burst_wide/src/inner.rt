@@ -1,10 +1,12 @@
 // The burst on several tapes and its parts. They require that numbers lie inside their bounds.
 use machine::inner;
+use notation::index;
 use tape::Tape;
 ghost use mathlib.Core.Path.{_≡_};
 ghost use mathlib.Core.Bool.{true, false};
 ghost use Prim.Native.Nat.{_+_, _*_, _≤_, _<_, min, max};
 ghost use Rattle.notation.specs.Choice.{both};
+ghost use Rattle.notation.specs.Limits.{cellsMost};
 ghost use Rattle.machine.specs.Layout.{entryNumber, entryAt};
 ghost use Rattle.tape.specs.Fits.{TapeOk};
 ghost use Rattle.tape.specs.Model.Moves.{held, readOf};
@@ -41,24 +43,6 @@ pub struct MovedTape {
 pub struct Next {
     pub at: WideBurstState,
     pub inside: bool,
-}
-
-fn lower(a: usize, b: usize) -> usize
-    ensures { λ r. ⌜ r ≡ min a b ⌝ }
-{
-    if a < b {
-        return a;
-    }
-    b
-}
-
-fn upper(a: usize, b: usize) -> usize
-    ensures { λ r. ⌜ r ≡ max a b ⌝ }
-{
-    if a < b {
-        return b;
-    }
-    a
 }
 
 fn pair(low: u8, high: u8) -> u16
@@ -149,7 +133,7 @@ fn read(
 
 // The tape after the move with number `d`.
 fn move_tape(t: Tape, d: u8) -> MovedTape
-    requires { ⌜ (t .head ≤ t .len) × (t .len ≤ 1073741824) ⌝ }
+    requires { ⌜ (t .head ≤ t .len) × (t .len ≤ cellsMost) ⌝ }
     ensures { λ r. ⌜ MovedTapeIf t d r ⌝ }
 {
     if d == 0 {
@@ -179,7 +163,7 @@ fn left(t: Tape) -> MovedTape
             len: t.len,
             origin: t.origin,
             head,
-            lowest: lower(t.lowest, head),
+            lowest: index::min(t.lowest, head),
             highest: t.highest,
         },
         inside: t.head < t.len,
@@ -187,7 +171,7 @@ fn left(t: Tape) -> MovedTape
 }
 
 fn right(t: Tape) -> MovedTape
-    requires { ⌜ (t .head ≤ t .len) × (t .len ≤ 1073741824) ⌝ }
+    requires { ⌜ (t .head ≤ t .len) × (t .len ≤ cellsMost) ⌝ }
     ensures { λ r. ⌜ MovedTapeIf t 1 r ⌝ }
 {
     let head = t.head + 1;
@@ -197,7 +181,7 @@ fn right(t: Tape) -> MovedTape
             origin: t.origin,
             head,
             lowest: t.lowest,
-            highest: upper(t.highest, head),
+            highest: index::max(t.highest, head),
         },
         inside: head < t.len,
     }

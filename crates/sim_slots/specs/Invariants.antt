@@ -5,6 +5,7 @@ use mathlib.Core.List.{List}
 use mathlib.Core.Option.{Option, none, some}
 use Prim.Native.Nat.{ℕ, _+_, _≤_}
 use lib.ListN.{length}
+use Rattle.notation.specs.Limits.{cellsMost}
 use Rattle.outcome.specs.declared.Outcome.{Outcome}
 use Rattle.outcome.specs.declared.Outcome.the-variants.{OutOfFuel}
 use Rattle.machine.specs.declared.Machine.{Machine}
@@ -33,7 +34,7 @@ pub record PutOk (h : Held) (p at : ℕ) (b : List ℕ) : Type 0 where
   pub head-room : p + 20 ≤ at
   pub cells-room : at + h .tape .len ≤ length b
   pub len-in : h .tape .len ≤ length (h .cells)
-  pub len-small : h .tape .len ≤ 1073741824
+  pub len-small : h .tape .len ≤ cellsMost
   pub origin-in : h .tape .origin ≤ h .tape .len
   pub head-in : h .tape .head ≤ h .tape .len
   pub low-in : h .tape .lowest ≤ h .tape .len

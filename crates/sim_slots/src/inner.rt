@@ -1,5 +1,6 @@
 // An advance of the plain engine, and its slots. The functions require buffers and slots of the right sizes.
 use machine::Machine;
+use notation::limits;
 use outcome::Outcome;
 use sim::Answer;
 use sim::Simulator;
@@ -236,7 +237,7 @@ fn fits_in(v: Simulator, m: Machine, slot: &[u8], n0: usize, n1: usize, n2: usiz
     if m.states <= q {
         return false;
     }
-    if 4611686018427387904 < v.steps {
+    if limits::STEPS < v.steps {
         return false;
     }
     if !part_fits(k, t0, slot, 128, n0) {

@@ -1,6 +1,7 @@
 // A timeline over the plain engine: seek, forward and back over slots in a lent store.
 use machine::Checked;
 use machine::Machine;
+use notation::number;
 use outcome::Refusal;
 use sim::Answer;
 use sim::Simulator;
@@ -96,7 +97,7 @@ impl Timeline {
             Checked::Accepted => {
                 let size = engine::slot_size(m, c0.len(), c1.len(), c2.len());
                 let times = self.times;
-                let goal = sums::max(target, times.first);
+                let goal = number::max(target, times.first);
                 return self.go_to(m, table, c0, c1, c2, store, size, goal);
             }
         }

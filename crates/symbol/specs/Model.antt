@@ -1,16 +1,17 @@
 -- Positions as the engines compute with them. Definitions only.
-use Prim.Native.Nat.{ℕ, _+_, _-_, _^_}
+use Prim.Native.Nat.{ℕ, _+_, _-_}
 use mathlib.Core.Option.{Option, none, some}
 use lib.Dec.{leb, ltb}
 use lib.IntN.{ℤ}
 use Rattle.notation.specs.Choice.{pick, both}
+use Rattle.notation.specs.Limits.{raisedZero}
 use Rattle.notation.specs.Position.{up, dn}
 use Rattle.symbol.specs.declared.position.Found.{Found}
 use Rattle.symbol.specs.declared.position.Found.the-variants.{At, Nothing}
 
 -- 2^63 + z, for a z of 64 bits
 abbrev pub raisedOf : ℤ → ℕ
-raisedOf z = 2 ^ 63 + up z - dn z
+raisedOf z = raisedZero + up z - dn z
 
 -- the index origin + up − down, where it is at least 0 and below len
 unfoldable pub indexAt : ℕ → ℕ → ℕ → ℕ → Found
@@ -25,7 +26,7 @@ indexOf z origin len = indexAt (up z) (dn z) origin len
 
 -- the index of position raised − 2^63
 abbrev pub indexOfRaised : ℕ → ℕ → ℕ → Found
-indexOfRaised raised origin len = indexAt raised (2 ^ 63) origin len
+indexOfRaised raised origin len = indexAt raised raisedZero origin len
 
 -- the index that a search found
 abbrev pub foundOf : Option ℕ → Found

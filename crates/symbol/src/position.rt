@@ -1,9 +1,14 @@
 // Positions of a tape, which are signed, and the unsigned numbers that the engines compute with: indexes into a
 // lent buffer, and positions raised by 2^63. These are the only functions that look into a signed number.
+use notation::limits;
 ghost use mathlib.Core.Path.{_≡_};
-ghost use Prim.Native.Nat.{_+_, _^_};
+ghost use Prim.Native.Nat.{_+_};
+ghost use Rattle.notation.specs.Limits.{raisedZero};
 ghost use Rattle.notation.specs.Position.{_⊖_, up, dn};
 ghost use Rattle.symbol.specs.Model.{raisedOf, indexOf, indexOfRaised};
+
+// Position -1, raised.
+const BEFORE_ZERO: u64 = 9223372036854775807;
 
 // An index into a buffer, where there is one.
 pub enum Found {
@@ -13,29 +18,29 @@ pub enum Found {
 
 // A position raised by 2^63.
 pub fn raised(at: i64) -> u64
-    ensures { λ r. ⌜ (r ≡ raisedOf at) × (r + dn at ≡ 2 ^ 63 + up at) ⌝ }
+    ensures { λ r. ⌜ (r ≡ raisedOf at) × (r + dn at ≡ raisedZero + up at) ⌝ }
 {
     if at >= 0 {
-        return 9223372036854775808 + at as u64;
+        return limits::RAISED_ZERO + at as u64;
     }
-    9223372036854775807 - (-1 - at) as u64
+    BEFORE_ZERO - (-1 - at) as u64
 }
 
 // The position whose raised number is `raised`.
 pub fn signed(raised: u64) -> i64
-    ensures { λ r. ⌜ r ≡ raised ⊖ 2 ^ 63 ⌝ }
+    ensures { λ r. ⌜ r ≡ raised ⊖ raisedZero ⌝ }
 {
-    if raised < 9223372036854775808 {
-        return -1 - ((9223372036854775807 - raised) as i64);
+    if raised < limits::RAISED_ZERO {
+        return -1 - ((BEFORE_ZERO - raised) as i64);
     }
-    (raised - 9223372036854775808) as i64
+    (raised - limits::RAISED_ZERO) as i64
 }
 
 // The position of an index, where index `origin` is position 0.
 pub fn of_index(index: u32, origin: u32) -> i64
     ensures { λ r. ⌜ r ≡ index ⊖ origin ⌝ }
 {
-    signed(9223372036854775808 + index as u64 - origin as u64)
+    signed(limits::RAISED_ZERO + index as u64 - origin as u64)
 }
 
 // The index of a position among `len` cells, where index `origin` is position 0.
@@ -49,8 +54,8 @@ pub fn index_of(at: i64, origin: usize, len: usize) -> Found
 pub fn index_of_raised(raised: u64, origin: usize, len: usize) -> Found
     ensures { λ r. ⌜ r ≡ indexOfRaised raised origin len ⌝ }
 {
-    if raised < 9223372036854775808 {
-        let below = 9223372036854775808 - raised;
+    if raised < limits::RAISED_ZERO {
+        let below = limits::RAISED_ZERO - raised;
         if below <= origin as u64 {
             let index = origin - below as usize;
             if index < len {
@@ -59,7 +64,7 @@ pub fn index_of_raised(raised: u64, origin: usize, len: usize) -> Found
         }
         return Found::Nothing;
     }
-    let above = raised - 9223372036854775808;
+    let above = raised - limits::RAISED_ZERO;
     if origin < len {
         if above < (len - origin) as u64 {
             return Found::At(origin + above as usize);

@@ -1,2 +1,3 @@
 pub mod EntryCases
 pub mod WordCases
+pub mod Written

@@ -3,10 +3,11 @@ use symbol::position::Found;
 ghost use mathlib.Core.Path.{_≡_};
 ghost use Prim.Native.Nat.{_+_, _*_, _≤_, _<_, _^_};
 ghost use lib.ListN.{length};
+ghost use lib.Seq.{paste};
 ghost use Rattle.notation.specs.Scan.{allIn, firstFail};
 ghost use Rattle.symbol.specs.Kinds.{symbolIn};
 ghost use Rattle.symbol.specs.Model.{foundOf};
-ghost use Rattle.table_bytes.specs.Model.Entries.{entryNumber, within, zeroAt, headOk, tapeOk, writesOk, definedFor, entryFor};
+ghost use Rattle.table_bytes.specs.Model.Entries.{entryNumber, definedBytes, within, zeroAt, headOk, tapeOk, writesOk, definedFor, entryFor};
 ghost use Rattle.table_bytes.specs.Model.Words.{wordFor};
 
 // The stride k^t, the number of entries for each state.
@@ -38,6 +39,21 @@ pub fn within(low: u64, high: u64, x: u64) -> bool
         return false;
     }
     x <= high
+}
+
+// Writes the eight bytes of a defined entry: its next state, the writes, and the moves of all tapes in one byte.
+pub fn put_entry(table: &mut [u8], at: usize, next: u16, w0: u8, w1: u8, w2: u8, moves: u8)
+    requires { ⌜ at + 8 ≤ length (now table) ⌝ }
+    ensures { λ _. ⌜ now (table .exit) ≡ paste (now (table .entry)) at (definedBytes next w0 w1 w2 moves) 8 ⌝ }
+{
+    table[at] = 1;
+    table[at + 1] = (next % 256) as u8;
+    table[at + 2] = (next / 256) as u8;
+    table[at + 3] = w0;
+    table[at + 4] = w1;
+    table[at + 5] = w2;
+    table[at + 6] = moves;
+    table[at + 7] = 0;
 }
 
 // The number of the lowest bad entry among the first `count`, for n states, t tapes and k symbols.

@@ -5,6 +5,7 @@ use Prim.Native.Nat.{ℕ, _≤_, _<_}
 use lib.Dec.{ltb, leb}
 use lib.ListN.{length, getD}
 use Rattle.notation.specs.Choice.{both}
+use Rattle.notation.specs.Limits.{cellsMost}
 use Rattle.notation.specs.Scan.{allIn}
 use Rattle.symbol.specs.Kinds.{symbolIn}
 use Rattle.tape.specs.declared.Tape.{Tape}
@@ -38,7 +39,7 @@ pub record TapeFits (k : ℕ) (t : Tape) (c : List ℕ) : Type 0 where
 -- true of every tape of at most 2^30 cells that fits, and of one that the machine lacks, whose numbers are 0
 pub record TapeOk (t : Tape) (c : List ℕ) : Type 0 where
   pub len-in : t .len ≤ length c
-  pub len-small : t .len ≤ 1073741824
+  pub len-small : t .len ≤ cellsMost
   pub head-in : t .head ≤ t .len
   pub origin-in : t .origin ≤ t .len
   pub low-in : t .lowest ≤ t .len
@@ -47,4 +48,4 @@ pub record TapeOk (t : Tape) (c : List ℕ) : Type 0 where
 -- a tape with a cell under its head has a buffer of at most 2^30 cells; one that the machine lacks may have any buffer
 pub record TapeSafe (t : Tape) (c : List ℕ) : Type 0 where
   pub ok : TapeOk t c
-  pub sized : t .head < t .len → length c ≤ 1073741824
+  pub sized : t .head < t .len → length c ≤ cellsMost

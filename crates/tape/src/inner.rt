@@ -2,6 +2,7 @@
 use super::Span;
 use super::Spot;
 use super::Tape;
+use notation::index;
 use symbol::Dir;
 use symbol::position;
 use symbol::position::Found;
@@ -11,6 +12,7 @@ ghost use mathlib.Core.Path.{_≡_};
 ghost use mathlib.Core.Bool.{true, false};
 ghost use Prim.Native.Nat.{_+_, _≤_};
 ghost use lib.ListN.{length};
+ghost use Rattle.notation.specs.Limits.{cellsMost};
 ghost use Rattle.tape.specs.Model.Moves.{held, freshOf, readOf, leaves, roomFor, growOf, shiftOf, actOf};
 ghost use Rattle.tape.specs.Fits.{TapeOk, shapeFits, tapeFits, reach};
 ghost use Rattle.tape.specs.Model.Questions.{blankBeyond, cellAt, spanOf, spotOf, nonBlankOf, countOf, windowOf, findOf};
@@ -45,7 +47,7 @@ pub fn read(t: Tape, cells: &[u8]) -> u8
 impl Tape {
     // Whether the move leaves the cells.
     fn leaves(self, d: Dir) -> bool
-        requires { ⌜ (self .head ≤ self .len) × (self .len ≤ 1073741824) ⌝ }
+        requires { ⌜ (self .head ≤ self .len) × (self .len ≤ cellsMost) ⌝ }
         ensures { λ r. ⌜ r ≡ leaves self d ⌝ }
     {
         match d {
@@ -95,7 +97,7 @@ impl Tape {
         match d {
             Dir::L => {
                 let head = self.head - 1;
-                let lowest = loops::smaller(self.lowest, head);
+                let lowest = index::min(self.lowest, head);
                 Tape {
                     len: self.len,
                     origin: self.origin,
@@ -106,7 +108,7 @@ impl Tape {
             }
             Dir::R => {
                 let head = self.head + 1;
-                let highest = loops::larger(self.highest, head);
+                let highest = index::max(self.highest, head);
                 Tape {
                     len: self.len,
                     origin: self.origin,
@@ -156,7 +158,7 @@ impl Tape {
 
 // Whether the move has room in a buffer of `cap` cells.
 pub fn room(t: Tape, cap: usize, d: Dir) -> bool
-    requires { ⌜ (t .head ≤ t .len) × (t .len ≤ 1073741824) ⌝ }
+    requires { ⌜ (t .head ≤ t .len) × (t .len ≤ cellsMost) ⌝ }
     ensures { λ r. ⌜ r ≡ roomFor t cap d ⌝ }
 {
     if t.leaves(d) {
@@ -248,7 +250,7 @@ pub fn find_non_blank(t: Tape, cells: &[u8], from: i64, dir: Dir) -> Spot
 
 // The positions of two indexes.
 fn span(first: Found, last: Found, origin: usize) -> Span
-    requires { ⌜ (reach first ≤ 1073741824) × (reach last ≤ 1073741824) × (origin ≤ 1073741824) ⌝ }
+    requires { ⌜ (reach first ≤ cellsMost) × (reach last ≤ cellsMost) × (origin ≤ cellsMost) ⌝ }
     ensures { λ r. ⌜ r ≡ spanOf origin first last ⌝ }
 {
     match first {
@@ -266,7 +268,7 @@ fn span(first: Found, last: Found, origin: usize) -> Span
 
 // The position of an index.
 fn spot(found: Found, origin: usize) -> Spot
-    requires { ⌜ (reach found ≤ 1073741824) × (origin ≤ 1073741824) ⌝ }
+    requires { ⌜ (reach found ≤ cellsMost) × (origin ≤ cellsMost) ⌝ }
     ensures { λ r. ⌜ r ≡ spotOf origin found ⌝ }
 {
     match found {

@@ -5,6 +5,7 @@ ghost use Prim.Native.Nat.{_+_, _-_, _≤_, _<_};
 ghost use lib.Dec.{eqb};
 ghost use lib.ListN.{length, getD, set};
 ghost use Rattle.notation.specs.Choice.{pick};
+ghost use Rattle.notation.specs.Limits.{cellsMost};
 ghost use Rattle.notation.specs.Scan.{allIn};
 ghost use Rattle.notation.specs.ScanDown.{countFails};
 ghost use Rattle.symbol.specs.Kinds.{symbolIn};
@@ -180,29 +181,11 @@ pub fn count_written(cells: &[u8], n: usize) -> u64
 
 // How many cells a growth adds: as many as there are, or none where the buffer has no space for them.
 pub fn extra(len: usize, cap: usize) -> usize
-    requires { ⌜ len ≤ 1073741824 ⌝ }
+    requires { ⌜ len ≤ cellsMost ⌝ }
     ensures { λ r. ⌜ (r ≡ extra len cap) × (r ≤ len) ⌝ }
 {
     if len + len <= cap {
         return len;
     }
     0
-}
-
-pub fn smaller(a: usize, b: usize) -> usize
-    ensures { λ r. ⌜ r ≡ Prim.Native.Nat.min a b ⌝ }
-{
-    if a < b {
-        return a;
-    }
-    b
-}
-
-pub fn larger(a: usize, b: usize) -> usize
-    ensures { λ r. ⌜ r ≡ Prim.Native.Nat.max a b ⌝ }
-{
-    if a < b {
-        return b;
-    }
-    a
 }

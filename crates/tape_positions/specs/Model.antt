@@ -7,6 +7,7 @@ use lib.IntN.{ℤ}
 use lib.ListN.{length}
 use Rattle.notation.specs.Choice.{pick}
 use Rattle.notation.specs.Fill.{fillFrom}
+use Rattle.notation.specs.Limits.{cellsMost}
 use Rattle.notation.specs.Position.{_⊖_, up, dn}
 use Rattle.symbol.specs.Model.{raisedOf, indexOf}
 use Rattle.symbol.specs.declared.position.Found.{Found}
@@ -15,7 +16,7 @@ use Rattle.tape_cells.specs.Model.{foundCell, firstWritten, lastWritten}
 -- what the questions may assume
 pub record Shown (o len : ℕ) (c : List ℕ) : Type 0 where
   pub len-in : len ≤ length c
-  pub len-small : len ≤ 1073741824
+  pub len-small : len ≤ cellsMost
   pub origin-in : o ≤ len
 
 -- ---- a cell by its position

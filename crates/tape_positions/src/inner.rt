@@ -1,4 +1,6 @@
 // Questions about positions, on the first `len` of a tape's cells. Index `origin` is position 0.
+use notation::index;
+use notation::limits;
 use symbol::position;
 use symbol::position::Found;
 use tape_cells::inner as loops;
@@ -56,18 +58,18 @@ fn cells_below(raised: u64, origin: usize, len: usize) -> usize
     requires { ⌜ (origin ≤ 4294967296) × (len ≤ 4294967296) ⌝ }
     ensures { λ r. ⌜ r ≡ cellsBelow raised (2 ^ 63) origin len ⌝ }
 {
-    if raised < 9223372036854775808 {
-        let below = 9223372036854775808 - raised;
+    if raised < limits::RAISED_ZERO {
+        let below = limits::RAISED_ZERO - raised;
         if origin as u64 <= below {
             return 0;
         }
-        return loops::smaller(origin - below as usize, len);
+        return index::min(origin - below as usize, len);
     }
-    let above = raised - 9223372036854775808;
+    let above = raised - limits::RAISED_ZERO;
     if len as u64 <= above {
         return len;
     }
-    loops::smaller(origin + above as usize, len)
+    index::min(origin + above as usize, len)
 }
 
 // The highest non-blank cell at a position or below it.

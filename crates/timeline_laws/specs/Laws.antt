@@ -2,8 +2,9 @@
 use mathlib.Core.Path.{_≡_}
 use mathlib.Core.Option.{some}
 use Prim.Native.Nat.{ℕ, _+_, _≤_, _<_}
+use Rattle.notation.specs.Limits.{stepsMost}
 use Rattle.machine.specs.declared.Checked.the-variants.{Accepted}
-use Rattle.timeline_rule.specs.Model.Engine.{limit, Ops}
+use Rattle.timeline_rule.specs.Model.Engine.{Ops}
 use Rattle.timeline_laws.specs.Automaton.{Automaton, iterate}
 
 -- How an advance of n steps ends, which starts with meaning x, answers o and leaves meaning y. Either every step was made (a step leaves a halted engine as it
@@ -32,7 +33,7 @@ pub record Laws (M : Automaton) (O : Ops (M .Out)) : Type 1 where
   -- slot i holds that engine
   pub Holds : O .Store → ℕ → O .State → Type 0
   pub fits-check : (s : O .State) → Fits s → O .check s ≡ Accepted
-  pub fits-low : (s : O .State) → Fits s → O .now s ≤ limit
+  pub fits-low : (s : O .State) → Fits s → O .now s ≤ stepsMost
   pub fits-good : (s : O .State) → Fits s → Good (mean s)
   -- a step
   pub now-is : (s : O .State) → O .now s ≡ M .steps (config (mean s))
@@ -41,9 +42,9 @@ pub record Laws (M : Automaton) (O : Ops (M .Out)) : Type 1 where
   pub next-stays : (x : Mean) → Good x → M .Halted (config x) → next x ≡ x
   pub no-room-runs : (x : Mean) → Good x → NoRoom x → ¬ M .Halted (config x)
   -- an advance
-  pub advances : (n : ℕ) (s : O .State) → Fits s → O .now s + n ≤ limit
+  pub advances : (n : ℕ) (s : O .State) → Fits s → O .now s + n ≤ stepsMost
       → Advance M Mean config next NoRoom n (mean s) (O .advance n s .0) (mean (O .advance n s .1))
-  pub advance-fits : (n : ℕ) (s : O .State) → Fits s → O .now s + n ≤ limit → Fits (O .advance n s .1)
+  pub advance-fits : (n : ℕ) (s : O .State) → Fits s → O .now s + n ≤ stepsMost → Fits (O .advance n s .1)
   -- the store
   pub save-slots : (i : ℕ) (s : O .State) (t : O .Store) → Fits s → i < O .slots t → O .slots (O .save i s t) ≡ O .slots t
   pub save-same : (i : ℕ) (s : O .State) (t : O .Store) → Fits s → i < O .slots t → Holds (O .save i s t) i s

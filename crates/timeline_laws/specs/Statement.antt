@@ -1,7 +1,8 @@
 -- THE THIRD DEMAND, for any kind of engine, in terms of the table machine and the models only. Definitions only. `Demand` is the statement, for fresh engines;
 -- `DemandFrom` is the same for any engine value that a new timeline accepts. Both use `WholeList`, where c is the configuration that the engine holds at the start.
-use Prim.Native.Nat.{ℕ, _+_, _-_, _*_, _≤_, _<_, min, max}
+use Prim.Native.Nat.{ℕ, _+_, _-_, _*_, _≤_, _<_, min, max, _^_}
 use mathlib.Core.Path.{_≡_}
+use mathlib.Core.Bool.{Bool, true, false}
 use mathlib.Core.Logic.{_↔_}
 use mathlib.Core.Option.{Option, none, some}
 use mathlib.Core.List.{List, [], _∷_, _++_}
@@ -12,13 +13,12 @@ use Rattle.outcome.specs.declared.NonHaltProof.{NonHaltProof}
 use Rattle.outcome.specs.declared.Outcome.{Outcome}
 use Rattle.outcome.specs.declared.Outcome.the-variants as Out
 use Rattle.outcome.specs.declared.Refusal.{Refusal}
-use Rattle.outcome.specs.Numbers.{proofState, refusalNumber}
+use Rattle.outcome.specs.Numbers.{stepsOf, isFull, proofState, refusalNumber}
 use Rattle.machine.specs.declared.Machine.{Machine}
 use Rattle.table_laws.specs.WellFormed.{Bytes}
 use Rattle.table_machine.specs.TableMachine.{Config, start, run, Halted, Verdict}
 use Rattle.table_machine.specs.Tables.{tableOf}
 use Rattle.store_bytes.specs.Model.{slotOf}
-use Rattle.timeline_rule.specs.Model.Engine.{limit}
 use Rattle.timeline_rule.specs.Model.Timeline.{Reply, refused, answered, Call, forward, target}
 use Rattle.timeline_rule.specs.Model.Kind.{TimelineOf, newOn, callOn}
 use Rattle.timeline_laws.specs.Meaning.{EngineMeaning}
@@ -39,7 +39,7 @@ orHalt t (some h) = min t h
 -- "An accepted call makes p its target, or h where that is less; a refused one leaves p."
 abbrev pub placeBy : (first : ℕ) → Option ℕ → ℕ → List Call → ℕ
 placeBy first h p [] = p
-placeBy first h p (k ∷ ks) = placeBy first h (pick (leb (target p k) limit) (orHalt (goal first p k) h) p) ks
+placeBy first h p (k ∷ ks) = placeBy first h (pick (leb (target p k) (2 ^ 62)) (orHalt (goal first p k) h) p) ks
 
 -- the same without h, so that it need not be decided whether the machine halts
 module _ (m : Machine) (s : List ℕ) (c : Config) where
@@ -63,20 +63,21 @@ module _ (m : Machine) (s : List ℕ) (c : Config) where
   goalIn p k = goal (c .steps) p k
 
   abbrev pub movedIn : ℕ → Call → ℕ
-  movedIn p k = pick (leb (target p k) limit) (reachIn (goalIn p k)) p
+  movedIn p k = pick (leb (target p k) (2 ^ 62)) (reachIn (goalIn p k)) p
 
   abbrev pub placeIn : ℕ → List Call → ℕ
   placeIn p [] = p
   placeIn p (k ∷ ks) = placeIn (movedIn p k) ks
 
+-- the answer's steps where it is full, else q
+abbrev pub stepsIf : (full : Bool) → Outcome → ℕ → ℕ
+stepsIf true o q = stepsOf o
+stepsIf false o q = q
+
 -- p after a call with that answer, where q is p by the rule: after lack of space p is the engine's step count, which the answer gives
 abbrev pub stoppedAt : Reply Outcome → ℕ → ℕ
 stoppedAt (refused why) q = q
-stoppedAt (answered (Out.Halted n x)) q = q
-stoppedAt (answered (Out.OutOfFuel n)) q = q
-stoppedAt (answered (Out.NeverHalts n x)) q = q
-stoppedAt (answered (Out.Stopped n)) q = q
-stoppedAt (answered (Out.Full n)) q = n
+stoppedAt (answered o) q = stepsIf (isFull o) o q
 
 -- "The verdict's parts, as in outcome.rs, are read from the configuration": the step count, and the state that the verdict names
 abbrev pub Numbers : Outcome → Config → Type 0
@@ -149,10 +150,10 @@ module _ (X : EngineMeaning) (m : Machine) (s : List ℕ) (c : Config) (e : X .k
   -- the claims about the result r of the call k, made at p on v
   pub record Result (v : TimelineOf (X .kind)) (p : ℕ) (k : Call) (r : Reply Outcome × TimelineOf (X .kind)) : Type 0 where
     -- "A call is refused exactly when its target is over 2^62.": the refusal's number is 13, and nothing changes
-    pub refuses : limit < target p k → (why : Refusal) × (refusalNumber why ≡ 13) × (r ≡ (refused why, v))
-    pub accepts : target p k ≤ limit → (o : Outcome) × (r .0 ≡ answered o)
+    pub refuses : 2 ^ 62 < target p k → (why : Refusal) × (refusalNumber why ≡ 13) × (r ≡ (refused why, v))
+    pub accepts : target p k ≤ 2 ^ 62 → (o : Outcome) × (r .0 ≡ answered o)
     -- "A call ends for lack of space exactly when a step on its way is full by its engine's rule."
-    pub space : target p k ≤ limit → ((n : ℕ) × (r .0 ≡ answered (Out.Full n))) ↔ ((j : ℕ) × (p ≤ j) × (j < goalIn m s c p k) × FullFrom j)
+    pub space : target p k ≤ 2 ^ 62 → ((n : ℕ) × (r .0 ≡ answered (Out.Full n))) ↔ ((j : ℕ) × (p ≤ j) × (j < goalIn m s c p k) × FullFrom j)
     pub stands : (n : ℕ) → r .0 ≡ answered (Out.Full n) → Stuck (r .1) p (goalIn m s c p k) n
     -- "Each accepted call is answered with the verdict of the configuration that the engine then holds.": where it does not end for lack of space, that is the
     -- configuration after p′ steps, where p′ is the new p by the rule
@@ -184,11 +185,11 @@ module _ (X : EngineMeaning) (m : Machine) (s : List ℕ) (c : Config) (e : X .k
     pub paper : (h : Option ℕ) → HaltsIn m s c h → (placeIn m s c (c .steps) ks ≡ placeBy (c .steps) h (c .steps) ks) × ((t : ℕ) → c .steps ≤ t → reachIn m s c t ≡ orHalt t h)
     -- "So from any such p, forward a and then forward b end in the same configuration and answer as one forward a + b, where p + a + b is within that limit and
     -- none of the three calls ends for lack of space."
-    pub twice : (a b : ℕ) → placeAfter X m s c v ks + a + b ≤ limit
+    pub twice : (a b : ℕ) → placeAfter X m s c v ks + a + b ≤ 2 ^ 62
         → RoomFor X m s (afterOn X m s v ks) (forward a) → RoomFor X m s (callOn (X .kind) m s (afterOn X m s v ks) (forward a) .1) (forward b)
         → Twice X m s (afterOn X m s v ks) a b
     -- `FullFrom` is the engine's rule: an advance of n steps by e itself ends full exactly when one of its steps is full
-    pub rule : (n : ℕ) → c .steps + n ≤ limit
+    pub rule : (n : ℕ) → c .steps + n ≤ 2 ^ 62
         → ((i : ℕ) × (X .kind .advance m s n e .0 ≡ Out.Full i)) ↔ ((j : ℕ) × (c .steps ≤ j) × (j < c .steps + n) × FullFrom j)
     -- the timeline's starting step is the step count of c
     pub begins : afterOn X m s v ks .times .first ≡ c .steps

@@ -5,12 +5,12 @@ use mathlib.Core.List.{List}
 use mathlib.Core.Option.{Option, some}
 use Prim.Native.Nat.{ℕ, _+_, _-_, _≤_, _<_}
 use Rattle.notation.specs.Choice.{pick}
+use Rattle.notation.specs.Limits.{stepsMost}
 use Rattle.outcome.specs.declared.Outcome.{Outcome}
 use Rattle.machine.specs.declared.Machine.{Machine}
 use Rattle.machine.specs.declared.Checked.the-variants.{Accepted}
 use Rattle.store_bytes.specs.Model.{slotCount}
 use Rattle.timeline_rule.specs.declared.Times.{Times}
-use Rattle.timeline_rule.specs.Model.Engine.{limit}
 use Rattle.timeline_rule.specs.Model.Timeline.{slotFor, slotStep, advanceTo, gasFor}
 use Rattle.timeline_rule.specs.Model.Due.{TimesFit, stopFor}
 use Rattle.timeline_rule.specs.Model.Kind.{Kind, TimelineOf, opsOf}
@@ -24,19 +24,19 @@ timelineOf X e t v = record { engine = e; store = t; times = v }
 pub record Sound (X : Kind) (m : Machine) (s : List ℕ) (size : ℕ) (Fits : X .State → Type 0) : Type 0 where
   -- an accepted engine whose buffers give slots of that size fits
   pub accepted : (e : X .State) → X .check m s e ≡ Accepted → X .slotSize m e ≡ size → Fits e
-  pub low : (e : X .State) → Fits e → X .now e ≤ limit
+  pub low : (e : X .State) → Fits e → X .now e ≤ stepsMost
   -- an advance keeps the engine fitting and does not go back
-  pub advance-fits : (n : ℕ) (e : X .State) → Fits e → X .now e + n ≤ limit → Fits (X .advance m s n e .1)
-  pub advance-climbs : (n : ℕ) (e : X .State) → Fits e → X .now e + n ≤ limit → X .now e ≤ X .now (X .advance m s n e .1)
+  pub advance-fits : (n : ℕ) (e : X .State) → Fits e → X .now e + n ≤ stepsMost → Fits (X .advance m s n e .1)
+  pub advance-climbs : (n : ℕ) (e : X .State) → Fits e → X .now e + n ≤ stepsMost → X .now e ≤ X .now (X .advance m s n e .1)
   -- an engine restored into the buffers of a fitting one fits, and its step count is p
-  pub restored-fits : (b : List ℕ) (p : ℕ) (e r : X .State) → Fits e → p ≤ limit → some r ≡ X .unpack m b p e → Fits r
-  pub restored-now : (b : List ℕ) (p : ℕ) (e r : X .State) → Fits e → p ≤ limit → some r ≡ X .unpack m b p e → X .now r ≡ p
+  pub restored-fits : (b : List ℕ) (p : ℕ) (e r : X .State) → Fits e → p ≤ stepsMost → some r ≡ X .unpack m b p e → Fits r
+  pub restored-now : (b : List ℕ) (p : ℕ) (e r : X .State) → Fits e → p ≤ stepsMost → some r ≡ X .unpack m b p e → X .now r ≡ p
 
 -- ---- the timeline's numbers; its slots can hold any bytes
 
 pub record Shape (v : Times) : Type 0 where
   pub most-in : v .most ≤ 512
-  pub first-in : v .first ≤ limit
+  pub first-in : v .first ≤ stepsMost
   pub count-low : 1 ≤ v .count
   pub count-in : v .count ≤ v .most
   pub every-in : 1 ≤ v .every
@@ -52,20 +52,20 @@ module _ (X : Kind) (size : ℕ) (Fits : X .State → Type 0) where
   pub record LoopOk (t : ℕ) (w : TimelineOf X) : Type 0 where
     pub rec : RecOk w
     pub below : X .now (w .engine) ≤ t
-    pub top : t ≤ limit
+    pub top : t ≤ stepsMost
 
   -- the requirements of an accepted call, whose target is at least the start
   pub record GoOk (t : ℕ) (w : TimelineOf X) : Type 0 where
     pub rec : RecOk w
     pub start : w .times .first ≤ t
-    pub top : t ≤ limit
+    pub top : t ≤ stepsMost
 
   -- the requirements of one advance
   pub record StrideOk (t : ℕ) (v : Times) (e : X .State) : Type 0 where
     pub fits : Fits e
     pub numbers : TimesFit v
     pub below : X .now e ≤ t
-    pub top : t ≤ limit
+    pub top : t ≤ stepsMost
 
 module _ (X : Kind) (m : Machine) (s : List ℕ) where
   -- one advance, to the target or to the step of the next slot

@@ -2,24 +2,23 @@
 // The contracts require numbers of which no sum wraps.
 use super::Times;
 use machine::Checked;
+use notation::limits;
+use notation::number;
 use outcome::Outcome;
 use outcome::Refusal;
 ghost use mathlib.Core.Path.{_≡_};
 ghost use Prim.Native.Nat.{_+_, _-_, _≤_, min};
+ghost use Rattle.notation.specs.Limits.{stepsMost};
 ghost use Rattle.machine.specs.Model.Check.{within};
-ghost use Rattle.timeline_rule.specs.Model.Engine.{limit};
 ghost use Rattle.timeline_rule.specs.Model.Timeline.{timesOk, slotFor, oneMore, firstCheck, laterCheck};
 ghost use Rattle.timeline_rule.specs.Model.Kind.{spent};
 ghost use Rattle.timeline_rule.specs.Model.Due.{dueOf, isDue, stopFor, forwardTo, targetTo, Thinned, TimesFit, ThinOk, RecordOk};
 
-pub fn max(a: u64, b: u64) -> u64
-    ensures { λ r. ⌜ r ≡ Prim.Native.Nat.max a b ⌝ }
-{
-    if a < b {
-        return b;
-    }
-    a
-}
+// A step that no engine reaches: 2^62 + 1.
+const UNREACHED: u64 = limits::STEPS + 1;
+
+// An interval up to 2^53 is short: 512 times it is at most 2^62.
+const SHORT: u64 = 9007199254740992;
 
 pub(crate) fn within(low: u64, high: u64, x: u64) -> bool
     ensures { λ r. ⌜ r ≡ within low high x ⌝ }
@@ -32,38 +31,38 @@ pub(crate) fn within(low: u64, high: u64, x: u64) -> bool
 
 // A step, or 2^62 + 1 for any over 2^62: no engine reaches those.
 fn capped(step: u64) -> u64
-    ensures { λ r. ⌜ r ≡ min step (limit + 1) ⌝ }
+    ensures { λ r. ⌜ r ≡ min step (stepsMost + 1) ⌝ }
 {
-    if step <= 4611686018427387904 {
+    if step <= limits::STEPS {
         return step;
     }
-    4611686018427387905
+    UNREACHED
 }
 
 // The step at which the next slot is due, or 2^62 + 1 where that is over 2^62.
 fn far_due(first: u64, count: u64, every: u64) -> u64
-    requires { ⌜ first ≤ limit ⌝ }
+    requires { ⌜ first ≤ stepsMost ⌝ }
     requires { ⌜ 1 ≤ every ⌝ }
     ensures { λ r. ⌜ r ≡ dueOf first count every ⌝ }
 {
-    let room = (4611686018427387904 - first) / every;
+    let room = (limits::STEPS - first) / every;
     if count <= room {
         first + count * every
     } else {
-        4611686018427387905
+        UNREACHED
     }
 }
 
-// The same, without a division for a count up to 512 (as refusal 14 requires) and an interval up to 2^53.
+// The same, without a division for a count up to 512 (as refusal 14 requires) and a short interval.
 fn due(first: u64, count: u64, every: u64) -> u64
-    requires { ⌜ first ≤ limit ⌝ }
+    requires { ⌜ first ≤ stepsMost ⌝ }
     requires { ⌜ 1 ≤ every ⌝ }
     ensures { λ r. ⌜ r ≡ dueOf first count every ⌝ }
 {
     if 512 < count {
         return far_due(first, count, every);
     }
-    if 9007199254740992 < every {
+    if SHORT < every {
         return far_due(first, count, every);
     }
     capped(first + count * every)
@@ -73,11 +72,11 @@ fn due(first: u64, count: u64, every: u64) -> u64
 pub fn forward_to(p: u64, n: u64) -> u64
     ensures { λ r. ⌜ r ≡ forwardTo p n ⌝ }
 {
-    if 4611686018427387904 < p {
-        return 4611686018427387905;
+    if limits::STEPS < p {
+        return UNREACHED;
     }
-    if 4611686018427387904 - p < n {
-        return 4611686018427387905;
+    if limits::STEPS - p < n {
+        return UNREACHED;
     }
     p + n
 }
@@ -109,13 +108,7 @@ pub fn target_of(which: u64, p: u64, n: u64) -> u64
 pub fn is_spent(outcome: Outcome) -> bool
     ensures { λ r. ⌜ r ≡ spent outcome ⌝ }
 {
-    match outcome {
-        Outcome::Halted { steps: _, state: _ } => false,
-        Outcome::OutOfFuel { steps: _ } => true,
-        Outcome::NeverHalts { steps: _, proof: _ } => false,
-        Outcome::Stopped { steps: _ } => false,
-        Outcome::Full { steps: _ } => false,
-    }
+    outcome.number() == 1
 }
 
 // Refusals 14 and 15 of a new timeline, on a store of `slots` slots.
@@ -134,13 +127,13 @@ pub fn first_check(most: u64, every: u64, slots: usize) -> Checked
 impl Times {
     // Whether a later value, whose engine is at step p, passes the test of refusal 14.
     fn ok(self, p: u64) -> bool
-        requires { ⌜ p ≤ limit ⌝ }
+        requires { ⌜ p ≤ stepsMost ⌝ }
         ensures { λ r. ⌜ r ≡ timesOk self p ⌝ }
     {
         if !within(1, 512, self.most) {
             return false;
         }
-        if !within(1, 9223372036854775808, self.every) {
+        if !within(1, limits::INTERVAL, self.every) {
             return false;
         }
         if !within(1, self.most, self.count) {
@@ -175,7 +168,7 @@ impl Times {
 
 // Refusals 14, 15 and 13 of a call, on an engine at step p and a store of `slots` slots.
 pub fn later_check(t: Times, p: u64, slots: usize, target: u64) -> Checked
-    requires { ⌜ p ≤ limit ⌝ }
+    requires { ⌜ p ≤ stepsMost ⌝ }
     ensures { λ r. ⌜ r ≡ laterCheck t p slots target ⌝ }
 {
     if !t.ok(p) {
@@ -184,7 +177,7 @@ pub fn later_check(t: Times, p: u64, slots: usize, target: u64) -> Checked
     if (slots as u64) <= t.most {
         return Checked::Refused(Refusal::StoreSize);
     }
-    if 4611686018427387904 < target {
+    if limits::STEPS < target {
         return Checked::Refused(Refusal::StepLimit);
     }
     Checked::Accepted
@@ -192,7 +185,7 @@ pub fn later_check(t: Times, p: u64, slots: usize, target: u64) -> Checked
 
 pub fn is_due(t: Times, p: u64) -> bool
     requires { ⌜ TimesFit t ⌝ }
-    requires { ⌜ p ≤ limit ⌝ }
+    requires { ⌜ p ≤ stepsMost ⌝ }
     ensures { λ r. ⌜ r ≡ isDue t p ⌝ }
 {
     let d = due(t.first, t.count, t.every);
@@ -202,14 +195,14 @@ pub fn is_due(t: Times, p: u64) -> bool
 // The step at which the next advance stops: the target, or that of the next slot where it comes first.
 pub fn stop(t: Times, target: u64, p: u64) -> u64
     requires { ⌜ TimesFit t ⌝ }
-    requires { ⌜ target ≤ limit ⌝ }
+    requires { ⌜ target ≤ stepsMost ⌝ }
     ensures { λ r. ⌜ r ≡ stopFor target t p ⌝ }
 {
     let d = due(t.first, t.count, t.every);
     if target < d {
-        return max(target, p);
+        return number::max(target, p);
     }
-    max(d, p)
+    number::max(d, p)
 }
 
 // The slot to go back to.

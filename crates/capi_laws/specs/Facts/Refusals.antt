@@ -46,10 +46,11 @@ use Rattle.sim_timeline.specs.Model as PlainTimes
 use Rattle.rle_timeline.specs.Model as ChainTimes
 use Rattle.capi_numbers.specs.Model.Engines.{engineOf, withEngine, chainOf, timesFrom}
 use Rattle.capi_numbers.specs.Model.Answers.{placeOut, refusedOut}
-use Rattle.capi.specs.Model.Calls.{call, newCall, stepCall, ranCall}
-use Rattle.capi.specs.Model.Chains.{chainCall, chainNewCall, chainRanCall}
-use Rattle.capi.specs.Model.Timelines.{timelineNewCall, timelineCall, movedCall}
-use Rattle.capi.specs.Model.ChainTimelines.{chainTimelineCall, chainMovedCall}
+use Rattle.capi_numbers.specs.Model.Timelines.{timelineNewCall}
+use Rattle.capi_sim.specs.Model.Calls.{call, newCall, stepCall, ranCall}
+use Rattle.capi_sim.specs.Model.Timelines.{timelineCall, movedCall}
+use Rattle.capi_rle.specs.Model.Calls.{chainCall, chainNewCall, chainRanCall}
+use Rattle.capi_rle.specs.Model.Timelines.{chainTimelineCall, chainMovedCall}
 use Rattle.demands.specs.FirstClaims.{ofFresh, ofAnswer, ofStep, ofChain}
 use Rattle.demands.specs.FirstTimeline.{ofReply}
 use Rattle.capi_laws.specs.Facts.RoundTrips.{engine-kept, chain-kept, times-kept}

@@ -10,6 +10,7 @@ use borrow.Author.Tests.{eqb-true, eq-eqb}
 use lib.ListN.{drop, length-take}
 use Rattle.notation.specs.Choice.{pick}
 use Rattle.notation.specs.Facts.Tests.{clash, both-split, both-true}
+use Rattle.notation.specs.Limits.{stepsMost}
 use Rattle.outcome.specs.declared.Outcome.{Outcome}
 use Rattle.outcome.specs.declared.Outcome.the-variants.{Full}
 use Rattle.machine.specs.declared.Machine.{Machine}
@@ -29,7 +30,6 @@ use Rattle.rle_refines.specs.Facts.Run.{no-fuel-verdict}
 use Rattle.rle_refines.specs.Facts.Canonical.{full-exact}
 use Rattle.rle_refines.specs.Facts.Fits.{fits-holds, holds-fits}
 use Rattle.rle_refines.specs.Facts.Operations.{Passed, engine-says}
-use Rattle.timeline_rule.specs.Model.Engine.{limit}
 use Rattle.timeline_rule.specs.Model.Kind.{verdictOr}
 use Rattle.rle_slots.specs.Model.Advance.{ranFrom, advanceOf}
 use Rattle.rle_slots.specs.Facts.Advance.{advance-fits}
@@ -44,7 +44,7 @@ use Rattle.demands.specs.Facts.FirstTimelineSpace.{there-is, there-says,
 
 -- ---- an advance
 
-module _ (m : Machine) (s : List ℕ) (bytes : Bytes s) (n : ℕ) (σ : Conf) (checked : engineCheck m s σ ≡ Accepted) (small : σ .sim .steps + n ≤ limit) where
+module _ (m : Machine) (s : List ℕ) (bytes : Bytes s) (n : ℕ) (σ : Conf) (checked : engineCheck m s σ ≡ Accepted) (small : σ .sim .steps + n ≤ stepsMost) where
   abbrev quiet : Task
   quiet = task m s false Rule.Never
 

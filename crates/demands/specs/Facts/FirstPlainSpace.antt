@@ -1,5 +1,5 @@
 -- The plain engine's runs and steps that end for lack of space. Assumes nothing.
-use mathlib.Core.Path.{_≡_, refl, sym, ap, _∙_, subst}
+use mathlib.Core.Path.{_≡_, refl, sym, ap, _∙_, subst, subst⁻¹}
 use mathlib.Core.Logic.{_↔_}
 use mathlib.Core.Bool.{true, false}
 use mathlib.Core.List.{List}
@@ -39,7 +39,7 @@ use Rattle.demands.specs.FirstClaims.{ofAnswer, ofStep}
 use Rattle.demands.specs.FirstSpace.{GoesOn, EndsFull, PlainFull}
 use Rattle.demands.specs.Facts.First.{plain-run-first}
 use Rattle.demands.specs.Facts.FirstPlain.{plain-run-turns, plain-step-turns}
-use Rattle.demands.specs.Facts.FirstSpace.{lacks-some, some-lacks, full-ends, full-once, once-full, fuel-verdict}
+use Rattle.demands.specs.Facts.FirstSpace.{full-act, lacks-some, some-lacks, full-ends, full-once, once-full, fuel-verdict}
 
 -- ---- an answer that is no refusal was accepted
 
@@ -66,7 +66,7 @@ module _ (m : Machine) (s : List ℕ) (bytes : Bytes s) where
 
   lacks-room : (σ : Conf) → tableCheck m s ≡ Accepted → EngineFits m (bareOf m σ) → (a : Action) → entry (tableOf m s) (configOf m σ) ≡ Defined a → roomyOf (bareOf m σ) a ≡ false
       → PlainFull m s σ
-  lacks-room σ c f a e r = record { act = a; has = e; full = lacks-some m σ a f (accepted-table m s bytes c _ _ _ _ a e) r }
+  lacks-room σ c f a e r = lacks-some m s (accepted-table m s bytes c) σ f a (ap (entry (tableOf m s)) (config-bare m σ) ∙ e) r
 
   -- ---- a run that answers full
 
@@ -107,19 +107,21 @@ module _ (m : Machine) (s : List ℕ) (bytes : Bytes s) where
   -- ---- a run whose next step is full
 
   -- from e, the engine without the caller's own fields
-  ends-full : (rule : StopRule) (fuel : ℕ) (e : Conf) (σ : Conf) → 0 < fuel → EngineFits m e → bareOf m σ ≡ e → GoesOn m (tableOf m s) (configOf m e) → PlainFull m s σ
+  ends-full : (rule : StopRule) (fuel : ℕ) (e : Conf) (σ : Conf) → tableCheck m s ≡ Accepted → 0 < fuel → EngineFits m e → bareOf m σ ≡ e → GoesOn m (tableOf m s) (configOf m e) → PlainFull m s σ
       → runOf (task m s true rule) fuel e ≡ fullEnd e
-  ends-full rule zero e σ l f q v g = absurd (omega arith)
-  ends-full rule (suc fuel) e σ l f q v g =
-      full-ends (task m s true rule) e f (g .act) (ap (entry (tableOf m s)) (ap (configOf m) (sym q) ∙ config-bare m σ) ∙ g .has) v
-      (ap (λ (x : Conf). roomyOf x (g .act)) (sym q) ∙ some-lacks m σ (g .act) (g .full)) fuel
+  ends-full rule zero e σ c l f q v g = absurd (omega arith)
+  ends-full rule (suc fuel) e σ c l f q v g =
+      let x = full-act m s σ g in
+      let h : entry (tableOf m s) (configOf m (bareOf m σ)) ≡ Defined (x .0) = ap (entry (tableOf m s)) (config-bare m σ) ∙ x .1 in
+      full-ends (task m s true rule) e f (x .0) (ap (λ (y : Conf). entry (tableOf m s) (configOf m y)) (sym q) ∙ h) v
+      (ap (λ (y : Conf). roomyOf y (x .0)) (sym q) ∙ some-lacks m s (accepted-table m s bytes c) σ (subst⁻¹ (EngineFits m) q f) (x .0) h g) fuel
 
   module _ (rule : StopRule) (fuel : ℕ) (σ : Conf) (accepted : runCheck m s fuel σ ≡ Accepted) (more : 0 < fuel) (going : GoesOn m (tableOf m s) (configOf m σ)) where
     stands-full : PlainFull m s σ → runAnswer m s rule fuel σ ≡ given σ (Ans.Done (Full (σ .sim .steps)))
     unfolding bareSim
     stands-full g =
         run-is m s rule fuel σ accepted
-        ∙ ap (ranBack m σ) (ends-full rule fuel (bareOf m σ) σ more (bare-fits m σ (run-says m s fuel σ accepted .0 .fits)) refl (subst (GoesOn m (tableOf m s)) (sym (config-bare m σ)) going) g)
+        ∙ ap (ranBack m σ) (ends-full rule fuel (bareOf m σ) σ (run-says m s fuel σ accepted .0 .table) more (bare-fits m σ (run-says m s fuel σ accepted .0 .fits)) refl (subst (GoesOn m (tableOf m s)) (sym (config-bare m σ)) going) g)
         ∙ ap (λ (x : Conf). given x (Ans.Done (Full (σ .sim .steps)))) (back-bare m σ)
 
     pub plain-stands : (runAnswer m s rule fuel σ ≡ given σ (Ans.Done (Full (σ .sim .steps)))) ↔ PlainFull m s σ
@@ -168,7 +170,7 @@ module _ (m : Machine) (s : List ℕ) (bytes : Bytes s) where
     plain-onward =
         let g = going-on says-is (refined .answers) in
         run-is m s rule (a + b) σ accepted
-        ∙ ap (ranBack m σ) (sym (run-twice (task m s true rule) a b (bareOf m σ) n says-is) ∙ ends-full rule b (first-end .at) τ more fits bare-is (g .0) next)
+        ∙ ap (ranBack m σ) (sym (run-twice (task m s true rule) a b (bareOf m σ) n says-is) ∙ ends-full rule b (first-end .at) τ (run-says m s a σ first-accepted .0 .table) more fits bare-is (g .0) next)
         ∙ (λ i. given (back-is i) (Ans.Done (Full (g .1 i))))
 
   -- ---- a step
@@ -200,8 +202,11 @@ module _ (m : Machine) (s : List ℕ) (bytes : Bytes s) where
   module _ (σ : Conf) (accepted : runCheck m s 1 σ ≡ Accepted) where
     step-stands : PlainFull m s σ → stepAnswer m s σ ≡ stepGiven σ (StepAns.Done Step.Full)
     step-stands g =
+        let x = full-act m s σ g in
+        let p = run-says m s 1 σ accepted .0 in
+        let h : entry (tableOf m s) (configOf m (bareOf m σ)) ≡ Defined (x .0) = ap (entry (tableOf m s)) (config-bare m σ) ∙ x .1 in
         step-is m s σ accepted
-        ∙ ap (stepBack m σ) (full-once m s (bareOf m σ) (bare-fits m σ (run-says m s 1 σ accepted .0 .fits)) (g .act) (ap (entry (tableOf m s)) (config-bare m σ) ∙ g .has) (some-lacks m σ (g .act) (g .full)))
+        ∙ ap (stepBack m σ) (full-once m s (bareOf m σ) (bare-fits m σ (p .fits)) (x .0) h (some-lacks m s (accepted-table m s bytes (p .table)) σ (bare-fits m σ (p .fits)) (x .0) h g))
         ∙ ap (λ (x : Conf). stepGiven x (StepAns.Done Step.Full)) (back-bare m σ)
 
     pub plain-step-stands : (stepAnswer m s σ ≡ stepGiven σ (StepAns.Done Step.Full)) ↔ PlainFull m s σ

@@ -10,6 +10,7 @@ use lib.ListN.{length, take, drop, getD, length-take}
 use lib.Seq.{paste, getD-take, length-paste}
 use Rattle.notation.specs.Choice.{pick}
 use Rattle.notation.specs.Facts.Tests.{clash, both-split, both-true}
+use Rattle.notation.specs.Limits.{stepsMost}
 use Rattle.outcome.specs.declared.Outcome.{Outcome}
 use Rattle.outcome.specs.declared.Outcome.the-variants.{Full}
 use Rattle.machine.specs.declared.Machine.{Machine}
@@ -36,7 +37,6 @@ use Rattle.sim_refines.specs.Facts.Run.{verdict-exact}
 use Rattle.sim_refines.specs.Facts.LiveCells.{cell-same}
 use Rattle.sim_refines.specs.Facts.MissingTapes.{config-bare, bare-back, bare-fits, fits-bare}
 use Rattle.store_bytes.specs.Facts.Slots.{paste-same}
-use Rattle.timeline_rule.specs.Model.Engine.{limit}
 use Rattle.timeline_rule.specs.Model.Kind.{verdictOr}
 use Rattle.sim_slots.specs.Model.Advance.{ranFrom, advanceOf}
 use Rattle.sim_slots.specs.Facts.Advance.{advance-fits}
@@ -53,7 +53,7 @@ use Rattle.demands.specs.Facts.FirstTimelineSpace.{there-is, there-says,
 
 -- ---- an advance
 
-module _ (m : Machine) (s : List ℕ) (bytes : Bytes s) (n : ℕ) (σ : Conf) (checked : engineCheck m s σ ≡ Accepted) (small : σ .sim .steps + n ≤ limit) where
+module _ (m : Machine) (s : List ℕ) (bytes : Bytes s) (n : ℕ) (σ : Conf) (checked : engineCheck m s σ ≡ Accepted) (small : σ .sim .steps + n ≤ stepsMost) where
   abbrev quiet : Task
   quiet = task m s false Rule.Never
 
@@ -93,11 +93,8 @@ module _ (m : Machine) (s : List ℕ) (bytes : Bytes s) (n : ℕ) (σ : Conf) (c
   full-by (full a l e u r) j q = (
     l,
     cc,
-    record {
-      act = a;
-      has = ap (entry (tableOf m s)) back-config ∙ e;
-      full = lacks-some m back a bare-again (accepted-table m s bytes (p .table) _ _ _ _ a e) (ap (λ (x : Conf). roomyOf x a) here ∙ r);
-    },
+    lacks-some m s (accepted-table m s bytes (p .table)) back bare-again a (ap (λ (x : Conf). entry (tableOf m s) (configOf m x)) here ∙ e)
+        (ap (λ (x : Conf). roomyOf x a) here ∙ r),
   )
 
   plain-advanced : Advanced plainKind plainMeaning m s n σ (advanceOf m s n σ .0) (advanceOf m s n σ .1)

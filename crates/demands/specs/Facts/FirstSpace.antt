@@ -1,5 +1,5 @@
 -- The plain engine's rule of a full step, and the tests of its run and its step. Assumes nothing.
-use mathlib.Core.Path.{_≡_, refl, ap, _∙_}
+use mathlib.Core.Path.{_≡_, refl, ap, _∙_, subst, subst⁻¹}
 use mathlib.Core.Bool.{Bool, true, false}
 use mathlib.Core.List.{List}
 use Prim.Native.Nat.{ℕ, suc, _+_, _*_, _≤_, _<_}
@@ -20,7 +20,7 @@ use Rattle.machine.specs.declared.Entry.{Entry}
 use Rattle.machine.specs.declared.Entry.the-variants.{Defined}
 use Rattle.table_laws.specs.WellFormed.{ActionOf}
 use Rattle.table_machine.specs.TableMachine.{Table, Config, entry, outOfFuelAt, Verdict, halts, stays, walks, goes}
-use Rattle.table_machine.specs.Tables.{tableOf}
+use Rattle.table_machine.specs.Tables.{tableOf, TableOf}
 use Rattle.table_machine.specs.Facts.Run.{not-defined}
 use Rattle.table_machine.specs.Facts.Verdict.{verdict-unique}
 use Rattle.tape.specs.declared.Tape.{Tape}
@@ -34,80 +34,23 @@ use Rattle.sim.specs.Model.Operations.{bareSim, bareOf}
 use Rattle.sim_refines.specs.Meaning.{has, configOf, FitsIf, EngineFits}
 use Rattle.sim_refines.specs.Statement.{tableIn, heldBy, Judged, Sees, no-entry, loops, goes-on}
 use Rattle.sim_refines.specs.Facts.Look.{look-sees}
-use Rattle.demands.specs.FirstSpace.{OffEnd, TapeFull, OnSomeTape, on0, on1, on2}
-
--- ---- one tape
-
-off-says : (t : Tape) (d : Dir) → leaves t d ≡ true → OffEnd t d
-unfolding leaves
-off-says t L e = eqb-true _ _ e
-off-says t R e = eqb-true _ _ e
-off-says t N e = absurd (clash e refl)
-
-off-holds : (t : Tape) (d : Dir) → OffEnd t d → leaves t d ≡ true
-unfolding leaves
-off-holds t L e = eq-eqb _ _ e
-off-holds t R e = eq-eqb _ _ e
-off-holds t N e = absurd e
-
-tape-full : (h : Held) (d : Dir) → h .tape .head < h .tape .len → roomFor (h .tape) (length (h .cells)) d ≡ false → TapeFull h d
-unfolding roomFor
-tape-full h d in-cells = pick-cases (leaves (h .tape) d) _ _ (λ b. b ≡ false → TapeFull h d)
-    (λ t e. record { off = off-says (h .tape) d t; passes = omega (arith, extra-none (h .tape .len) (length (h .cells)) (omega arith) e) })
-    (λ t e. absurd (clash refl e))
-
-full-tape : (h : Held) (d : Dir) → TapeFull h d → roomFor (h .tape) (length (h .cells)) d ≡ false
-unfolding roomFor
-full-tape h d f = pick-true _ _ _ (off-holds (h .tape) d (f .off)) ∙ none-extra (h .tape .len) (length (h .cells)) (omega (arith, f .passes))
-
--- ---- a tape that the machine has or lacks; one that it lacks never moves
-
-room-still : (t : Tape) (cap : ℕ) → roomFor t cap N ≡ true
-unfolding roomFor leaves pick
-room-still t cap = refl
-
-if-lacks : (b : Bool) (k : ℕ) (t : Tape) (c : List ℕ) (d : Dir) → FitsIf b k (held (pick b t noTape) c) → (b ≡ false → d ≡ N) → roomFor (pick b t noTape) (length c) d ≡ false
-    → (b ≡ true) × TapeFull (held t c) d
-unfolding pick
-if-lacks true k t c d f n e = (refl, tape-full (held t c) d (f .head-in) e)
-if-lacks false k t c d f n e = absurd (clash (still noTape (length c) d (n refl)) e)
-  where
-    still : (t : Tape) (cap : ℕ) (d : Dir) → d ≡ N → roomFor t cap d ≡ true
-    still t cap d q = rw q (room-still t cap)
-
-if-full : (b : Bool) (t : Tape) (c : List ℕ) (d : Dir) → b ≡ true → TapeFull (held t c) d → roomFor (pick b t noTape) (length c) d ≡ false
-unfolding pick
-if-full true t c d e f = full-tape (held t c) d f
-if-full false t c d e f = absurd (clash e refl)
-
-both-last : (a b : Bool) → b ≡ false → both a b ≡ false
-unfolding both
-both-last true b e = e
-both-last false b e = refl
-
-both-first : (a b : Bool) → a ≡ false → both a b ≡ false
-unfolding both
-both-first a b e = rw e
+use Rattle.sim_timeline_laws.specs.Meaning.{meanOf, NoRoom}
+use Rattle.sim_timeline_laws.specs.Facts.Step.{step-room, step-full, mean-bare}
 
 -- ---- the engine: a step lacks space on one of its tapes
 
-module _ (m : Machine) (σ : Conf) (a : Action) where
-  pub lacks-some : EngineFits m (bareOf m σ) → ActionOf m a → roomyOf (bareOf m σ) a ≡ false → OnSomeTape m σ a
-  unfolding roomsOf bareSim
-  lacks-some f g e =
-      by-test (roomFor (σ .sim .t0) (length (σ .c0)) (a .dir0))
-      (λ r0. by-test (roomFor (pick (has m 1) (σ .sim .t1) noTape) (length (σ .c1)) (a .dir1))
-      (λ r1. by-test (roomFor (pick (has m 2) (σ .sim .t2) noTape) (length (σ .c2)) (a .dir2))
-      (λ r2. absurd (clash (both-true r0 (both-true r1 r2)) e))
-      (λ r2. let p = if-lacks (has m 2) (m .symbols) (σ .sim .t2) (σ .c2) (a .dir2) (f .fits2) (λ h. g .lacks2 (omega (arith, ltb-false 2 (m .tapes) h)) .1) r2 in on2 (ltb-true 2 (m .tapes) (p .0)) (p .1)))
-      (λ r1. let p = if-lacks (has m 1) (m .symbols) (σ .sim .t1) (σ .c1) (a .dir1) (f .fits1) (λ h. g .lacks1 (omega (arith, ltb-false 1 (m .tapes) h)) .1) r1 in on1 (ltb-true 1 (m .tapes) (p .0)) (p .1)))
-      (λ r0. on0 (tape-full (held (σ .sim .t0) (σ .c0)) (a .dir0) (f .fits0 .head-in) r0))
+-- a full step has an entry
+pub full-act : (m : Machine) (s : List ℕ) (σ : Conf) → NoRoom m s (meanOf m σ) → (a : Action) × (entry (tableOf m s) (configOf m σ) ≡ Defined a)
+unfolding meanOf
+full-act m s σ g = (g .0, g .1)
 
-  pub some-lacks : OnSomeTape m σ a → roomyOf (bareOf m σ) a ≡ false
-  unfolding roomsOf bareSim
-  some-lacks (on0 f) = both-first _ _ (full-tape (held (σ .sim .t0) (σ .c0)) (a .dir0) f)
-  some-lacks (on1 l f) = both-last _ _ (both-first _ _ (if-full (has m 1) (σ .sim .t1) (σ .c1) (a .dir1) (lt-ltb 1 (m .tapes) l) f))
-  some-lacks (on2 l f) = both-last _ _ (both-last _ _ (if-full (has m 2) (σ .sim .t2) (σ .c2) (a .dir2) (lt-ltb 2 (m .tapes) l) f))
+module _ (m : Machine) (s : List ℕ) (table : TableOf m (tableOf m s)) (σ : Conf) (f : EngineFits m (bareOf m σ)) where
+  pub lacks-some : (a : Action) → entry (tableOf m s) (configOf m (bareOf m σ)) ≡ Defined a → roomyOf (bareOf m σ) a ≡ false → NoRoom m s (meanOf m σ)
+  lacks-some a e r = subst (NoRoom m s) (mean-bare m σ) (step-full m s table (bareOf m σ) f a e r)
+
+  pub some-lacks : (a : Action) → entry (tableOf m s) (configOf m (bareOf m σ)) ≡ Defined a → NoRoom m s (meanOf m σ) → roomyOf (bareOf m σ) a ≡ false
+  some-lacks a e g =
+      by-test (roomyOf (bareOf m σ) a) (λ t. absurd (step-room m s table (bareOf m σ) f a e t (subst⁻¹ (NoRoom m s) (mean-bare m σ) g))) (λ n. n)
 
 -- ---- a run, and a step, whose next step is full
 

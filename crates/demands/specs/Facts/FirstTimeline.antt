@@ -9,6 +9,7 @@ use borrow.Author.Tests.{eqb-true, le-ltb}
 use lib.Dec.{eqb, ltb, leb}
 use Rattle.notation.specs.Choice.{pick}
 use Rattle.notation.specs.Facts.Tests.{pick-cases, pick-true, pick-false}
+use Rattle.notation.specs.Limits.{stepsMost}
 use Rattle.outcome.specs.declared.Outcome.{Outcome}
 use Rattle.outcome.specs.declared.Refusal.{Refusal}
 use Rattle.outcome.specs.declared.Refusal.the-variants as Why
@@ -19,7 +20,7 @@ use Rattle.machine.specs.declared.Checked.the-variants.{Accepted, Refused}
 use Rattle.machine.specs.Model.Check.{checkedOn}
 use Rattle.table_laws.specs.WellFormed.{Bytes}
 use Rattle.store_bytes.specs.Model.{slotCount}
-use Rattle.timeline_rule.specs.Model.Engine.{limit, Ops}
+use Rattle.timeline_rule.specs.Model.Engine.{Ops}
 use Rattle.timeline_rule.specs.Model.Timeline.{Call, Reply, refused, target, newOk, timesOk, slotFor, slotStep, goOn, fromSlot, goBack, stay, goTo, callCheck, onCheck, call, newCheck, born, onNew, new}
 use Rattle.timeline_rule.specs.Model.Kind.{Kind, TimelineOf, opsFor, newOn, callOn, storeAfter, newWith}
 use Rattle.sim.specs.Model.Engine.{Conf}
@@ -27,7 +28,7 @@ use Rattle.sim.specs.Model.Operations.{valueCheck, engineCheck}
 use Rattle.demands.specs.FirstClaims.{Test, or, firstOf, numbersOf, TurnsAway}
 use Rattle.demands.specs.FirstTests.{tableTests, plainSizes, plainFits}
 use Rattle.demands.specs.Facts.First.{turns, on-first, table-first}
-use Rattle.demands.specs.FirstTimeline.{ofReply, isThere, plainEngineTests, slotHolds, timelineNewTests, timelineCallTests, TimelineOperations}
+use Rattle.demands.specs.FirstTimeline.{ofReply, isThere, slotHolds, plainEngineTests, newSettings, laterSettings, timelineNewTests, timelineCallTests, TimelineOperations}
 use Rattle.demands.specs.FirstSlots.{Meaning}
 use Rattle.demands.specs.Facts.FirstTimelineSpace.{Slots, Engine, slot-says, call-stops}
 
@@ -64,15 +65,15 @@ module _ (X : Kind) (numbers : List ℕ) (engineTests : Machine → (table : Lis
       O = opsFor X m s e
 
       new-first : newCheck O most every e store ≡ firstOf (timelineNewTests X engineTests m s most every e store)
-      unfolding newCheck firstOf
-      new-first = on-first _ _ (engineTests m s e) (or (newOk most every) Why.Settings ∷ or (ltb most (slotCount (X .slotSize m e) store)) Why.StoreSize ∷ []) (checked m s e) refl
+      unfolding newCheck newOk firstOf
+      new-first = on-first _ _ (engineTests m s e) (or (newSettings most every) Why.Settings ∷ or (ltb most (slotCount (X .slotSize m e) store)) Why.StoreSize ∷ []) (checked m s e) refl
 
       new-turns : TurnsAway (numbers ++ 14 ∷ 15 ∷ []) (timelineNewTests X engineTests m s most every e store) (λ (x : Reply (TimelineOf X) × List ℕ). ofReply (x .0))
           (λ why. (refused why, store)) (newWith X m s most every e store)
       unfolding numbersOf newWith newOn new
       new-turns = turns _ (timelineNewTests X engineTests m s most every e store) (λ (x : Reply (TimelineOf X) × List ℕ). ofReply (x .0)) (λ why. (refused why, store))
           (λ c. (onNew O c (born O most every e store), storeAfter X (onNew O c (born O most every e store)) store)) _
-          (numbers-add (engineTests m s e) (or (newOk most every) Why.Settings ∷ or (ltb most (slotCount (X .slotSize m e) store)) Why.StoreSize ∷ []) ∙ ap (λ l. l ++ 14 ∷ 15 ∷ []) (numbered m s e))
+          (numbers-add (engineTests m s e) (or (newSettings most every) Why.Settings ∷ or (ltb most (slotCount (X .slotSize m e) store)) Why.StoreSize ∷ []) ∙ ap (λ l. l ++ 14 ∷ 15 ∷ []) (numbered m s e))
           new-first refl (λ why. refl) (λ why. refl)
 
     -- ---- a call
@@ -124,13 +125,13 @@ module _ (X : Kind) (numbers : List ℕ) (engineTests : Machine → (table : Lis
       module _ (c : Call) where
         abbrev asked : List Test
         asked =
-            or (timesOk (w .times) (X .now (w .engine))) Why.Settings
+            or (laterSettings (w .times) (X .now (w .engine))) Why.Settings
             ∷ or (ltb (w .times .most) (slotCount (X .slotSize m (w .engine)) (w .store))) Why.StoreSize
-            ∷ or (leb (target (X .now (w .engine)) c) limit) Why.StepLimit
+            ∷ or (leb (target (X .now (w .engine)) c) stepsMost) Why.StepLimit
             ∷ []
 
         call-first : callCheck P w (target (X .now (w .engine)) c) ≡ firstOf (engineTests m s (w .engine) ++ asked)
-        unfolding callCheck firstOf
+        unfolding callCheck timesOk firstOf
         call-first = on-first _ _ (engineTests m s (w .engine)) asked (checked m s (w .engine)) refl
 
         call-numbered : numbersOf (engineTests m s (w .engine) ++ asked) ≡ numbers ++ 14 ∷ 15 ∷ 13 ∷ []

@@ -10,6 +10,7 @@ use borrow.Author.Tests.{lt-ltb, ltb-true, ltb-false}
 use lib.Dec.{eqb, ltb}
 use Rattle.notation.specs.Choice.{pick}
 use Rattle.notation.specs.Facts.Tests.{by-test, pick-cases, pick-true, pick-false}
+use Rattle.notation.specs.Limits.{stepsMost}
 use Rattle.outcome.specs.declared.Outcome.{Outcome}
 use Rattle.outcome.specs.declared.Outcome.the-variants.{Full}
 use Rattle.outcome.specs.declared.Refusal.{Refusal}
@@ -20,7 +21,7 @@ use Rattle.table_machine.specs.TableMachine.{run}
 use Rattle.table_machine.specs.Tables.{tableOf}
 use Rattle.table_machine.specs.Facts.Run.{run-add}
 use Rattle.store_bytes.specs.Model.{slotOf}
-use Rattle.timeline_rule.specs.Model.Engine.{limit, Ops}
+use Rattle.timeline_rule.specs.Model.Engine.{Ops}
 use Rattle.timeline_rule.specs.Model.Timeline.{Call, Reply, refused, answered, target, slotFor, slotStep, ended, recordDue, withEngine, stopAt, stride, turned, advanceTo, gasFor, goOn, fromSlot, goBack, stay, goTo, onCheck, call}
 use Rattle.timeline_rule.specs.Facts.Loop.{not-done, record-engine}
 use Rattle.timeline_rule.specs.Facts.GoCases.{back-small, call-says}
@@ -67,8 +68,8 @@ module _ (X : Kind) (M : Meaning X) (m : Machine) (s : List ℕ) where
 
   pub record Engine : Type 0 where
     pub now-is : (e : X .State) → X .now e ≡ M .config m e .steps
-    pub low : (e : X .State) → X .check m s e ≡ Accepted → X .now e ≤ limit
-    pub advances : (n : ℕ) (e : X .State) → X .check m s e ≡ Accepted → X .now e + n ≤ limit → Advanced n e (X .advance m s n e .0) (X .advance m s n e .1)
+    pub low : (e : X .State) → X .check m s e ≡ Accepted → X .now e ≤ stepsMost
+    pub advances : (n : ℕ) (e : X .State) → X .check m s e ≡ Accepted → X .now e + n ≤ stepsMost → Advanced n e (X .advance m s n e .0) (X .advance m s n e .1)
     pub reads : (b : List ℕ) (p : ℕ) (e r : X .State) → X .check m s e ≡ Accepted → X .unpack m b p e ≡ some r → ReadBack b p e r
     pub slots : Slots X M m
 
@@ -139,7 +140,7 @@ module _ (X : Kind) (M : Meaning X) (m : Machine) (s : List ℕ) (E : Engine X M
     abbrev O : Ops Outcome
     O = opsOf X m s size
 
-    module _ (t : ℕ) (w : TimelineOf X) (accepted : X .check m s (w .engine) ≡ Accepted) (below : X .now (w .engine) ≤ t) (top : t ≤ limit) where
+    module _ (t : ℕ) (w : TimelineOf X) (accepted : X .check m s (w .engine) ≡ Accepted) (below : X .now (w .engine) ≤ t) (top : t ≤ stepsMost) where
       abbrev e : X .State
       e = recordDue O w .engine
 
@@ -168,7 +169,7 @@ module _ (X : Kind) (M : Meaning X) (m : Machine) (s : List ℕ) (E : Engine X M
       turn-goes : (x : Outcome × TimelineOf X) → ((n : ℕ) → x .0 ≡ Full n → Stops t n (turned O t w .engine) (x .1 .engine)) → Claim x
       turn-goes x rest n q = from-here n _ (advance-then t j e _ _ short leg n _ (rest n q))
 
-    loop-stops : (gas t : ℕ) (w : TimelineOf X) → X .check m s (w .engine) ≡ Accepted → X .now (w .engine) ≤ t → t ≤ limit
+    loop-stops : (gas t : ℕ) (w : TimelineOf X) → X .check m s (w .engine) ≡ Accepted → X .now (w .engine) ≤ t → t ≤ stepsMost
         → (n : ℕ) → advanceTo O gas t w .0 ≡ Full n → Stops t n (w .engine) (advanceTo O gas t w .1 .engine)
     unfolding advanceTo
     loop-stops zero t w a l h = λ n q. absurd (still (w .engine) a n q)
@@ -180,7 +181,7 @@ module _ (X : Kind) (M : Meaning X) (m : Machine) (s : List ℕ) (E : Engine X M
 
     -- ---- go on, from an accepted engine
 
-    on-stops : (t : ℕ) (w : TimelineOf X) → X .check m s (w .engine) ≡ Accepted → X .now (w .engine) ≤ t → t ≤ limit
+    on-stops : (t : ℕ) (w : TimelineOf X) → X .check m s (w .engine) ≡ Accepted → X .now (w .engine) ≤ t → t ≤ stepsMost
         → (n : ℕ) (w′ : TimelineOf X) → goOn O t w ≡ (answered (Full n), w′) → Stops t n (w .engine) (w′ .engine)
     unfolding goOn
     on-stops t w a l h n w′ q =
@@ -204,7 +205,7 @@ module _ (X : Kind) (M : Meaning X) (m : Machine) (s : List ℕ) (E : Engine X M
         let k = ap (λ (x : Reply Outcome × TimelineOf X). x .0) q in
         let z : _≡_ {A = ℕ} 0 1 = cc in omega arith
 
-    module _ (t : ℕ) (accepted : X .check m s (w .engine) ≡ Accepted) (start : w .times .first ≤ t) (top : t ≤ limit) where
+    module _ (t : ℕ) (accepted : X .check m s (w .engine) ≡ Accepted) (start : w .times .first ≤ t) (top : t ≤ stepsMost) where
       abbrev bytes : List ℕ
       bytes = slotOf (X .slotSize m (w .engine)) (slotFor t (w .times)) (w .store)
 

@@ -11,6 +11,7 @@ use Rattle.notation.specs.Choice.{pick}
 use Rattle.notation.specs.Facts.Fill.{length-fill}
 use Rattle.notation.specs.Facts.Scan.{clean-none, all-holds}
 use Rattle.notation.specs.Facts.Tests.{both-true, pick-cases, pick-true}
+use Rattle.notation.specs.Limits.{stepsMost, cellsMost}
 use Rattle.symbol.specs.Kinds.{symbolOf}
 use Rattle.symbol.specs.declared.Symbol.{Symbol}
 use Rattle.symbol.specs.declared.Dir.{Dir}
@@ -44,7 +45,7 @@ use Rattle.run_rules.specs.declared.questions.Extent.the-variants as Extent
 use Rattle.run_rules.specs.declared.questions.Counted.the-variants as Counted
 use Rattle.run_rules.specs.declared.questions.Located.the-variants as Located
 use Rattle.sim.specs.Model.Engine.{Conf, runOf, onceOf}
-use Rattle.sim.specs.Model.Operations.{has1, has2, ifHas, cellsMost, stepsMost, blankTape, bareOf, sizesFit, valueCheck, engineCheck, fuelFits, fuelCheck, runCheck, wordsRight, fastCheck, Given, given, ranBack, answerOf, runAnswer, fastAnswer, StepGiven, stepGiven, stepBack, stepOn, stepAnswer, freshSim, freshSizes, freshCheck, made, madeWith, freshOn, newAnswer}
+use Rattle.sim.specs.Model.Operations.{has1, has2, ifHas, blankTape, bareOf, sizesFit, valueCheck, engineCheck, fuelFits, fuelCheck, runCheck, wordsRight, fastCheck, Given, given, ranBack, answerOf, runAnswer, fastAnswer, StepGiven, stepGiven, stepBack, stepOn, stepAnswer, freshSim, freshSizes, freshCheck, made, madeWith, freshOn, newAnswer}
 use Rattle.sim.specs.Model.Questions.{heldAt, questionCheck, getAnswer, extentAnswer, countAnswer, findAnswer}
 use Rattle.sim_refines.specs.Facts.MissingTapes.{fits-bare}
 use Rattle.demands.specs.Accepts.{WordOf, FreshCells, PlainTaken, PackedOf, Packs}

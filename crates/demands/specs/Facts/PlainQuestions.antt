@@ -11,6 +11,7 @@ use lib.ListN.{length, getD}
 use Rattle.notation.specs.Choice.{pick}
 use Rattle.notation.specs.Position.{dn}
 use Rattle.notation.specs.Facts.Tests.{clash, both-split}
+use Rattle.notation.specs.Limits.{cellsMost}
 use Rattle.symbol.specs.declared.Symbol.{Symbol}
 use Rattle.symbol.specs.declared.Dir.{Dir}
 use Rattle.machine.specs.declared.Machine.{Machine}
@@ -30,7 +31,7 @@ use Rattle.run_rules.specs.declared.questions.Extent.the-variants as Extent
 use Rattle.run_rules.specs.declared.questions.Counted.the-variants as Counted
 use Rattle.run_rules.specs.declared.questions.Located.the-variants as Located
 use Rattle.sim.specs.Model.Engine.{Conf, tape1, tape2}
-use Rattle.sim.specs.Model.Operations.{ifHas, cellsMost, bareSim, bareOf, engineCheck}
+use Rattle.sim.specs.Model.Operations.{ifHas, bareSim, bareOf, engineCheck}
 use Rattle.sim.specs.Facts.OperationCases.{Passed, engine-says}
 use Rattle.sim.specs.Model.Questions.{tapeAt, heldAt, questionCheck, askedOn, getAnswer, extentAnswer, countAnswer, windowInto, findAnswer}
 use Rattle.sim_refines.specs.Meaning.{tapeOf, has, tapeIf, configOf, FitsIf, EngineFits}

@@ -37,7 +37,7 @@ use Rattle.listing_reader.specs.Facts.Accepted.{contents-bad, contents-asked}
 use Rattle.listing_rows.specs.Rows.{rowsOf, rowLines, refusedLine, namesLine, output}
 use Rattle.listing.specs.declared.Listed.{Listed}
 use Rattle.listing.specs.declared.Listed.the-variants as Did
-use Rattle.listing.specs.Output.{turned, answerOn, answerWith, answerOf, answerFor, answerTo, listOf, PrintedIn}
+use Rattle.listing.specs.Output.{outputMost, turned, answerOn, answerWith, answerOf, answerFor, answerTo, listOf, PrintedIn}
 
 -- ---- a refusal's line
 
@@ -108,16 +108,16 @@ paste-first : (o bs : List ℕ) → paste o 0 bs (length bs) ≡ bs ++ drop (len
 paste-first o bs = let z : 0 + length bs ≡ length bs = omega arith in rw (z, take-length bs)
 
 module _ (input out : List ℕ) where
-  pub list-short : length out < 8743 → (Did.Refused Why.OutputSize, out) ≡ listOf input out
+  pub list-short : length out < outputMost → (Did.Refused Why.OutputSize, out) ≡ listOf input out
   unfolding listOf pick
-  list-short h = rw (lt-ltb (length out) 8743 h)
+  list-short h = rw (lt-ltb (length out) outputMost h)
 
-  pub list-long : (out′ : List ℕ) (r : ℕ) → 8743 ≤ length out → Wrote out 0 (answerTo input) out′ r → (Did.Printed r, out′) ≡ listOf input out
+  pub list-long : (out′ : List ℕ) (r : ℕ) → outputMost ≤ length out → Wrote out 0 (answerTo input) out′ r → (Did.Printed r, out′) ≡ listOf input out
   unfolding listOf pick
   list-long out′ r h w =
       let z : r ≡ length (answerTo input) = omega (arith, w .ends) in
       let y : out′ ≡ answerTo input ++ drop (length (answerTo input)) out = w .text ∙ paste-first out (answerTo input) in
-      rw (le-ltb (length out) 8743 h) (λ i. (Did.Printed (z i), y i))
+      rw (le-ltb (length out) outputMost h) (λ i. (Did.Printed (z i), y i))
 
 pub printed-in : (r : Listed) (n long : ℕ) → r ≡ Did.Printed n → PrintedIn r long → n ≤ long
 printed-in r n long z p = rw z at p

@@ -11,6 +11,7 @@ use lib.Seq.{getD-take, length-take-le, take-append-seam}
 use borrow.Author.Tests.{leb-true, ltb-true, lt-ltb, le-leb}
 use Rattle.notation.specs.Facts.Tests.{pick-true, pick-cases}
 use Rattle.notation.specs.Facts.Scan.{clean-none}
+use Rattle.notation.specs.Limits.{wordMost}
 use Rattle.outcome.specs.declared.Refusal.the-variants as Why
 use Rattle.machine.specs.declared.Machine.{Machine}
 use Rattle.machine.specs.declared.Checked.the-variants.{Accepted}
@@ -184,7 +185,7 @@ module _ (s : List ℕ) (x : Sofar) (e : listing s ≡ asked x) where
   unfolding wordCheck symbolsCheck
   asked-word =
       let k : Kept x = asked-kept s x e in
-      pick-true _ _ _ (le-leb (length (x .word)) 1048576 (omega (arith, k .short)))
+      pick-true _ _ _ (le-leb (length (x .word)) wordMost (omega (arith, k .short)))
       ∙ ap (answerAt Why.WordSymbol) (clean-none (symbolIn (x .machine .symbols) (x .word)) (length (x .word)) 0
       (λ i a b. lt-ltb (getD (x .word) i 0) (x .machine .symbols) (k .in-range i (omega arith))))
 

@@ -7,6 +7,7 @@ use native.Mathlib.Omega.{arith}
 use borrow.Author.Tests.{leb-true, ltb-false}
 use lib.Dec.{eqb, ltb}
 use Rattle.notation.specs.Facts.Tests.{both-split, pick-cases}
+use Rattle.notation.specs.Limits.{stepsMost}
 use Rattle.outcome.specs.declared.Outcome.{Outcome}
 use Rattle.machine.specs.declared.Machine.{Machine}
 use Rattle.machine.specs.declared.Checked.{Checked}
@@ -16,7 +17,7 @@ use Rattle.tape.specs.Facts.Moves.{fits-safe}
 use Rattle.sim.specs.Model.Engine.{Conf}
 use Rattle.sim.specs.Model.Operations.{sizesFit, engineCheck}
 use Rattle.sim.specs.Facts.OperationCases.{engine-says}
-use Rattle.timeline_rule.specs.Model.Engine.{limit, Ops}
+use Rattle.timeline_rule.specs.Model.Engine.{Ops}
 use Rattle.timeline_rule.specs.Model.Timeline.{Reply, Call, target, ended, turned, recordDue, stride, advanceTo, goOn, fromSlot, goBack, stay, goTo, callCheck, onCheck, call}
 use Rattle.timeline_rule.specs.Facts.Loop.{not-done, strides, Strides}
 use Rattle.timeline_rule.specs.Model.Kind.{Kind, TimelineOf, opsOf, callOn}
@@ -33,7 +34,7 @@ module _ (X : Kind) (m : Machine) (s : List ℕ) (size : ℕ) (Fit : X .State �
   abbrev O : Ops Outcome
   O = opsOf X m s size
 
-  way-fits : (gas t : ℕ) (w : TimelineOf X) → Fit (w .engine) → X .now (w .engine) ≤ t → t ≤ limit → Fit (advanceTo O gas t w .1 .engine)
+  way-fits : (gas t : ℕ) (w : TimelineOf X) → Fit (w .engine) → X .now (w .engine) ≤ t → t ≤ stepsMost → Fit (advanceTo O gas t w .1 .engine)
   unfolding advanceTo
   way-fits zero t w f l h = f
   way-fits (suc gas) t w f l h =

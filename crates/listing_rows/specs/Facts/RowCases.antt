@@ -32,7 +32,7 @@ use Rattle.listing_text.specs.Model.{Wrote}
 use Rattle.listing_text.specs.Facts.PrintCases.{wrote-long, wrote-then, wrote-put}
 use Rattle.listing_lines.specs.Model.{callAt, callsOf}
 use Rattle.listing_lines.specs.Facts.FormCases.{length-callsOf}
-use Rattle.listing_rows.specs.Rows.{Row, rowOf, rowsOf, rowsOn, lentIn, said, refusedLine, rowLine, rowLines, replyOf}
+use Rattle.listing_rows.specs.Rows.{Row, rowOf, rowsOf, rowsOn, lentIn, said, refusedLine, rowLine, rowLines, replyOf, rowMost}
 use Rattle.listing_rows.specs.Facts.Call.{call-kept, tape-ok}
 
 -- ---- the calls from call i on
@@ -70,8 +70,8 @@ pub row-done : (o : List ℕ) (at : ℕ) (a : Outcome) (v : Simulator) (cells : 
     → c ≡ countOf (held (v .t0) cells)
     → Wrote o at (said a) o₁ r₁ × (r₁ ≤ at + 6) → Wrote o₁ r₁ (32 ∷ show (v .steps)) o₂ r₂ × (r₂ ≤ r₁ + 21) → Wrote o₂ r₂ (32 ∷ show (v .state .0)) o₃ r₃ × (r₃ ≤ r₂ + 21)
     → Wrote o₃ r₃ ((32 ∷ showℤ (v .t0 .head ⊖ v .t0 .origin)) ++ (32 ∷ showℤ (v .t0 .lowest ⊖ v .t0 .origin)) ++ (32 ∷ showℤ (v .t0 .highest ⊖ v .t0 .origin))) o₄ r₄ × (r₄ ≤ r₃ + 66)
-    → Wrote o₄ r₄ (32 ∷ show c) o₅ r₅ × (r₅ ≤ r₄ + 21) → (r₆ ≡ r₅ + 1) × (o₆ ≡ paste o₅ r₅ (10 ∷ []) 1) → at + 136 ≤ length o
-    → Wrote o at (rowLine (rowOf (answered a) v cells)) o₆ r₆ × (r₆ ≤ at + 136)
+    → Wrote o₄ r₄ (32 ∷ show c) o₅ r₅ × (r₅ ≤ r₄ + 21) → (r₆ ≡ r₅ + 1) × (o₆ ≡ paste o₅ r₅ (10 ∷ []) 1) → at + rowMost ≤ length o
+    → Wrote o at (rowLine (rowOf (answered a) v cells)) o₆ r₆ × (r₆ ≤ at + rowMost)
 unfolding rowLine rowOf
 row-done o at a v cells c o₁ o₂ o₃ o₄ o₅ o₆ r₁ r₂ r₃ r₄ r₅ r₆ count p1 p2 p3 p4 p5 p6 f =
     let w = wrote-then (wrote-then (wrote-then (wrote-then (p1 .0) (p2 .0)) (p3 .0)) (p4 .0)) (p5 .0) in
@@ -93,12 +93,12 @@ refused-done o at n o₁ o₂ o₃ r₁ r₂ r₃ p1 p2 p3 h k = (
 
 module _ (o : List ℕ) (at : ℕ) (o′ : List ℕ) (r : ℕ) (a : Answer) (v : Simulator) (cells : List ℕ) where
   pub row-turned : (why : Refusal) (n : ℕ) → a ≡ Ans.Refused why → n ≡ refusalNumber why → Wrote o at (refusedLine n) o′ r × (r ≤ at + 29)
-      → Wrote o at (rowLine (rowOf (replyOf a) v cells)) o′ r × (r ≤ at + 136)
+      → Wrote o at (rowLine (rowOf (replyOf a) v cells)) o′ r × (r ≤ at + rowMost)
   unfolding rowLine rowOf
   row-turned why n e q w = rw (e, ← q) (w .0, omega (arith, w .1))
 
-  pub row-answered : (d : Outcome) → a ≡ Ans.Done d → Wrote o at (rowLine (rowOf (answered d) v cells)) o′ r × (r ≤ at + 136)
-      → Wrote o at (rowLine (rowOf (replyOf a) v cells)) o′ r × (r ≤ at + 136)
+  pub row-answered : (d : Outcome) → a ≡ Ans.Done d → Wrote o at (rowLine (rowOf (answered d) v cells)) o′ r × (r ≤ at + rowMost)
+      → Wrote o at (rowLine (rowOf (replyOf a) v cells)) o′ r × (r ≤ at + rowMost)
   row-answered d e w = rw e w
 
 -- ---- rows one after another
@@ -135,7 +135,7 @@ rowsFrom m s calls n i w = rowsOn m s w (drop i (callsOf n calls))
 
 pub record RowsInv (m : Machine) (s calls : List ℕ) (n : ℕ) (o : List ℕ) (at : ℕ) (w₀ w : TimelineOf plainKind) (o′ : List ℕ) (r i : ℕ) : Type 0 where
   pub inside : i ≤ n
-  pub room : r ≤ at + 136 * i
+  pub room : r ≤ at + rowMost * i
   pub long : length o′ ≡ length o
   pub fits : engineCheck m s (w .engine) ≡ Accepted
   pub printing : Printing o at (rowLines (rowsOf m s w₀ (callsOf n calls))) (rowLines (rowsFrom m s calls n i w .0)) o′ r
@@ -146,7 +146,7 @@ replied-is (Ans.Done o) w g e = (ap (λ y. y .0) e, ap (λ y. y .1) e)
 replied-is (Ans.Refused why) w g e = (ap (λ y. y .0) e, ap (λ y. y .1) e)
 
 module _ (m : Machine) (s calls : List ℕ) (n : ℕ) (o : List ℕ) (at : ℕ) (w₀ : TimelineOf plainKind) where
-  pub rows-start : at + 136 * n ≤ length o → engineCheck m s (w₀ .engine) ≡ Accepted → RowsInv m s calls n o at w₀ w₀ o at 0
+  pub rows-start : at + rowMost * n ≤ length o → engineCheck m s (w₀ .engine) ≡ Accepted → RowsInv m s calls n o at w₀ w₀ o at 0
   rows-start h a = record { inside = omega arith; room = omega arith; long = refl; fits = a; printing = printing-start o at _ (omega arith); last = refl }
 
   module _ (w v : TimelineOf plainKind) (i : ℕ) (a : Answer) (made : replied a v ≡ callOn plainKind m s w (callAt calls i)) where
@@ -167,10 +167,10 @@ module _ (m : Machine) (s calls : List ℕ) (n : ℕ) (o : List ℕ) (at : ℕ) 
     kept f = rw (replied-is a v _ made .1) (call-kept m s w (callAt calls i) f)
 
     module _ (o₁ : List ℕ) (r₁ : ℕ) (inv : RowsInv m s calls n o at w₀ w o₁ r₁ i) (h : i < n) where
-      pub row-ready : at + 136 * n ≤ length o → (r₁ + 136 ≤ length o₁) × TapeOk (v .engine .sim .t0) (v .engine .c0)
+      pub row-ready : at + rowMost * n ≤ length o → (r₁ + rowMost ≤ length o₁) × TapeOk (v .engine .sim .t0) (v .engine .c0)
       row-ready l = (omega (arith, inv .room, inv .long), tape-ok m s (v .engine) (kept (inv .fits)))
 
-      pub rows-next : (o₂ : List ℕ) (r₂ : ℕ) → Wrote o₁ r₁ (rowLine (rowOf (replyOf a) (v .engine .sim) (v .engine .c0))) o₂ r₂ × (r₂ ≤ r₁ + 136)
+      pub rows-next : (o₂ : List ℕ) (r₂ : ℕ) → Wrote o₁ r₁ (rowLine (rowOf (replyOf a) (v .engine .sim) (v .engine .c0))) o₂ r₂ × (r₂ ≤ r₁ + rowMost)
           → RowsInv m s calls n o at w₀ v o₂ r₂ (i + 1)
       rows-next o₂ r₂ p = record {
         inside = omega arith;
@@ -182,7 +182,7 @@ module _ (m : Machine) (s calls : List ℕ) (n : ℕ) (o : List ℕ) (at : ℕ) 
       }
 
   pub rows-end : (w : TimelineOf plainKind) (o₁ : List ℕ) (r i : ℕ) → RowsInv m s calls n o at w₀ w o₁ r i → n ≤ i
-      → Wrote o at (rowLines (rowsOf m s w₀ (callsOf n calls))) o₁ r × (r ≤ at + 136 * n) × (lentIn w ≡ lentIn (rowsOn m s w₀ (callsOf n calls) .1))
+      → Wrote o at (rowLines (rowsOf m s w₀ (callsOf n calls))) o₁ r × (r ≤ at + rowMost * n) × (lentIn w ≡ lentIn (rowsOn m s w₀ (callsOf n calls) .1))
   unfolding rowsOn rowLines
   rows-end w o₁ r i inv h =
       let k : drop i (callsOf n calls) ≡ [] = drop-of-length-le (callsOf n calls) {i = i} (omega (arith, length-callsOf n calls)) in

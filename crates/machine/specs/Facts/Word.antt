@@ -5,13 +5,14 @@ use Prim.Native.Nat.{ℕ, _≤_, _<_}
 use native.Mathlib.Omega.{arith}
 use borrow.Author.Tests.{leb-true, ltb-true}
 use lib.ListN.{length, getD}
+use Rattle.notation.specs.Limits.{wordMost}
 use Rattle.outcome.specs.declared.Refusal.the-variants as Why
 use Rattle.machine.specs.declared.Checked.the-variants.{Accepted}
 use Rattle.machine.specs.Model.Word.{symbolIn, symbolsCheck, wordCheck}
 use Rattle.machine.specs.Facts.Check.{demand-says, scan-says}
 
 -- an accepted word has at most 1,048,576 symbols, and each is below k
-pub word-says : (k : ℕ) (w : List ℕ) → wordCheck k w ≡ Accepted → (length w ≤ 1048576) × ((i : ℕ) → i < length w → getD w i 0 < k)
+pub word-says : (k : ℕ) (w : List ℕ) → wordCheck k w ≡ Accepted → (length w ≤ wordMost) × ((i : ℕ) → i < length w → getD w i 0 < k)
 unfolding wordCheck symbolsCheck
 word-says k w e =
     let p = demand-says _ _ _ e in

@@ -3,6 +3,7 @@ use mathlib.Core.List.{List}
 use Prim.Native.Nat.{ℕ}
 use lib.Dec.{leb}
 use lib.ListN.{length}
+use Rattle.notation.specs.Limits.{wordMost}
 use Rattle.notation.specs.Scan.{firstFail}
 use Rattle.outcome.specs.declared.Refusal.the-variants as Why
 use Rattle.machine.specs.declared.Checked.{Checked}
@@ -15,4 +16,4 @@ symbolsCheck k w = answerAt Why.WordSymbol (firstFail (symbolIn k w) (length w) 
 
 -- "9 word over 1,048,576"
 unfoldable pub wordCheck : (k : ℕ) → List ℕ → Checked
-wordCheck k w = demand (leb (length w) 1048576) Why.WordLength (symbolsCheck k w)
+wordCheck k w = demand (leb (length w) wordMost) Why.WordLength (symbolsCheck k w)

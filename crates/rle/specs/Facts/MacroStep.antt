@@ -3,6 +3,7 @@ use mathlib.Core.Path.{_≡_, refl, sym}
 use mathlib.Core.Bool.{false}
 use Prim.Native.Nat.{ℕ, _+_, _-_, _≤_}
 use native.Mathlib.Omega.{arith}
+use Rattle.notation.specs.Limits.{slack}
 use Rattle.symbol.specs.declared.Dir.{Dir}
 use Rattle.symbol.specs.declared.Dir.the-variants.{L, R, N}
 use Rattle.machine.specs.declared.Machine.{Machine}
@@ -42,11 +43,11 @@ still-in most m x h = weaken (placesOf (x .symbols) (x .lengths)) _ most (most +
 
 module _ (j : Macro) (σ : Conf) where
   abbrev Most : ℕ
-  Most = σ .sim .steps + 1048576 + j .repeats
+  Most = σ .sim .steps + slack + j .repeats
 
   sides-of : (head cur : ℕ) (l r : Side) → SideIn Most l → SideIn Most r → SidesOk (landed j σ head cur l r)
   sides-of head cur l r x y =
-      let e : Most ≡ σ .sim .steps + j .repeats + 1048576 = omega arith in
+      let e : Most ≡ σ .sim .steps + j .repeats + slack = omega arith in
       record {
         left = weaken (placesOf (l .symbols) (l .lengths)) _ Most _ l refl (omega (arith, e)) x;
         right = weaken (placesOf (r .symbols) (r .lengths)) _ Most _ r refl (omega (arith, e)) y;
@@ -55,13 +56,13 @@ module _ (j : Macro) (σ : Conf) where
   macro-sides : (d : Dir) → SidesOk σ → noPlace d (j .write) σ ≡ false → SidesOk (macroTo d j σ)
   unfolding macroTo carryOf fullFor
   macro-sides L h l =
-      sides-of _ _ _ _ (rest-in (σ .sim .steps + 1048576) (j .repeats - 1) (j .repeats) (leftOf σ) (h .left))
-      (push-in (σ .sim .steps + 1048576) (j .write) (j .repeats) (rightOf σ) (h .right) l)
+      sides-of _ _ _ _ (rest-in (σ .sim .steps + slack) (j .repeats - 1) (j .repeats) (leftOf σ) (h .left))
+      (push-in (σ .sim .steps + slack) (j .write) (j .repeats) (rightOf σ) (h .right) l)
   macro-sides R h l =
-      sides-of _ _ _ _ (push-in (σ .sim .steps + 1048576) (j .write) (j .repeats) (leftOf σ) (h .left) l)
-      (rest-in (σ .sim .steps + 1048576) (j .repeats - 1) (j .repeats) (rightOf σ) (h .right))
+      sides-of _ _ _ _ (push-in (σ .sim .steps + slack) (j .write) (j .repeats) (leftOf σ) (h .left) l)
+      (rest-in (σ .sim .steps + slack) (j .repeats - 1) (j .repeats) (rightOf σ) (h .right))
   macro-sides N h l =
-      sides-of _ _ _ _ (still-in (σ .sim .steps + 1048576) (j .repeats) (leftOf σ) (h .left)) (still-in (σ .sim .steps + 1048576) (j .repeats) (rightOf σ) (h .right))
+      sides-of _ _ _ _ (still-in (σ .sim .steps + slack) (j .repeats) (leftOf σ) (h .left)) (still-in (σ .sim .steps + slack) (j .repeats) (rightOf σ) (h .right))
 
   sizes-of : (l r : Side) (head cur : ℕ) → SameLengths (leftOf σ) l → SameLengths (rightOf σ) r → SameSizes σ (landed j σ head cur l r)
   sizes-of l r head cur x y = record { ls = x .symbols; ll = x .lengths; rs = y .symbols; rl = y .lengths }

@@ -7,6 +7,7 @@ use native.Mathlib.Omega.{arith}
 use borrow.Author.Tests.{leb-true, eqb-true}
 use lib.ListN.{length, getD}
 use Rattle.notation.specs.Facts.Tests.{both-split}
+use Rattle.notation.specs.Limits.{stepsMost, wordMost, runsMost, slack, raisedZero}
 use Rattle.outcome.specs.declared.Outcome.{Outcome}
 use Rattle.outcome.specs.declared.Refusal.{Refusal}
 use Rattle.machine.specs.declared.Machine.{Machine}
@@ -26,7 +27,7 @@ use Rattle.rle_stack.specs.Invariants.{SideOk}
 use Rattle.rle.specs.declared.Fresh.the-variants as New
 use Rattle.rle.specs.Model.Engine.{Conf, end, runOf}
 use Rattle.rle.specs.Invariants.{SidesOk, CountsOk, RunOk}
-use Rattle.rle.specs.Fits.{zeroAt, sideFits, headFits, countsFit, chainFits, placesFit, valueCheck, engineCheck, runCheck}
+use Rattle.rle.specs.Fits.{sideFits, headFits, countsFit, chainFits, placesFit, valueCheck, engineCheck, runCheck}
 use Rattle.rle.specs.Model.Operations.{given, runAnswer, runsOf, wordOf, freshSizes, freshCheck, startSim, Made, made, newAnswer}
 
 -- ---- a value that passed the check
@@ -48,7 +49,7 @@ pub engine-says : (m : Machine) (s : List ℕ) (σ : Conf) → engineCheck m s �
 unfolding engineCheck
 engine-says m s σ e = let t = on-says _ _ e in value-says m s σ (t .0) (t .1)
 
-pub run-says : (m : Machine) (s : List ℕ) (fuel : ℕ) (σ : Conf) → runCheck m s fuel σ ≡ Accepted → Passed m s σ × (σ .sim .steps + fuel ≤ 4611686018427387904)
+pub run-says : (m : Machine) (s : List ℕ) (fuel : ℕ) (σ : Conf) → runCheck m s fuel σ ≡ Accepted → Passed m s σ × (σ .sim .steps + fuel ≤ stepsMost)
 unfolding runCheck
 run-says m s fuel σ e =
     let t = on-says _ _ e in
@@ -68,15 +69,15 @@ sides-ok m σ e =
     let a = both-split (both-split e .1) in
     let b = both-split (a .1) in
     record {
-      left = side-says (m .symbols) (σ .sim .steps + 1048576) (σ .ls) (σ .ll) (σ .sim .tape .left) (b .0);
-      right = side-says (m .symbols) (σ .sim .steps + 1048576) (σ .rs) (σ .rl) (σ .sim .tape .right) (both-split (b .1) .0);
+      left = side-says (m .symbols) (σ .sim .steps + slack) (σ .ls) (σ .ll) (σ .sim .tape .left) (b .0);
+      right = side-says (m .symbols) (σ .sim .steps + slack) (σ .rs) (σ .rl) (σ .sim .tape .right) (both-split (b .1) .0);
     }
 
-pub steps-ok : (m : Machine) (σ : Conf) → chainFits m σ ≡ true → σ .sim .steps ≤ 4611686018427387904
+pub steps-ok : (m : Machine) (σ : Conf) → chainFits m σ ≡ true → σ .sim .steps ≤ stepsMost
 unfolding chainFits countsFit
-steps-ok m σ e = leb-true (σ .sim .steps) 4611686018427387904 (both-split (both-split (both-split e .0) .1) .0)
+steps-ok m σ e = leb-true (σ .sim .steps) stepsMost (both-split (both-split (both-split e .0) .1) .0)
 
-pub counts-ok : (m : Machine) (σ : Conf) (fuel : ℕ) → chainFits m σ ≡ true → σ .sim .steps + fuel ≤ 4611686018427387904 → CountsOk (σ .sim) fuel
+pub counts-ok : (m : Machine) (σ : Conf) (fuel : ℕ) → chainFits m σ ≡ true → σ .sim .steps + fuel ≤ stepsMost → CountsOk (σ .sim) fuel
 unfolding chainFits countsFit headFits
 counts-ok m σ fuel e h =
     let c = both-split (both-split (both-split (both-split e .0) .1) .1) in
@@ -86,8 +87,8 @@ counts-ok m σ fuel e h =
     record {
       steps-in = h;
       fewer = leb-true _ _ (c .0);
-      above = omega (arith, leb-true (σ .sim .lowest) (σ .sim .tape .head) (d .0), leb-true (zeroAt - σ .sim .steps) (σ .sim .lowest) (g .0));
-      below = omega (arith, leb-true (σ .sim .tape .head) (σ .sim .highest) (f .0), leb-true (σ .sim .highest) (zeroAt + σ .sim .steps) (g .1));
+      above = omega (arith, leb-true (σ .sim .lowest) (σ .sim .tape .head) (d .0), leb-true (raisedZero - σ .sim .steps) (σ .sim .lowest) (g .0));
+      below = omega (arith, leb-true (σ .sim .tape .head) (σ .sim .highest) (f .0), leb-true (σ .sim .highest) (raisedZero + σ .sim .steps) (g .1));
     }
 
 pub stride-ok : (m : Machine) (s : List ℕ) (fuel : ℕ) (σ : Conf) (r : Checked) → r ≡ runCheck m s fuel σ → r ≡ Accepted → (1 ≤ m .tapes) × (m .tapes ≤ 3) × (m .symbols ≤ 256)
@@ -122,8 +123,8 @@ pub record FreshPassed (m : Machine) (s w : List ℕ) (l r : ℕ) : Type 0 where
   pub table : tableCheck m s ≡ Accepted
   pub tapes : m .tapes ≡ 1
   pub word : wordCheck (m .symbols) w ≡ Accepted
-  pub lefts : l ≤ 1048576
-  pub rights : r ≤ 1048576
+  pub lefts : l ≤ runsMost
+  pub rights : r ≤ runsMost
   -- the word's runs have places
   pub room : runsOf w (length w - 1) 0 0 ≤ r
 
@@ -161,7 +162,7 @@ module _ (m : Machine) (s w ls ll rs rl : List ℕ) (lp rp : ℕ) (lq : lp ≡ p
   new-refused why e = rw (← here, e)
 
   module _ (passed : r ≡ Accepted) where
-    pub new-lays : (length w ≤ 1048576) × (runsOf w (length w - 1) 0 0 ≤ placesOf rs rl)
+    pub new-lays : (length w ≤ wordMost) × (runsOf w (length w - 1) 0 0 ≤ placesOf rs rl)
     new-lays =
         let p : FreshPassed m s w (placesOf ls ll) (placesOf rs rl) = fresh-says m s w (placesOf ls ll) (placesOf rs rl) (sym here ∙ passed) in
         (word-says (m .symbols) w (p .word) .0, p .room)

@@ -11,6 +11,7 @@ use lib.ListN.{length}
 use Rattle.notation.specs.Choice.{pick, both}
 use Rattle.notation.specs.Position.{_⊖_}
 use Rattle.notation.specs.Facts.Tests.{both-split, both-true, clash}
+use Rattle.notation.specs.Limits.{slack, raisedZero}
 use Rattle.symbol.specs.Kinds.{symbolOf}
 use Rattle.symbol.specs.Model.{raisedOf}
 use Rattle.outcome.specs.declared.Refusal.{Refusal}
@@ -26,7 +27,7 @@ use Rattle.rle_stack.specs.Model.{cellsOf, nearOf}
 use Rattle.rle.specs.declared.ChainSim.{ChainSim}
 use Rattle.rle.specs.Model.Engine.{Conf, conf, leftOf, rightOf}
 use Rattle.rle.specs.Invariants.{AskOk}
-use Rattle.rle.specs.Fits.{zeroAt, slack, reachFits, chainFits, engineCheck}
+use Rattle.rle.specs.Fits.{reachFits, chainFits, engineCheck}
 use Rattle.rle.specs.Facts.OperationCases.{Passed, engine-says, sides-ok, counts-ok, steps-ok}
 use Rattle.rle_macro.specs.Model.Questions.{cellOn, windowAll, countOn}
 use Rattle.rle.specs.Model.Questions.{raisedCell, windowFrom, lowestOf, highestOf, blankTape, spanOf, countOf, getAnswer, extentAnswer, countAnswer, windowInto}
@@ -56,13 +57,13 @@ some-right σ h c l r = clash (both-true (eq-eqb _ 0 c) (both-true (eq-eqb _ 0 l
 
 module _ (σ : Conf) (ok : AskOk σ) (some : blankTape σ ≡ false) where
   -- the cells counted on a side are all its cells
-  pub left-sum : (n : ℕ) → n ≡ min (cellsOf (leftOf σ)) (σ .sim .steps + 1048576 + 1) → (n ≡ cellsOf (leftOf σ)) × (n ≤ σ .sim .tape .head)
+  pub left-sum : (n : ℕ) → n ≡ min (cellsOf (leftOf σ)) (σ .sim .steps + slack + 1) → (n ≡ cellsOf (leftOf σ)) × (n ≤ σ .sim .tape .head)
   left-sum n e = (omega (arith, e, ok .sides .left .cells-in), omega (arith, e, ok .sides .left .cells-in, ok .counts .steps-in, ok .left-far))
 
-  right-sum : (n : ℕ) → n ≡ min (cellsOf (rightOf σ)) (σ .sim .steps + 1048576 + 1) → n ≡ cellsOf (rightOf σ)
+  right-sum : (n : ℕ) → n ≡ min (cellsOf (rightOf σ)) (σ .sim .steps + slack + 1) → n ≡ cellsOf (rightOf σ)
   right-sum n e = omega (arith, e, ok .sides .right .cells-in)
 
-  pub lowest-left : (σ .sim .tape .left ≡ 0 → ⊥) → (n : ℕ) → n ≡ min (cellsOf (leftOf σ)) (σ .sim .steps + 1048576 + 1) → σ .sim .tape .head - n ≡ lowestOf σ
+  pub lowest-left : (σ .sim .tape .left ≡ 0 → ⊥) → (n : ℕ) → n ≡ min (cellsOf (leftOf σ)) (σ .sim .steps + slack + 1) → σ .sim .tape .head - n ≡ lowestOf σ
   unfolding lowestOf pick
   lowest-left h n e = ap (λ (x : ℕ). σ .sim .tape .head - x) (left-sum n e .0) ∙ sym (rw (ne-eqb (σ .sim .tape .left) 0 h))
 
@@ -77,7 +78,7 @@ module _ (σ : Conf) (ok : AskOk σ) (some : blankTape σ ≡ false) where
   pub some-on-right : σ .sim .tape .left ≡ 0 → σ .sim .tape .cur ≡ 0 → 0 < σ .sim .tape .right
   some-on-right h k = omega (arith, some-right σ some k h)
 
-  pub highest-right : (σ .sim .tape .right ≡ 0 → ⊥) → (n : ℕ) → n ≡ min (cellsOf (rightOf σ)) (σ .sim .steps + 1048576 + 1) → σ .sim .tape .head + n ≡ highestOf σ
+  pub highest-right : (σ .sim .tape .right ≡ 0 → ⊥) → (n : ℕ) → n ≡ min (cellsOf (rightOf σ)) (σ .sim .steps + slack + 1) → σ .sim .tape .head + n ≡ highestOf σ
   unfolding highestOf pick
   highest-right h n e = ap (λ (x : ℕ). σ .sim .tape .head + x) (right-sum n e) ∙ sym (rw (ne-eqb (σ .sim .tape .right) 0 h))
 
@@ -98,9 +99,9 @@ pub span-empty : (σ : Conf) (b : Bool) → b ≡ blankTape σ → b ≡ true �
 unfolding spanOf pick
 span-empty σ b p e = rw (← p, e)
 
-pub span-cells : (σ : Conf) (b : Bool) → b ≡ blankTape σ → b ≡ false → (l h : ℕ) (x y : ℤ) → l ≡ lowestOf σ → h ≡ highestOf σ → x ≡ l ⊖ zeroAt → y ≡ h ⊖ zeroAt → Cells x y ≡ spanOf σ
+pub span-cells : (σ : Conf) (b : Bool) → b ≡ blankTape σ → b ≡ false → (l h : ℕ) (x y : ℤ) → l ≡ lowestOf σ → h ≡ highestOf σ → x ≡ l ⊖ raisedZero → y ≡ h ⊖ raisedZero → Cells x y ≡ spanOf σ
 unfolding spanOf pick
-span-cells σ b p e l h x y el eh ex ey = (λ i. Cells ((ex ∙ ap (λ (n : ℕ). n ⊖ zeroAt) el) i) ((ey ∙ ap (λ (n : ℕ). n ⊖ zeroAt) eh) i)) ∙ sym (rw (← p, e))
+span-cells σ b p e l h x y el eh ex ey = (λ i. Cells ((ex ∙ ap (λ (n : ℕ). n ⊖ raisedZero) el) i) ((ey ∙ ap (λ (n : ℕ). n ⊖ raisedZero) eh) i)) ∙ sym (rw (← p, e))
 
 -- ---- the operations
 
@@ -133,8 +134,8 @@ module _ (m : Machine) (s : List ℕ) (σ : Conf) (r : Checked) (checked : r ≡
         record {
           sides = sides-ok m σ (p .fits);
           counts = counts-ok m σ 0 (p .fits) (omega (arith, steps-ok m σ (p .fits)));
-          left-far = leb-true (zeroAt + cellsOf (leftOf σ)) (σ .sim .tape .head + σ .sim .steps + slack) (both-split (reach p) .0);
-          right-far = leb-true (σ .sim .tape .head + cellsOf (rightOf σ)) (zeroAt + σ .sim .steps + slack) (both-split (reach p) .1);
+          left-far = leb-true (raisedZero + cellsOf (leftOf σ)) (σ .sim .tape .head + σ .sim .steps + slack) (both-split (reach p) .0);
+          right-far = leb-true (σ .sim .tape .head + cellsOf (rightOf σ)) (raisedZero + σ .sim .steps + slack) (both-split (reach p) .1);
         }
 
     -- what the questions on the sides require
@@ -146,7 +147,7 @@ module _ (m : Machine) (s : List ℕ) (σ : Conf) (r : Checked) (checked : r ≡
       omega (arith, asked-ok .sides .right .live, asked-ok .sides .right .lengths-in),
     )
 
-    pub asked-sums : (cellsOf (leftOf σ) < 9223372036854775807) × (cellsOf (rightOf σ) < 9223372036854775807)
+    pub asked-sums : (cellsOf (leftOf σ) < raisedZero - 1) × (cellsOf (rightOf σ) < raisedZero - 1)
     asked-sums = (
       omega (arith, asked-ok .sides .left .cells-in, asked-ok .counts .steps-in),
       omega (arith, asked-ok .sides .right .cells-in, asked-ok .counts .steps-in),

@@ -1,4 +1,4 @@
--- What `left` and `right` answer and write: one fact for each return, and what their proofs by hand require. Assumes nothing.
+-- What `left` and `right` answer and write: one fact for each return, and what their proof by hand requires. Assumes nothing.
 use mathlib.Core.Path.{_≡_, refl}
 use mathlib.Core.List.{List}
 use Prim.Native.Nat.{ℕ, _≤_}
@@ -18,10 +18,10 @@ use Rattle.rle_records.specs.declared.Listed.{Listed}
 use Rattle.rle_records.specs.declared.Listed.the-variants as List′
 use Rattle.rle_records.specs.Model.{recordsOf, roomFor, writtenOf}
 use Rattle.rle_records.specs.Facts.Records.{records-none, room-short, room-enough}
-use Rattle.rle.specs.Model.Engine.{Conf, leftOf, rightOf}
+use Rattle.rle.specs.Model.Engine.{Conf}
 use Rattle.rle.specs.Fits.{engineCheck}
 use Rattle.rle.specs.Facts.OperationCases.{engine-says, sides-ok}
-use Rattle.rle.specs.Model.Records.{listedOn, sideAnswer, sideInto, leftAnswer, leftInto, rightAnswer, rightInto}
+use Rattle.rle.specs.Model.Records.{LeftOrRight, left, right, listedOn, sideAnswer, sideInto, sideOf, answerOf}
 
 -- ---- the returns of the check
 
@@ -66,24 +66,11 @@ module _ (ss ls : List ℕ) (count : ℕ) (out : List Run) where
 
 -- ---- the live runs of a value that passed have places
 
-module _ (m : Machine) (s : List ℕ) (σ : Conf) (passed : engineCheck m s σ ≡ Accepted) where
-  left-live : leftOf σ .count ≤ placesOf (σ .ls) (σ .ll)
-  left-live = sides-ok m σ (engine-says m s σ passed .fits) .left .live
+live : (h : LeftOrRight) (m : Machine) (s : List ℕ) (σ : Conf) → engineCheck m s σ ≡ Accepted → sideOf h σ .count ≤ placesOf (sideOf h σ .symbols) (sideOf h σ .lengths)
+live left m s σ passed = sides-ok m σ (engine-says m s σ passed .fits) .left .live
+live right m s σ passed = sides-ok m σ (engine-says m s σ passed .fits) .right .live
 
-  right-live : rightOf σ .count ≤ placesOf (σ .rs) (σ .rl)
-  right-live = sides-ok m σ (engine-says m s σ passed .fits) .right .live
+-- ---- what the proof by hand requires
 
--- ---- what the proofs by hand require
-
-module _ (m : Machine) (s : List ℕ) (σ : Conf) (out : List Run) where
-  pub left-fits : Within (σ .ls) (σ .ll) (length out) (leftAnswer m s (length out) σ)
-  left-fits = side-fine (σ .ls) (σ .ll) (leftOf σ .count) out m s σ (left-live m s σ) .0
-
-  pub left-writes : recordsOf (side (σ .ls) (σ .ll) (writtenOf (leftAnswer m s (length out) σ))) out ≡ leftInto m s σ out
-  left-writes = side-fine (σ .ls) (σ .ll) (leftOf σ .count) out m s σ (left-live m s σ) .1
-
-  pub right-fits : Within (σ .rs) (σ .rl) (length out) (rightAnswer m s (length out) σ)
-  right-fits = side-fine (σ .rs) (σ .rl) (rightOf σ .count) out m s σ (right-live m s σ) .0
-
-  pub right-writes : recordsOf (side (σ .rs) (σ .rl) (writtenOf (rightAnswer m s (length out) σ))) out ≡ rightInto m s σ out
-  right-writes = side-fine (σ .rs) (σ .rl) (rightOf σ .count) out m s σ (right-live m s σ) .1
+pub list-fine : (h : LeftOrRight) (m : Machine) (s : List ℕ) (σ : Conf) (out : List Run) → Fine (sideOf h σ .symbols) (sideOf h σ .lengths) (sideOf h σ .count) out (answerOf h m s (length out) σ)
+list-fine h m s σ out = side-fine (sideOf h σ .symbols) (sideOf h σ .lengths) (sideOf h σ .count) out m s σ (live h m s σ)

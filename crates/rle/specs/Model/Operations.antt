@@ -3,6 +3,7 @@ use mathlib.Core.Bool.{true}
 use mathlib.Core.List.{List}
 use Prim.Native.Nat.{ℕ}
 use lib.ListN.{getD}
+use Rattle.notation.specs.Limits.{raisedZero}
 use Rattle.symbol.specs.Kinds.{stateOf}
 use Rattle.machine.specs.declared.Machine.{Machine}
 use Rattle.machine.specs.declared.Checked.{Checked}
@@ -19,7 +20,7 @@ use Rattle.rle.specs.declared.ChainSim.{ChainSim}
 use Rattle.rle.specs.declared.Fresh.{Fresh}
 use Rattle.rle.specs.declared.Fresh.the-variants as New
 use Rattle.rle.specs.Model.Engine.{Conf, End, runOf}
-use Rattle.rle.specs.Fits.{zeroAt, runCheck}
+use Rattle.rle.specs.Fits.{runCheck}
 
 -- ---- the run: its answer, with the engine and the places after it
 
@@ -44,9 +45,9 @@ startSim m cur rights = record {
   state = stateOf (m .start);
   steps = 0;
   macros = 0;
-  tape = record { left = 0; cur = cur; right = rights; head = zeroAt };
-  lowest = zeroAt;
-  highest = zeroAt;
+  tape = record { left = 0; cur = cur; right = rights; head = raisedZero };
+  lowest = raisedZero;
+  highest = raisedZero;
 }
 
 abbrev pub freshSim : Machine → List ℕ → ℕ → ChainSim

@@ -5,6 +5,7 @@ use Prim.Native.Nat.{ℕ, _+_, _-_}
 use lib.Dec.{eqb}
 use lib.IntN.{ℤ}
 use Rattle.notation.specs.Choice.{pick, both}
+use Rattle.notation.specs.Limits.{raisedZero}
 use Rattle.notation.specs.Position.{_⊖_}
 use Rattle.symbol.specs.Kinds.{symbolOf}
 use Rattle.symbol.specs.Model.{raisedOf}
@@ -21,7 +22,7 @@ use Rattle.run_rules.specs.Model.Answers.{askedOn}
 use Rattle.rle_stack.specs.Model.{cellsOf, nearOf}
 unfoldable pub use Rattle.rle_macro.specs.Model.Questions.{cellOn, windowOn, windowAll, countOn}
 use Rattle.rle.specs.Model.Engine.{Conf, leftOf, rightOf}
-use Rattle.rle.specs.Fits.{zeroAt, engineCheck}
+use Rattle.rle.specs.Fits.{engineCheck}
 
 -- ---- the tape
 
@@ -53,7 +54,7 @@ unfoldable pub blankTape : Conf → Bool
 blankTape σ = both (eqb (σ .sim .tape .cur) 0) (both (eqb (σ .sim .tape .left) 0) (eqb (σ .sim .tape .right) 0))
 
 unfoldable pub spanOf : Conf → Span
-spanOf σ = pick (blankTape σ) Empty (Cells (lowestOf σ ⊖ zeroAt) (highestOf σ ⊖ zeroAt))
+spanOf σ = pick (blankTape σ) Empty (Cells (lowestOf σ ⊖ raisedZero) (highestOf σ ⊖ raisedZero))
 
 unfoldable pub countOf : Conf → ℕ
 countOf σ = countOn (σ .sim .tape .cur) (leftOf σ) (rightOf σ)

@@ -28,18 +28,33 @@ abbrev pub sideInto : Listed → Side → List Run → List Run
 sideInto (List′.Filled count) x out = recordsOf x out
 sideInto (List′.Refused why) x out = out
 
--- ---- the left side
+-- ---- the two sides
+
+-- which side of the tape, and a choice by it
+pub data LeftOrRight : Type 0 where
+  left right : LeftOrRight
+
+abbrev pub bySide : {A : Type 0} → LeftOrRight → A → A → A
+bySide left l r = l
+bySide right l r = r
+
+abbrev pub sideOf : LeftOrRight → Conf → Side
+sideOf h σ = bySide h (leftOf σ) (rightOf σ)
+
+abbrev pub answerOf : LeftOrRight → Machine → List ℕ → (room : ℕ) → Conf → Listed
+answerOf h m s room σ = sideAnswer m s (sideOf h σ .count) room σ
+
+abbrev pub intoOf : LeftOrRight → Machine → List ℕ → Conf → List Run → List Run
+intoOf h m s σ out = sideInto (answerOf h m s (length out) σ) (sideOf h σ) out
 
 abbrev pub leftAnswer : Machine → List ℕ → (room : ℕ) → Conf → Listed
-leftAnswer m s room σ = sideAnswer m s (leftOf σ .count) room σ
+leftAnswer = answerOf left
 
 abbrev pub leftInto : Machine → List ℕ → Conf → List Run → List Run
-leftInto m s σ out = sideInto (leftAnswer m s (length out) σ) (leftOf σ) out
-
--- ---- the right side
+leftInto = intoOf left
 
 abbrev pub rightAnswer : Machine → List ℕ → (room : ℕ) → Conf → Listed
-rightAnswer m s room σ = sideAnswer m s (rightOf σ .count) room σ
+rightAnswer = answerOf right
 
 abbrev pub rightInto : Machine → List ℕ → Conf → List Run → List Run
-rightInto m s σ out = sideInto (rightAnswer m s (length out) σ) (rightOf σ) out
+rightInto = intoOf right

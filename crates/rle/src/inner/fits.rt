@@ -1,9 +1,11 @@
 // The tests of a fitting engine that read its value alone, not its places.
 use super::super::ChainSim;
 use machine::Machine;
+use notation::limits;
 use run_checks::inner::sizes;
 ghost use mathlib.Core.Path.{_≡_};
 ghost use Prim.Native.Nat.{_+_, _≤_};
+ghost use Rattle.notation.specs.Limits.{stepsMost, slack};
 ghost use Rattle.rle.specs.Fits.{headFits, reachFits, countsFit};
 
 pub fn counts_fit(sim: ChainSim, m: Machine) -> bool
@@ -25,7 +27,7 @@ pub fn counts_fit(sim: ChainSim, m: Machine) -> bool
 }
 
 pub fn head_fits(sim: ChainSim) -> bool
-    requires { ⌜ sim .steps ≤ 4611686018427387904 ⌝ }
+    requires { ⌜ sim .steps ≤ stepsMost ⌝ }
     ensures { λ r. ⌜ r ≡ headFits sim ⌝ }
 {
     let tape = sim.tape;
@@ -35,22 +37,22 @@ pub fn head_fits(sim: ChainSim) -> bool
     if sim.highest < tape.head {
         return false;
     }
-    if sim.lowest < 9223372036854775808 - sim.steps {
+    if sim.lowest < limits::RAISED_ZERO - sim.steps {
         return false;
     }
-    sim.highest <= 9223372036854775808 + sim.steps
+    sim.highest <= limits::RAISED_ZERO + sim.steps
 }
 
 // Whether the furthest cell of each side is near enough to position 0.
 pub fn reach_fits(sim: ChainSim, lefts: u64, rights: u64) -> bool
-    requires { ⌜ sim .steps ≤ 4611686018427387904 ⌝ }
-    requires { ⌜ (lefts ≤ sim .steps + 1048576) × (rights ≤ sim .steps + 1048576) ⌝ }
+    requires { ⌜ sim .steps ≤ stepsMost ⌝ }
+    requires { ⌜ (lefts ≤ sim .steps + slack) × (rights ≤ sim .steps + slack) ⌝ }
     ensures { λ r. ⌜ r ≡ reachFits sim lefts rights ⌝ }
 {
     let tape = sim.tape;
-    let most = sim.steps + 1048576;
-    if tape.head < 9223372036854775808 - (most - lefts) {
+    let most = sim.steps + limits::SLACK;
+    if tape.head < limits::RAISED_ZERO - (most - lefts) {
         return false;
     }
-    tape.head <= 9223372036854775808 + (most - rights)
+    tape.head <= limits::RAISED_ZERO + (most - rights)
 }

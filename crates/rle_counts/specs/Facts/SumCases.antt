@@ -7,6 +7,7 @@ use borrow.Author.Tests.{leb-true, leb-false, le-leb, lt-leb}
 use lib.Dec.{leb}
 use Rattle.notation.specs.Choice.{pick, both}
 use Rattle.notation.specs.Facts.Tests.{both-split, by-test, pick-true, pick-false}
+use Rattle.notation.specs.Limits.{slack}
 use Rattle.rle_stack.specs.Model.{Side, runsFit, cellsOf}
 use Rattle.rle_counts.specs.Model.Sums.{sideFits, sidesFit}
 
@@ -55,16 +56,16 @@ module _ (k p most : ℕ) (x : Side) where
 
 -- ---- both sides
 
-module _ (k lp rp steps : ℕ) (x y : Side) (near : Bool) (l : ℕ) (lm : l ≡ measured k lp (steps + 1048576) x) where
-  pub sides-left : steps + 1048576 < l → false ≡ sidesFit k lp rp steps x y near
+module _ (k lp rp steps : ℕ) (x y : Side) (near : Bool) (l : ℕ) (lm : l ≡ measured k lp (steps + slack) x) where
+  pub sides-left : steps + slack < l → false ≡ sidesFit k lp rp steps x y near
   unfolding both
-  sides-left h = rw (measured-over k lp (steps + 1048576) x l lm h)
+  sides-left h = rw (measured-over k lp (steps + slack) x l lm h)
 
-  module _ (lh : l ≤ steps + 1048576) (r : ℕ) (rm : r ≡ measured k rp (steps + 1048576) y) where
-    pub sides-right : steps + 1048576 < r → false ≡ sidesFit k lp rp steps x y near
+  module _ (lh : l ≤ steps + slack) (r : ℕ) (rm : r ≡ measured k rp (steps + slack) y) where
+    pub sides-right : steps + slack < r → false ≡ sidesFit k lp rp steps x y near
     unfolding both
-    sides-right h = rw (measured-fits k lp (steps + 1048576) x l lm lh .0, measured-over k rp (steps + 1048576) y r rm h)
+    sides-right h = rw (measured-fits k lp (steps + slack) x l lm lh .0, measured-over k rp (steps + slack) y r rm h)
 
-    pub sides-near : r ≤ steps + 1048576 → near ≡ sidesFit k lp rp steps x y near
+    pub sides-near : r ≤ steps + slack → near ≡ sidesFit k lp rp steps x y near
     unfolding both
-    sides-near h = rw (measured-fits k lp (steps + 1048576) x l lm lh .0, measured-fits k rp (steps + 1048576) y r rm h .0)
+    sides-near h = rw (measured-fits k lp (steps + slack) x l lm lh .0, measured-fits k rp (steps + slack) y r rm h .0)

@@ -9,6 +9,7 @@ use lib.Dec.{eqb, leb}
 use lib.ListN.{length, getD}
 use Rattle.notation.specs.Choice.{pick, both}
 use Rattle.notation.specs.Facts.Tests.{by-test, pick-cases, pick-true, pick-false}
+use Rattle.notation.specs.Limits.{wordMost, runsMost}
 use Rattle.outcome.specs.declared.Refusal.{Refusal}
 use Rattle.outcome.specs.declared.Refusal.the-variants as Why
 use Rattle.machine.specs.declared.Machine.{Machine}
@@ -141,7 +142,7 @@ module _ (w : List ℕ) (p : ℕ) (x₀ x : Side) (i : ℕ) (g : Laying w p x₀
           again j = runsOf w (i - 1 - 1) (push-top p (length w - i) (getD w (i - 1) 0) 1 x (g .ok) laying-place j) (push-count (getD w (i - 1) 0) 1 x j)
 
 -- what the push requires
-pub laying-asks : (w ss ls : List ℕ) (p n i : ℕ) (x₀ : Side) → Laying w p x₀ (side ss ls n) i → 1 < i → length w ≤ 1048576
+pub laying-asks : (w ss ls : List ℕ) (p n i : ℕ) (x₀ : Side) → Laying w p x₀ (side ss ls n) i → 1 < i → length w ≤ wordMost
     → ((n ≤ length ss) × (n ≤ length ls)) × ((lacks (placesOf ss ls) (getD w (i - 1) 0) (side ss ls n) ≡ false) × (sumOf ls n + 1 < 18446744073709551616))
 laying-asks w ss ls p n i x₀ g h b = (
   (omega (arith, g .ok .live, g .ok .symbols-in), omega (arith, g .ok .live, g .ok .lengths-in)),
@@ -159,17 +160,17 @@ laying-end w p x₀ x i g h =
 -- ---- the check
 
 module _ (w : List ℕ) (l r : ℕ) where
-  pub sizes-left : 1048576 < l → false ≡ freshSizes w l r
+  pub sizes-left : runsMost < l → false ≡ freshSizes w l r
   unfolding freshSizes both
-  sizes-left h = rw (lt-leb l 1048576 h)
+  sizes-left h = rw (lt-leb l runsMost h)
 
-  pub sizes-right : l ≤ 1048576 → 1048576 < r → false ≡ freshSizes w l r
+  pub sizes-right : l ≤ runsMost → runsMost < r → false ≡ freshSizes w l r
   unfolding freshSizes both
-  sizes-right h k = rw (le-leb l 1048576 h, lt-leb r 1048576 k)
+  sizes-right h k = rw (le-leb l runsMost h, lt-leb r runsMost k)
 
-  pub sizes-runs : l ≤ 1048576 → r ≤ 1048576 → (n : ℕ) → n ≡ runsOf w (length w - 1) 0 0 → leb n r ≡ freshSizes w l r
+  pub sizes-runs : l ≤ wordMost → r ≤ wordMost → (n : ℕ) → n ≡ runsOf w (length w - 1) 0 0 → leb n r ≡ freshSizes w l r
   unfolding freshSizes both
-  sizes-runs h k n e = rw (le-leb l 1048576 h, le-leb r 1048576 k, e)
+  sizes-runs h k n e = rw (le-leb l runsMost h, le-leb r runsMost k, e)
 
 module _ (m : Machine) (s w : List ℕ) (l r : ℕ) (c : Checked) (checked : c ≡ tableCheck m s) where
   pub fresh-table : (why : Refusal) → c ≡ Refused why → Refused why ≡ freshCheck m s w l r

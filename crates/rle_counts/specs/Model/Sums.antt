@@ -3,11 +3,8 @@ use mathlib.Core.Bool.{Bool}
 use Prim.Native.Nat.{ℕ, _+_}
 use lib.Dec.{leb}
 use Rattle.notation.specs.Choice.{both}
+use Rattle.notation.specs.Limits.{slack}
 use Rattle.rle_stack.specs.Model.{Side, runsFit, cellsOf}
-
--- the largest number of symbols of a word, and of places of a side
-abbrev pub slack : ℕ
-slack = 1048576
 
 -- "the stack rule, each side's sum .. at most steps + 2^20", and the live runs have places
 unfoldable pub sideFits : (k places most : ℕ) → Side → Bool

@@ -5,6 +5,7 @@ use Prim.Native.Nat.{ℕ, zero, suc, _+_, _-_}
 use lib.Dec.{eqb, leb}
 use lib.ListN.{length, getD}
 use Rattle.notation.specs.Choice.{pick, both}
+use Rattle.notation.specs.Limits.{runsMost}
 use Rattle.outcome.specs.declared.Refusal.the-variants as Why
 use Rattle.machine.specs.declared.Machine.{Machine}
 use Rattle.machine.specs.declared.Checked.{Checked}
@@ -12,7 +13,6 @@ use Rattle.machine.specs.declared.Checked.the-variants.{Accepted}
 use Rattle.machine.specs.Model.Check.{demand, checkedOn, tableCheck}
 use Rattle.machine.specs.Model.Word.{wordCheck}
 use Rattle.rle_stack.specs.Model.{Side, pushOf}
-use Rattle.rle_counts.specs.Model.Sums.{slack}
 
 -- the number of runs after a push of symbol s on a top run of symbol `top`
 abbrev pub moreOf : (count top s : ℕ) → ℕ
@@ -36,7 +36,7 @@ runsOf w (suc n) top count =
 
 -- false for "fewer right run places than the word's right stack has runs, or a run side over 1,048,576"
 unfoldable pub freshSizes : List ℕ → (lefts rights : ℕ) → Bool
-freshSizes w l r = both (leb l slack) (both (leb r slack) (leb (runsOf w (length w - 1) 0 0) r))
+freshSizes w l r = both (leb l runsMost) (both (leb r runsMost) (leb (runsOf w (length w - 1) 0 0) r))
 
 -- the table check, then refusal 8, the word's refusals 9 and 10, then refusal 11
 unfoldable pub freshCheck : Machine → (s w : List ℕ) → (lefts rights : ℕ) → Checked

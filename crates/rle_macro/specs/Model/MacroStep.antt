@@ -4,6 +4,7 @@ use mathlib.Core.Bool.{Bool, false}
 use Prim.Native.Nat.{ℕ, _+_, _-_, _≤_, _<_, min}
 use lib.Dec.{eqb}
 use Rattle.notation.specs.Choice.{pick, both}
+use Rattle.notation.specs.Limits.{raisedZero}
 use Rattle.symbol.specs.declared.State.{State}
 use Rattle.symbol.specs.declared.Dir.{Dir}
 use Rattle.symbol.specs.declared.Dir.the-variants.{L, R, N}
@@ -120,6 +121,6 @@ pub record MakeOk (lp rp fuel : ℕ) (l r : Side) : Type 0 where
   pub rights : rp ≡ placesOf (r .symbols) (r .lengths)
   pub left-live : l .count ≤ lp
   pub right-live : r .count ≤ rp
-  pub left-cells : cellsOf l + fuel < 9223372036854775808
-  pub right-cells : cellsOf r + fuel < 9223372036854775808
+  pub left-cells : cellsOf l + fuel < raisedZero
+  pub right-cells : cellsOf r + fuel < raisedZero
   pub some-fuel : 1 ≤ fuel

@@ -1,5 +1,6 @@
 // A macro step: whether its entry is a proved loop, whether its push has a place, how many steps it covers, and the
 // step itself. `make` matches the direction once and returns plain numbers: this makes the loop of a run fast.
+use notation::number;
 use outcome::NonHaltProof;
 use rle_stack::inner as stack;
 use symbol::Dir;
@@ -9,6 +10,7 @@ ghost use mathlib.Core.Bool.{false};
 ghost use Prim.Native.Nat.{_+_, _-_, _≤_, _<_, min, max};
 ghost use lib.ListN.{length};
 ghost use Rattle.notation.specs.Choice.{pick};
+ghost use Rattle.notation.specs.Limits.{raisedZero};
 ghost use Rattle.rle_stack.specs.Model.{side, placesOf, lacks, sumOf};
 ghost use Rattle.rle_macro.specs.Model.MacroStep.{walksOn, loopsFor, proofOf, reachOf, gone, goneBy, goOf, moved, makeOf, headFor, MakeOk};
 
@@ -36,24 +38,6 @@ pub struct Moved {
     pub cur: u8,
     pub right: usize,
     pub repeats: u64,
-}
-
-pub fn lower(a: u64, b: u64) -> u64
-    ensures { λ r. ⌜ r ≡ min a b ⌝ }
-{
-    if a < b {
-        return a;
-    }
-    b
-}
-
-pub fn upper(a: u64, b: u64) -> u64
-    ensures { λ r. ⌜ r ≡ max a b ⌝ }
-{
-    if a < b {
-        return b;
-    }
-    a
 }
 
 // Whether the head moves from a blank into a side without runs.
@@ -118,7 +102,7 @@ fn reach(
     fuel: u64,
 ) -> u64
     requires { ⌜ (count ≤ length (now symbols)) × (count ≤ length (now lengths)) ⌝ }
-    requires { ⌜ sumOf (now lengths) count < 9223372036854775808 ⌝ }
+    requires { ⌜ sumOf (now lengths) count < raisedZero ⌝ }
     ensures { λ r. ⌜ r ≡ reachOf loops keeps cur fuel (side (now (symbols .entry)) (now (lengths .entry)) count) ⌝ }
 {
     if loops {
@@ -128,7 +112,7 @@ fn reach(
         return 1;
     }
     let run = stack::ahead(symbols, lengths, count, cur);
-    lower(run + 1, fuel)
+    number::min(run + 1, fuel)
 }
 
 // Writes n cells behind the head (symbols bs, lengths bl) and takes n off the side ahead (fs, fl); the last of these is
@@ -174,8 +158,8 @@ fn go(
     s: Step,
     fuel: u64,
 ) -> Gone
-    requires { ⌜ (places ≡ placesOf (now bs) (now bl)) × (behind ≤ places) × (sumOf (now bl) behind + fuel < 9223372036854775808) ⌝ }
-    requires { ⌜ (ahead ≤ length (now fs)) × (ahead ≤ length (now fl)) × (sumOf (now fl) ahead < 9223372036854775808) × (1 ≤ fuel) ⌝ }
+    requires { ⌜ (places ≡ placesOf (now bs) (now bl)) × (behind ≤ places) × (sumOf (now bl) behind + fuel < raisedZero) ⌝ }
+    requires { ⌜ (ahead ≤ length (now fs)) × (ahead ≤ length (now fl)) × (sumOf (now fl) ahead < raisedZero) × (1 ≤ fuel) ⌝ }
     ensures { λ r. ⌜ gone (side (now (bs .exit)) (now (bl .exit)) (r .behind)) (r .cur) (side (now (fs .entry)) (now (fl .exit)) (r .ahead)) (r .repeats) ≡ goOf places s cur fuel (side (now (bs .entry)) (now (bl .entry)) behind) (side (now (fs .entry)) (now (fl .entry)) ahead) ⌝ }
 {
     if stack::lacks(bs, behind, places, s.write) {

@@ -1,8 +1,9 @@
 // The questions on a tape of two sides. The head's position is raised by 2^63.
 use rle_stack::inner as stack;
 ghost use mathlib.Core.Path.{_≡_};
-ghost use Prim.Native.Nat.{_≤_, _<_};
+ghost use Prim.Native.Nat.{_-_, _≤_, _<_};
 ghost use lib.ListN.{length};
+ghost use Rattle.notation.specs.Limits.{raisedZero};
 ghost use Rattle.rle_stack.specs.Model.{side, sumOf};
 ghost use Rattle.rle_macro.specs.Model.Questions.{cellOn, windowOn, windowAll, countOn};
 
@@ -89,7 +90,7 @@ pub fn count(
     right: usize,
 ) -> u64
     requires { ⌜ (left ≤ length (now ls)) × (left ≤ length (now ll)) × (right ≤ length (now rs)) × (right ≤ length (now rl)) ⌝ }
-    requires { ⌜ (sumOf (now ll) left < 9223372036854775807) × (sumOf (now rl) right < 9223372036854775807) ⌝ }
+    requires { ⌜ (sumOf (now ll) left < raisedZero - 1) × (sumOf (now rl) right < raisedZero - 1) ⌝ }
     ensures { λ r. ⌜ r ≡ countOn cur (side (now (ls .entry)) (now (ll .entry)) left) (side (now (rs .entry)) (now (rl .entry)) right) ⌝ }
 {
     let lefts = stack::written(ls, ll, left);

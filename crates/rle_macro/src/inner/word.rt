@@ -1,17 +1,19 @@
 // A fresh tape: the word past its first symbol becomes the right side's stack of runs.
 use machine::Checked;
 use machine::Machine;
+use notation::limits;
 use outcome::Refusal;
 use rle_stack::inner as stack;
 ghost use mathlib.Core.Path.{_≡_};
 ghost use Prim.Native.Nat.{_+_, _-_, _≤_};
 ghost use lib.ListN.{length, getD};
+ghost use Rattle.notation.specs.Limits.{wordMost};
 ghost use Rattle.rle_stack.specs.Model.{side, placesOf};
 ghost use Rattle.rle_counts.specs.Model.Words.{wordOf, runsOf, freshSizes, freshCheck, moreOf};
 
 // The number of runs after a push of `s`: one more where `s` differs from the symbol on top.
 fn more(count: usize, top: u8, s: u8) -> usize
-    requires { ⌜ count ≤ 1048576 ⌝ }
+    requires { ⌜ count ≤ wordMost ⌝ }
     ensures { λ r. ⌜ (r ≡ moreOf count top s) × (r ≤ count + 1) ⌝ }
 {
     if s == top {
@@ -22,7 +24,7 @@ fn more(count: usize, top: u8, s: u8) -> usize
 
 // How many runs the word past its first symbol makes, pushed from its end.
 fn runs_in(word: &[u8]) -> usize
-    requires { ⌜ length (now word) ≤ 1048576 ⌝ }
+    requires { ⌜ length (now word) ≤ wordMost ⌝ }
     ensures { λ r. ⌜ r ≡ runsOf (now (word .entry)) (length (now (word .entry)) - 1) 0 0 ⌝ }
 {
     let mut i = word.len();
@@ -38,7 +40,7 @@ fn runs_in(word: &[u8]) -> usize
 
 // Pushes the word past its first symbol, from its end, and returns the number of runs.
 pub fn lay(symbols: &mut [u8], lengths: &mut [u64], word: &[u8]) -> usize
-    requires { ⌜ length (now word) ≤ 1048576 ⌝ }
+    requires { ⌜ length (now word) ≤ wordMost ⌝ }
     requires { ⌜ runsOf (now word) (length (now word) - 1) 0 0 ≤ placesOf (now symbols) (now lengths) ⌝ }
     ensures { λ r. ⌜ side (now (symbols .exit)) (now (lengths .exit)) r ≡ wordOf (now (word .entry)) (side (now (symbols .entry)) (now (lengths .entry)) 0) ⌝ }
 {
@@ -53,13 +55,13 @@ pub fn lay(symbols: &mut [u8], lengths: &mut [u64], word: &[u8]) -> usize
 
 // Whether there are places for the word's runs, and neither side has more places than the limit.
 fn fresh_sizes(word: &[u8], lefts: usize, rights: usize) -> bool
-    requires { ⌜ length (now word) ≤ 1048576 ⌝ }
+    requires { ⌜ length (now word) ≤ wordMost ⌝ }
     ensures { λ r. ⌜ r ≡ freshSizes (now (word .entry)) lefts rights ⌝ }
 {
-    if 1048576 < lefts {
+    if limits::RUNS < lefts {
         return false;
     }
-    if 1048576 < rights {
+    if limits::RUNS < rights {
         return false;
     }
     runs_in(word) <= rights

@@ -11,10 +11,11 @@ use Rattle.notation.specs.Position.{_⊖_, up, dn}
 use Rattle.notation.specs.Facts.Position.{diff-⊖}
 use Rattle.notation.specs.Facts.Scan.{all-says, all-holds}
 use Rattle.notation.specs.Facts.Tests.{both-split, both-true}
+use Rattle.notation.specs.Limits.{raisedZero}
 use Rattle.machine.specs.declared.Machine.{Machine}
 use Rattle.rle_stack.specs.Model.{Side, placesOf, runFits, runsFit}
 use Rattle.rle.specs.Model.Engine.{Conf, leftOf, rightOf}
-use Rattle.rle.specs.Fits.{zeroAt, sideFits, headFits, reachFits, countsFit, chainFits}
+use Rattle.rle.specs.Fits.{sideFits, headFits, reachFits, countsFit, chainFits}
 use Rattle.rle_refines.specs.Meaning.{stackUpto, RunsFit, SideFits, ChainFits, leftEnd, rightEnd, Near}
 use Rattle.rle_refines.specs.Facts.Sides.{top-is}
 
@@ -76,7 +77,7 @@ module _ (m : Machine) (σ : Conf) where
       let b1 = both-split (b .0) in
       let b2 = both-split (b1 .1) in
       let b3 = both-split (b2 .1) in
-      let low : zeroAt - σ .sim .steps ≤ σ .sim .lowest = leb-true _ _ (b3 .0) in
+      let low : raisedZero - σ .sim .steps ≤ σ .sim .lowest = leb-true _ _ (b3 .0) in
       record {
         state-in = ltb-true _ _ (a1 .0);
         steps-in = leb-true _ _ (a2 .0);
@@ -100,7 +101,7 @@ module _ (m : Machine) (σ : Conf) where
       (both-true (side-holds (m .symbols) _ (leftOf σ) (f .lefts))
       (both-true (side-holds (m .symbols) _ (rightOf σ) (f .rights)) (both-true (le-leb _ _ (f .left-far)) (le-leb _ _ (f .right-far))))))
     where
-      near : zeroAt - σ .sim .steps ≤ σ .sim .lowest
+      near : raisedZero - σ .sim .steps ≤ σ .sim .lowest
       near = omega (arith, f .low-near)
 
 -- ---- "its furthest cell's distance from 0"

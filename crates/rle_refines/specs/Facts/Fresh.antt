@@ -14,6 +14,7 @@ use Rattle.notation.specs.Choice.{pick}
 use Rattle.notation.specs.Position.{_⊖_}
 use Rattle.notation.specs.Facts.Position.{ints, diff-⊖}
 use Rattle.notation.specs.Facts.Tests.{by-test, pick-cases, pick-true, pick-false}
+use Rattle.notation.specs.Limits.{wordMost, raisedZero}
 use Rattle.machine.specs.declared.Machine.{Machine}
 use Rattle.table_machine.specs.TableMachine.{wordCell, startTape, start}
 use Rattle.table_machine.specs.Facts.Tape.{tape-≡}
@@ -21,7 +22,6 @@ use Rattle.rle_stack.specs.Model.{Side, side, placesOf, topOf, pushOf, cellsOf,
 use Rattle.rle_stack.specs.Invariants.{SameLengths}
 use Rattle.rle_stack.specs.Facts.Sides.{same-then, same-places, push-same, push-count}
 use Rattle.rle.specs.Model.Engine.{Conf, conf}
-use Rattle.rle.specs.Fits.{zeroAt}
 use Rattle.rle.specs.Model.Operations.{laidOf, runsOf, freshSim}
 use Rattle.rle_refines.specs.Meaning.{stackOf, top, Stream, blanks, cons, stream, streamOf, distance, look, tapeAround, configOf, RunsFit, ChainFits}
 use Rattle.rle_refines.specs.Facts.Stack.{total, push, push-means, push-fits, push-total, top-push}
@@ -108,7 +108,7 @@ module _ (k : ℕ) (w : List ℕ) (word : (i : ℕ) → getD w i 0 < k) (x : Sid
 
 -- ---- the engine
 
-module _ (m : Machine) (w ls ll rs rl : List ℕ) (word : (i : ℕ) → getD w i 0 < m .symbols) (short : length w ≤ 1048576) (start-in : m .start < m .states)
+module _ (m : Machine) (w ls ll rs rl : List ℕ) (word : (i : ℕ) → getD w i 0 < m .symbols) (short : length w ≤ wordMost) (start-in : m .start < m .states)
     (room : runsOf w (length w - 1) 0 0 ≤ placesOf rs rl) where
   abbrev right : Side
   right = laidOf w (length w - 1) (side rs rl 0)
@@ -125,18 +125,18 @@ module _ (m : Machine) (w ls ll rs rl : List ℕ) (word : (i : ℕ) → getD w i
   pub fresh-holds : configOf engine ≡ start (m .start) w
   fresh-holds = λ i. record { state = m .start; steps = 0; tape0 = tape i; tape1 = startTape []; tape2 = startTape [] }
     where
-      zero-is : zeroAt ⊖ 2 ^ 63 ≡ pos 0
-      zero-is = omega (ints, diff-⊖ zeroAt (2 ^ 63))
+      zero-is : raisedZero ⊖ 2 ^ 63 ≡ pos 0
+      zero-is = omega (ints, diff-⊖ raisedZero (2 ^ 63))
 
       cell : (z : ℤ) → look blanks (getD w 0 0) (streamOf right) z ≡ wordCell w z
       cell (pos zero) = refl
       cell (pos (suc d)) = ap (λ (f : Stream). f d) (done .cells) ∙ ap (λ j. getD w (suc j) 0) (zero-add d)
       cell (negsuc d) = refl
 
-      near : (z : ℤ) → distance (zeroAt ⊖ 2 ^ 63) z ≡ z
-      near z = omega (ints, diff-distance (zeroAt ⊖ 2 ^ 63) z, zero-is)
+      near : (z : ℤ) → distance (raisedZero ⊖ 2 ^ 63) z ≡ z
+      near z = omega (ints, diff-distance (raisedZero ⊖ 2 ^ 63) z, zero-is)
 
-      tape : tapeAround blanks (getD w 0 0) (streamOf right) zeroAt zeroAt zeroAt ≡ startTape w
+      tape : tapeAround blanks (getD w 0 0) (streamOf right) raisedZero raisedZero raisedZero ≡ startTape w
       tape = tape-≡ _ _ (λ z. ap (look blanks (getD w 0 0) (streamOf right)) (near z) ∙ cell z) zero-is zero-is zero-is
 
   pub fresh-fits : ChainFits m engine

@@ -9,13 +9,13 @@ use lib.IntN.{ℤ}
 use Rattle.notation.specs.Position.{_⊖_}
 use Rattle.notation.specs.Facts.Position.{ints, diff-⊖}
 use Rattle.notation.specs.Facts.Tests.{clash, both-split, both-true, pick-cases}
+use Rattle.notation.specs.Limits.{raisedZero}
 use Rattle.symbol.specs.declared.Dir.{Dir}
 use Rattle.symbol.specs.declared.Dir.the-variants.{L, R}
 use Rattle.machine.specs.declared.Machine.{Machine}
 use Rattle.table_machine.specs.TableMachine.{Beyond}
 use Rattle.rle_stack.specs.Model.{Side, cellsOf, nearOf}
 use Rattle.rle.specs.Model.Engine.{Conf, leftOf, rightOf}
-use Rattle.rle.specs.Fits.{zeroAt}
 use Rattle.rle.specs.Model.Questions.{lowestOf, highestOf, blankTape}
 use Rattle.rle_refines.specs.Meaning.{stackUpto, stream, streamOf, tapeOf, ChainFits}
 use Rattle.rle_refines.specs.Facts.SideCells.{Bounds, side-ends}
@@ -53,7 +53,7 @@ module _ (m : Machine) (σ : Conf) (f : ChainFits m σ) where
   -- the last cell in each direction, by where it lies
   module _ (p : ℕ) where
     abbrev place : ℤ
-    place = p ⊖ zeroAt
+    place = p ⊖ raisedZero
 
     abbrev IsLast : Dir → Type 0
     IsLast x = Last x (tapeOf σ .cell) place
@@ -64,68 +64,68 @@ module _ (m : Machine) (σ : Conf) (f : ChainFits m σ) where
 
     low-left : Bounds (left σ) (nearOf (leftOf σ)) (cellsOf (leftOf σ)) → p + cellsOf (leftOf σ) ≡ head σ → IsLast L
     low-left x q = record {
-      written = λ e. x .far-written (sym (at-left σ place (cellsOf (leftOf σ) - 1) (omega (arith, diff-⊖ p zeroAt, x .some, x .within))) ∙ e);
+      written = λ e. x .far-written (sym (at-left σ place (cellsOf (leftOf σ) - 1) (omega (arith, diff-⊖ p raisedZero, x .some, x .within))) ∙ e);
       beyond = λ y b. off y _ b (seen σ y);
     }
       where
         off : Off L
-        off y v b (here e) = absurd (omega (ints, b, diff-⊖ p zeroAt))
-        off y v b (leftward d e) = x .past d (omega (ints, b, diff-⊖ p zeroAt))
-        off y v b (rightward d e) = absurd (omega (ints, b, diff-⊖ p zeroAt))
+        off y v b (here e) = absurd (omega (ints, b, diff-⊖ p raisedZero))
+        off y v b (leftward d e) = x .past d (omega (ints, b, diff-⊖ p raisedZero))
+        off y v b (rightward d e) = absurd (omega (ints, b, diff-⊖ p raisedZero))
 
     low-head : σ .sim .tape .left ≡ 0 → ¬ (cur σ ≡ 0) → p ≡ head σ → IsLast L
     low-head n w q = record {
-      written = λ e. w (sym (at-head σ place (omega (arith, diff-⊖ p zeroAt))) ∙ e);
+      written = λ e. w (sym (at-head σ place (omega (arith, diff-⊖ p raisedZero))) ∙ e);
       beyond = λ y b. off y _ b (seen σ y);
     }
       where
         off : Off L
-        off y v b (here e) = absurd (omega (ints, b, diff-⊖ p zeroAt))
+        off y v b (here e) = absurd (omega (ints, b, diff-⊖ p raisedZero))
         off y v b (leftward d e) = no-runs (leftOf σ) n d
-        off y v b (rightward d e) = absurd (omega (ints, b, diff-⊖ p zeroAt))
+        off y v b (rightward d e) = absurd (omega (ints, b, diff-⊖ p raisedZero))
 
     low-right : σ .sim .tape .left ≡ 0 → cur σ ≡ 0 → Bounds (right σ) (nearOf (rightOf σ)) (cellsOf (rightOf σ)) → p ≡ head σ + nearOf (rightOf σ) → IsLast L
     low-right n c x q = record {
-      written = λ e. x .near-written (sym (at-right σ place (nearOf (rightOf σ) - 1) (omega (arith, diff-⊖ p zeroAt, x .some))) ∙ e);
+      written = λ e. x .near-written (sym (at-right σ place (nearOf (rightOf σ) - 1) (omega (arith, diff-⊖ p raisedZero, x .some))) ∙ e);
       beyond = λ y b. off y _ b (seen σ y);
     }
       where
         off : Off L
         off y v b (here e) = c
         off y v b (leftward d e) = no-runs (leftOf σ) n d
-        off y v b (rightward d e) = x .before d (omega (ints, b, diff-⊖ p zeroAt))
+        off y v b (rightward d e) = x .before d (omega (ints, b, diff-⊖ p raisedZero))
 
     high-right : Bounds (right σ) (nearOf (rightOf σ)) (cellsOf (rightOf σ)) → p ≡ head σ + cellsOf (rightOf σ) → IsLast R
     high-right x q = record {
-      written = λ e. x .far-written (sym (at-right σ place (cellsOf (rightOf σ) - 1) (omega (arith, diff-⊖ p zeroAt, x .some, x .within))) ∙ e);
+      written = λ e. x .far-written (sym (at-right σ place (cellsOf (rightOf σ) - 1) (omega (arith, diff-⊖ p raisedZero, x .some, x .within))) ∙ e);
       beyond = λ y b. off y _ b (seen σ y);
     }
       where
         off : Off R
-        off y v b (here e) = absurd (omega (ints, b, diff-⊖ p zeroAt))
-        off y v b (leftward d e) = absurd (omega (ints, b, diff-⊖ p zeroAt))
-        off y v b (rightward d e) = x .past d (omega (ints, b, diff-⊖ p zeroAt))
+        off y v b (here e) = absurd (omega (ints, b, diff-⊖ p raisedZero))
+        off y v b (leftward d e) = absurd (omega (ints, b, diff-⊖ p raisedZero))
+        off y v b (rightward d e) = x .past d (omega (ints, b, diff-⊖ p raisedZero))
 
     high-head : σ .sim .tape .right ≡ 0 → ¬ (cur σ ≡ 0) → p ≡ head σ → IsLast R
     high-head n w q = record {
-      written = λ e. w (sym (at-head σ place (omega (arith, diff-⊖ p zeroAt))) ∙ e);
+      written = λ e. w (sym (at-head σ place (omega (arith, diff-⊖ p raisedZero))) ∙ e);
       beyond = λ y b. off y _ b (seen σ y);
     }
       where
         off : Off R
-        off y v b (here e) = absurd (omega (ints, b, diff-⊖ p zeroAt))
-        off y v b (leftward d e) = absurd (omega (ints, b, diff-⊖ p zeroAt))
+        off y v b (here e) = absurd (omega (ints, b, diff-⊖ p raisedZero))
+        off y v b (leftward d e) = absurd (omega (ints, b, diff-⊖ p raisedZero))
         off y v b (rightward d e) = no-runs (rightOf σ) n d
 
     high-left : σ .sim .tape .right ≡ 0 → cur σ ≡ 0 → Bounds (left σ) (nearOf (leftOf σ)) (cellsOf (leftOf σ)) → p + nearOf (leftOf σ) ≡ head σ → IsLast R
     high-left n c x q = record {
-      written = λ e. x .near-written (sym (at-left σ place (nearOf (leftOf σ) - 1) (omega (arith, diff-⊖ p zeroAt, x .some))) ∙ e);
+      written = λ e. x .near-written (sym (at-left σ place (nearOf (leftOf σ) - 1) (omega (arith, diff-⊖ p raisedZero, x .some))) ∙ e);
       beyond = λ y b. off y _ b (seen σ y);
     }
       where
         off : Off R
         off y v b (here e) = c
-        off y v b (leftward d e) = x .before d (omega (ints, b, diff-⊖ p zeroAt))
+        off y v b (leftward d e) = x .before d (omega (ints, b, diff-⊖ p raisedZero))
         off y v b (rightward d e) = no-runs (rightOf σ) n d
 
   pub lowest-is : blankTape σ ≡ false → IsLast (lowestOf σ) L

@@ -8,6 +8,7 @@ use borrow.Author.Tests.{le-leb, eq-eqb}
 use lib.ListN.{length, getD}
 use Rattle.notation.specs.Choice.{pick}
 use Rattle.notation.specs.Facts.Tests.{both-true}
+use Rattle.notation.specs.Limits.{runsMost}
 use Rattle.outcome.specs.declared.NonHaltProof.{NonHaltProof}
 use Rattle.outcome.specs.declared.Outcome.{Outcome}
 use Rattle.outcome.specs.declared.Outcome.the-variants.{NeverHalts}
@@ -151,7 +152,7 @@ module _ (m : Machine) (s w ls ll rs rl : List ℕ) (v : ChainSim) (rs′ rl′ 
       let all : (i : ℕ) → getD w i 0 < m .symbols = word-all (m .symbols) w (r .symbols-low) (p .1) in
       let fits : ChainFits m engine = fresh-fits m w ls ll rs rl all (p .0) (r .start-in) (g .room) in
       let same : SameLengths (side rs rl 0) right = fresh-sizes m w ls ll rs rl all (p .0) (r .start-in) (g .room) in
-      let few : placesOf (right .symbols) (right .lengths) ≤ 1048576 = omega (arith, same-places same, g .rights) in
+      let few : placesOf (right .symbols) (right .lengths) ≤ runsMost = omega (arith, same-places same, g .rights) in
       record {
         holds = fresh-holds m w ls ll rs rl all (p .0) (r .start-in) (g .room);
         fits = fits;

@@ -8,6 +8,7 @@ use borrow.Author.Tests.{leb-true, le-leb}
 use lib.ListN.{length, getD}
 use lib.Seq.{paste, length-paste}
 use Rattle.notation.specs.Facts.Tests.{both-split, both-true}
+use Rattle.notation.specs.Limits.{runsMost}
 use Rattle.machine.specs.declared.Machine.{Machine}
 use Rattle.machine.specs.declared.Checked.the-variants.{Accepted}
 use Rattle.rle_stack.specs.Model.{side, placesOf, sumOf}
@@ -94,8 +95,8 @@ module _ (m : Machine) (s : List ℕ) (σ τ : Conf) (passed : engineCheck m s �
   unfolding placesFit
   few e =
       let q = both-split e in
-      both-true (le-leb (leftsOf τ) 1048576 (omega (arith, sizes .ls, sizes .ll, leb-true (leftsOf σ) 1048576 (q .0))))
-      (le-leb (rightsOf τ) 1048576 (omega (arith, sizes .rs, sizes .rl, leb-true (rightsOf σ) 1048576 (q .1))))
+      both-true (le-leb (leftsOf τ) runsMost (omega (arith, sizes .ls, sizes .ll, leb-true (leftsOf σ) runsMost (q .0))))
+      (le-leb (rightsOf τ) runsMost (omega (arith, sizes .rs, sizes .rl, leb-true (rightsOf σ) runsMost (q .1))))
 
   pub accepted-again : chainFits m τ ≡ true → engineCheck m s τ ≡ Accepted
   accepted-again e =

@@ -2,6 +2,7 @@
 use super::Found;
 use super::bytes::number;
 use machine::Machine;
+use notation::limits;
 use rle::ChainSim;
 use rle::RunTape;
 use rle::inner::fits;
@@ -12,6 +13,7 @@ ghost use mathlib.Core.Path.{_≡_};
 ghost use Prim.Native.Nat.{_+_, _*_, _≤_, _<_, min};
 ghost use lib.ListN.{length};
 ghost use Rattle.notation.specs.Choice.{pick};
+ghost use Rattle.notation.specs.Limits.{raisedZero};
 ghost use Rattle.rle_stack.specs.Model.{side, runFits, runsFit, sumOf, cellsOf};
 ghost use Rattle.rle.specs.Model.Engine.{conf};
 ghost use Rattle.rle.specs.Fits.{sideFits, chainFits};
@@ -83,7 +85,7 @@ fn runs_fit(symbols: &[u8], lengths: &[u8], count: usize, k: u64) -> bool
 
 // How many cells the live runs have, or `most + 1` where they have more than `most`.
 fn cells(lengths: &[u8], count: usize, most: u64) -> u64
-    requires { ⌜ (8 * count ≤ length (now lengths)) × (most < 9223372036854775808) ⌝ }
+    requires { ⌜ (8 * count ≤ length (now lengths)) × (most < raisedZero) ⌝ }
     ensures { λ r. ⌜ r ≡ min (sumOf (numbersIn (now (lengths .entry))) count) (most + 1) ⌝ }
 {
     let mut i = 0;
@@ -101,7 +103,7 @@ fn cells(lengths: &[u8], count: usize, most: u64) -> u64
 
 // The number of a side's cells, at most `most`, where the side fits; else `most + 1`.
 fn measure(symbols: &[u8], lengths: &[u8], count: usize, places: usize, k: u64, most: u64) -> u64
-    requires { ⌜ (places ≤ length (now symbols)) × (8 * places ≤ length (now lengths)) × (most < 9223372036854775808) ⌝ }
+    requires { ⌜ (places ≤ length (now symbols)) × (8 * places ≤ length (now lengths)) × (most < raisedZero) ⌝ }
     ensures { λ r. ⌜ r ≡ pick (sideFits k places most (side (now (symbols .entry)) (numbersIn (now (lengths .entry))) count)) (cellsOf (side (now (symbols .entry)) (numbersIn (now (lengths .entry))) count)) (most + 1) ⌝ }
 {
     if places < count {
@@ -123,7 +125,7 @@ fn side_cells(
     k: u64,
     most: u64,
 ) -> u64
-    requires { ⌜ (at + places ≤ length (now slot)) × (from + 8 * places ≤ length (now slot)) × (most < 9223372036854775808) ⌝ }
+    requires { ⌜ (at + places ≤ length (now slot)) × (from + 8 * places ≤ length (now slot)) × (most < raisedZero) ⌝ }
     ensures { λ r. ⌜ r ≡ pick (sideFits k places most (side (part (now (slot .entry)) at places) (numbersIn (part (now (slot .entry)) from (8 * places))) count)) (cellsOf (side (part (now (slot .entry)) at places) (numbersIn (part (now (slot .entry)) from (8 * places))) count)) (most + 1) ⌝ }
 {
     let end = at + places;
@@ -143,7 +145,7 @@ fn fits_in(sim: ChainSim, m: Machine, slot: &[u8], lp: usize, rp: usize) -> bool
         return false;
     }
     let tape = sim.tape;
-    let most = sim.steps + 1048576;
+    let most = sim.steps + limits::SLACK;
     let lefts = side_cells(slot, 128, 128 + lp + rp, lp, tape.left, m.symbols, most);
     if most < lefts {
         return false;

@@ -9,6 +9,7 @@ use lib.Seq.{length-take-le}
 use borrow.Author.Tests.{le-leb, leb-true}
 use Rattle.notation.specs.Choice.{pick}
 use Rattle.notation.specs.Facts.Tests.{both-split, both-true}
+use Rattle.notation.specs.Limits.{stepsMost, runsMost}
 use Rattle.outcome.specs.declared.Outcome.{Outcome}
 use Rattle.outcome.specs.declared.Refusal.the-variants as Why
 use Rattle.machine.specs.declared.Machine.{Machine}
@@ -17,11 +18,10 @@ use Rattle.machine.specs.declared.Checked.the-variants.{Accepted}
 use Rattle.table_laws.specs.WellFormed.{Bytes}
 use Rattle.rle.specs.declared.ChainSim.{ChainSim}
 use Rattle.rle.specs.Model.Engine.{Conf, conf}
-use Rattle.run_checks.specs.Model.Sizes.{stepsMost, fuelFits}
+use Rattle.run_checks.specs.Model.Sizes.{fuelFits}
 use Rattle.rle.specs.Fits.{sideFits, chainFits, placesFit, engineCheck, runCheck}
 use Rattle.rle.specs.Facts.OperationCases.{engine-says}
 use Rattle.timeline_rule.specs.declared.Times.{Times}
-use Rattle.timeline_rule.specs.Model.Engine.{limit}
 use Rattle.timeline_rule.specs.Model.Due.{stopFor}
 use Rattle.timeline_rule.specs.Model.Timeline.{Reply, refused, slotFor, goOn, goBack}
 use Rattle.timeline_rule.specs.Model.Kind.{TimelineOf, opsOf}
@@ -37,14 +37,14 @@ use Rattle.rle_timeline.specs.Model.{Fits, SaveAt, StrideAt}
 use Rattle.rle_timeline.specs.Facts.Engine.{steps-in, chain-sound}
 
 -- an engine that passed its check has at most 2^20 run places on each side
-pub passed-sizes : (m : Machine) (s : List ℕ) (e : Conf) → engineCheck m s e ≡ Accepted → (leftsOf e ≤ 1048576) × (rightsOf e ≤ 1048576)
+pub passed-sizes : (m : Machine) (s : List ℕ) (e : Conf) → engineCheck m s e ≡ Accepted → (leftsOf e ≤ runsMost) × (rightsOf e ≤ runsMost)
 unfolding placesFit
 passed-sizes m s e z = let p = both-split (engine-says m s e z .places) in (leb-true _ _ (p .0), leb-true _ _ (p .1))
 
-pub sizes-in : (m : Machine) (s : List ℕ) (e : Conf) (r : Checked) → r ≡ engineCheck m s e → r ≡ Accepted → (leftsOf e ≤ 1048576) × (rightsOf e ≤ 1048576)
+pub sizes-in : (m : Machine) (s : List ℕ) (e : Conf) (r : Checked) → r ≡ engineCheck m s e → r ≡ Accepted → (leftsOf e ≤ runsMost) × (rightsOf e ≤ runsMost)
 sizes-in m s e r q z = passed-sizes m s e (sym q ∙ z)
 
-pub low-in : (m : Machine) (s : List ℕ) (e : Conf) (r : Checked) → r ≡ engineCheck m s e → r ≡ Accepted → e .sim .steps ≤ limit
+pub low-in : (m : Machine) (s : List ℕ) (e : Conf) (r : Checked) → r ≡ engineCheck m s e → r ≡ Accepted → e .sim .steps ≤ stepsMost
 low-in m s e r q z = steps-in m s e (slotSize m e) (record { accepted = sym q ∙ z; sized = refl })
 
 -- its live runs are no more than its run places
@@ -78,7 +78,7 @@ new-save m s e n t z q h = record { left-in = lefts-in m s e z; right-in = right
 
 -- ---- an advance
 
-advance-asks : (m : Machine) (s : List ℕ) (n : ℕ) (e : Conf) → engineCheck m s e ≡ Accepted → e .sim .steps + n ≤ limit → runCheck m s n e ≡ Accepted
+advance-asks : (m : Machine) (s : List ℕ) (n : ℕ) (e : Conf) → engineCheck m s e ≡ Accepted → e .sim .steps + n ≤ stepsMost → runCheck m s n e ≡ Accepted
 unfolding runCheck fuelFits pick
 advance-asks m s n e z l =
     let b = both-true (le-leb n stepsMost (omega arith)) (le-leb (e .sim .steps) (stepsMost - n) (omega arith)) in

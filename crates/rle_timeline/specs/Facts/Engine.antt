@@ -4,13 +4,13 @@ use mathlib.Core.List.{List}
 use Prim.Native.Nat.{ℕ, _≤_, min}
 use borrow.Author.Tests.{leb-true}
 use Rattle.notation.specs.Facts.Tests.{both-split}
+use Rattle.notation.specs.Limits.{stepsMost}
 use Rattle.machine.specs.declared.Machine.{Machine}
 use Rattle.table_laws.specs.WellFormed.{Bytes}
 use Rattle.rle.specs.Model.Engine.{Conf}
 use Rattle.rle.specs.Fits.{countsFit, chainFits}
 use Rattle.rle.specs.Invariants.{SameSizes}
 use Rattle.rle.specs.Facts.OperationCases.{engine-says}
-use Rattle.timeline_rule.specs.Model.Engine.{limit}
 use Rattle.timeline_rule.specs.Invariants.{Sound}
 use Rattle.rle_slots.specs.Model.Advance.{advanceOf}
 use Rattle.rle_slots.specs.Model.Slots.{bytesFor, slotSize}
@@ -22,7 +22,7 @@ use Rattle.rle_timeline.specs.Model.{Fits}
 same-size : (m : Machine) (σ τ : Conf) → SameSizes σ τ → slotSize m τ ≡ slotSize m σ
 same-size m σ τ h i = bytesFor (min (h .ls i) (h .ll i)) (min (h .rs i) (h .rl i))
 
-pub steps-in : (m : Machine) (s : List ℕ) (e : Conf) (size : ℕ) → Fits m s size e → e .sim .steps ≤ limit
+pub steps-in : (m : Machine) (s : List ℕ) (e : Conf) (size : ℕ) → Fits m s size e → e .sim .steps ≤ stepsMost
 unfolding chainFits countsFit
 steps-in m s e size f = leb-true _ _ (both-split (both-split (both-split (engine-says m s e (f .accepted) .fits) .0) .1) .0)
 

@@ -103,7 +103,7 @@ module _ (m : Machine) (s : List ℕ) where
       way : Ends quiet refl unruled n σ ended → Way (tested m s ended)
       way (lacks-space made l o h r g) =
           let q : tested m s ended .0 ≡ Full (ended .at .sim .steps) = ap (λ x. verdictOr x (ranFrom m s true 0 (ended .at) .outcome)) o in
-          Law.full made l (λ j i. open-at j (r j i)) (subst (NoRoom m s) (sym (next-run made (meanOf σ))) g) (means made h) (subst IsFull (sym q) tt) (ap stepsOf q)
+          Law.full made l (λ j i. open-at j (r j i)) (subst (NoRoom m s) (sym (next-run made (meanOf σ))) g) (means made h) (subst IsFull (sym q) refl) (ap stepsOf q)
       way (goes-through u h r) = Law.went (λ j l. open-at j (r j l)) (means n h) (judged n (refined .made) (ended .at) (kept .fits) (refined .answers) u)
 
       pub advance-law : Way (advanceOf m s n σ)

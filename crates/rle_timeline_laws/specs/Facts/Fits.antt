@@ -3,6 +3,7 @@ use mathlib.Core.Path.{_≡_, sym, _∙_, subst}
 use mathlib.Core.Bool.{true}
 use mathlib.Core.List.{List}
 use Prim.Native.Nat.{ℕ, _+_, _≤_}
+use Rattle.notation.specs.Limits.{stepsMost}
 use Rattle.machine.specs.declared.Machine.{Machine}
 use Rattle.machine.specs.declared.Checked.the-variants.{Accepted}
 use Rattle.table_machine.specs.Tables.{tableOf, TableOf}
@@ -10,7 +11,6 @@ use Rattle.rle.specs.Model.Engine.{Conf}
 use Rattle.rle.specs.Fits.{placesFit, engineCheck}
 use Rattle.rle_refines.specs.Statement.{Kept}
 use Rattle.rle_refines.specs.Facts.Operations.{Passed, engine-says, engine-passes}
-use Rattle.timeline_rule.specs.Model.Engine.{limit}
 use Rattle.timeline_laws.specs.Laws.{Advance}
 use Rattle.timeline_laws.specs.Facts.TableRun.{machine}
 use Rattle.rle_slots.specs.Model.Advance.{advanceOf}
@@ -34,7 +34,7 @@ module _ (m : Machine) (s : List ℕ) (lefts rights : ℕ) where
   fits-passed σ f = engine-says m s σ (f .accepted)
 
   -- its step count is within the limit
-  pub steps-low : (σ : Conf) → Fits m s lefts rights σ → σ .sim .steps ≤ limit
+  pub steps-low : (σ : Conf) → Fits m s lefts rights σ → σ .sim .steps ≤ stepsMost
   steps-low σ f = fits-passed σ f .fits .steps-in
 
   -- if σ fits and a run from σ to e keeps what it must, then e fits
@@ -52,7 +52,7 @@ module _ (m : Machine) (s : List ℕ) (lefts rights : ℕ) where
         in-rights = same-rights m σ e k ∙ f .in-rights;
       }
 
-  module _ (table : TableOf m (tableOf m s)) (n : ℕ) (σ : Conf) (f : Fits m s lefts rights σ) (small : σ .sim .steps + n ≤ limit) where
+  module _ (table : TableOf m (tableOf m s)) (n : ℕ) (σ : Conf) (f : Fits m s lefts rights σ) (small : σ .sim .steps + n ≤ stepsMost) where
     pub advance-fits : Fits m s lefts rights (advanceOf m s n σ .1)
     advance-fits =
         let p : Passed m s σ = fits-passed σ f in

@@ -11,6 +11,7 @@ use Rattle.notation.specs.Choice.{pick, both}
 use Rattle.notation.specs.Scan.{allIn}
 use Rattle.notation.specs.Facts.Scan.{all-hit, all-next, all-says}
 use Rattle.notation.specs.Facts.Tests.{both-split, pick-true}
+use Rattle.notation.specs.Limits.{stepsMost, cellsMost}
 use Rattle.outcome.specs.declared.Refusal.{Refusal}
 use Rattle.outcome.specs.declared.Refusal.the-variants as Why
 use Rattle.machine.specs.declared.Machine.{Machine}
@@ -25,11 +26,11 @@ use Rattle.machine.specs.Model.Packing.{packWord, wordAt}
 use Rattle.machine.specs.Model.Word.{wordCheck}
 use Rattle.tape.specs.declared.Tape.{Tape}
 use Rattle.tape.specs.Model.Moves.{held, noTape, freshOf}
-use Rattle.run_checks.specs.Model.Sizes.{has1, has2, ifHas, cellsMost, stepsMost, fuelFits, wordRight, wordsRight, freshSizes, freshCheck, blankTape}
+use Rattle.run_checks.specs.Model.Sizes.{has1, has2, ifHas, fuelFits, wordRight, wordsRight, freshSizes, freshCheck, blankTape}
 
 -- ---- the fuel
 
-pub fuel-says : (steps fuel : ℕ) → fuelFits steps fuel ≡ true → steps + fuel ≤ 4611686018427387904
+pub fuel-says : (steps fuel : ℕ) → fuelFits steps fuel ≡ true → steps + fuel ≤ stepsMost
 unfolding fuelFits
 fuel-says steps fuel e =
     let p = both-split e in

@@ -6,6 +6,7 @@ use Prim.Native.Nat.{ℕ, _≤_}
 use lib.Dec.{eqb}
 use lib.ListN.{length}
 use Rattle.notation.specs.Choice.{pick, both}
+use Rattle.notation.specs.Limits.{cellsMost}
 use Rattle.symbol.specs.declared.State.{State}
 use Rattle.symbol.specs.declared.Dir.{Dir}
 use Rattle.symbol.specs.declared.Dir.the-variants.{L, R, N}
@@ -95,11 +96,11 @@ choiceAt m s p left steps q h0 h1 h2 =
 -- each head is at most its tape's length, and each length at most 2^30
 pub record Within (t0 t1 t2 : Tape) : Type 0 where
   pub head0 : t0 .head ≤ t0 .len
-  pub len0 : t0 .len ≤ 1073741824
+  pub len0 : t0 .len ≤ cellsMost
   pub head1 : t1 .head ≤ t1 .len
-  pub len1 : t1 .len ≤ 1073741824
+  pub len1 : t1 .len ≤ cellsMost
   pub head2 : t2 .head ≤ t2 .len
-  pub len2 : t2 .len ≤ 1073741824
+  pub len2 : t2 .len ≤ cellsMost
 
 pub record AtOk (m : Machine) (stride : ℕ) (t0 t1 t2 : Tape) (c0 c1 c2 : List ℕ) : Type 0 where
   pub symbols-in : m .symbols ≤ 256

@@ -5,6 +5,7 @@ use Prim.Native.Nat.{ℕ, _+_, _-_}
 use lib.Dec.{eqb, ltb, leb}
 use lib.ListN.{length, getD}
 use Rattle.notation.specs.Choice.{pick, both}
+use Rattle.notation.specs.Limits.{stepsMost, cellsMost}
 use Rattle.notation.specs.Scan.{allIn}
 use Rattle.outcome.specs.declared.Refusal.the-variants as Why
 use Rattle.machine.specs.declared.Machine.{Machine}
@@ -40,18 +41,12 @@ wordsRight m s words =
 
 -- ---- refusal 11
 
-abbrev pub cellsMost : ℕ
-cellsMost = 1073741824
-
 -- "11 for the upper sizes": a cells buffer over 2^30
 unfoldable pub sizesFit : Machine → (n0 n1 n2 : ℕ) → Bool
 sizesFit m n0 n1 n2 =
     both (leb n0 cellsMost) (both (ifHas (has1 m) (leb n1 cellsMost)) (ifHas (has2 m) (leb n2 cellsMost)))
 
 -- ---- refusals 12 "steps to 2^62", 13 "steps + fuel over 2^62"
-
-abbrev pub stepsMost : ℕ
-stepsMost = 4611686018427387904
 
 -- without computing a sum that could wrap
 unfoldable pub fuelFits : (steps fuel : ℕ) → Bool

@@ -1,6 +1,7 @@
 // The sizes that an operation requires of its buffers, and the tapes that a machine has or lacks.
 use machine::Checked;
 use machine::Machine;
+use notation::limits;
 use outcome::Refusal;
 use tape::Tape;
 ghost use mathlib.Core.Path.{_≡_};
@@ -9,16 +10,17 @@ ghost use Prim.Native.Nat.{_≤_};
 ghost use lib.ListN.{length};
 ghost use lib.Dec.{leb};
 ghost use Rattle.notation.specs.Choice.{pick};
+ghost use Rattle.notation.specs.Limits.{stepsMost, wordMost, cellsMost};
 ghost use Rattle.machine.specs.Model.Check.{within};
 ghost use Rattle.tape.specs.Fits.{tapeFits};
 ghost use Rattle.tape.specs.Model.Moves.{held};
-ghost use Rattle.run_checks.specs.Model.Sizes.{ifHas, cellsMost, stepsMost, sizesFit, fuelFits, freshSizes, freshCheck, blankTape};
+ghost use Rattle.run_checks.specs.Model.Sizes.{ifHas, sizesFit, fuelFits, freshSizes, freshCheck, blankTape};
 
 fn size_fits(has: bool, n: usize) -> bool
     ensures { λ r. ⌜ r ≡ ifHas has (leb n cellsMost) ⌝ }
 {
     if has {
-        return n <= 1073741824;
+        return n <= limits::CELLS;
     }
     true
 }
@@ -26,7 +28,7 @@ fn size_fits(has: bool, n: usize) -> bool
 pub fn sizes_fit(m: Machine, n0: usize, n1: usize, n2: usize) -> bool
     ensures { λ r. ⌜ r ≡ sizesFit m n0 n1 n2 ⌝ }
 {
-    if 1073741824 < n0 {
+    if limits::CELLS < n0 {
         return false;
     }
     if !size_fits(1 < m.tapes, n1) {
@@ -48,16 +50,16 @@ pub fn tape_fits(has: bool, k: u64, t: Tape, cells: &[u8]) -> bool
 pub fn steps_fit(made: u64) -> bool
     ensures { λ r. ⌜ r ≡ leb made stepsMost ⌝ }
 {
-    made <= 4611686018427387904
+    made <= limits::STEPS
 }
 
 pub fn fuel_fits(steps: u64, fuel: u64) -> bool
     ensures { λ r. ⌜ r ≡ fuelFits steps fuel ⌝ }
 {
-    if 4611686018427387904 < fuel {
+    if limits::STEPS < fuel {
         return false;
     }
-    steps <= 4611686018427387904 - fuel
+    steps <= limits::STEPS - fuel
 }
 
 fn between(least: usize, n: usize) -> bool
@@ -66,7 +68,7 @@ fn between(least: usize, n: usize) -> bool
     if n < least {
         return false;
     }
-    n <= 1073741824
+    n <= limits::CELLS
 }
 
 fn blank_fits(has: bool, n: usize) -> bool
@@ -80,7 +82,7 @@ fn blank_fits(has: bool, n: usize) -> bool
 
 // Whether the buffers have the sizes that a fresh engine requires for a word of `n` symbols.
 fn fresh_sizes(m: Machine, n: usize, n0: usize, n1: usize, n2: usize) -> bool
-    requires { ⌜ n ≤ 1048576 ⌝ }
+    requires { ⌜ n ≤ wordMost ⌝ }
     ensures { λ r. ⌜ r ≡ freshSizes m n n0 n1 n2 ⌝ }
 {
     if !between(n + 32, n0) {

@@ -2,10 +2,14 @@
 use mathlib.Core.Path.{_≡_, refl, sym, ap, _∙_}
 use mathlib.Core.Bool.{Bool, true, false}
 use mathlib.Core.List.{List}
-use Prim.Native.Nat.{ℕ}
+use mathlib.Core.Logic.{_⊎_, inl, inr}
+use Prim.Native.Nat.{ℕ, zero, suc}
+use lib.ListN.{getD}
 use Rattle.outcome.specs.declared.Outcome.{Outcome}
 use Rattle.outcome.specs.declared.Refusal.{Refusal}
 use Rattle.outcome.specs.declared.Status.{Status}
+use Rattle.outcome.specs.declared.Status.the-variants as Step
+use Rattle.outcome.specs.Numbers.{outcomeNumber}
 use Rattle.machine.specs.declared.Machine.{Machine}
 use Rattle.machine.specs.declared.Checked.{Checked}
 use Rattle.machine.specs.declared.Checked.the-variants.{Accepted, Refused}
@@ -17,7 +21,7 @@ use Rattle.run_rules.specs.declared.Answer.the-variants as Ans
 use Rattle.sim.specs.declared.StepAnswer.{StepAnswer}
 use Rattle.sim.specs.declared.StepAnswer.the-variants as StepAns
 use Rattle.run_rules.specs.Facts.AnswerCases.{stays-refused, gives-accepted}
-use Rattle.sim.specs.Model.Engine.{Conf, conf, task, end, runOf, statusOf}
+use Rattle.sim.specs.Model.Engine.{Conf, conf, task, end, runOf, statuses, statusOf}
 use Rattle.sim.specs.Facts.EngineCases.{once-run}
 use Rattle.sim.specs.Model.Operations.{bareSim, handBack, runCheck, fastCheck, bareOf, Given, given, answerOf, runAnswer, fastAnswer, StepGiven, stepGiven, stepBack, stepAnswer, stepAnswerOf}
 use Rattle.sim.specs.Model.Bursts.{Cleared}
@@ -81,3 +85,23 @@ answer-refused a why e = rw e
 
 pub answer-done : (a : Answer) (o : Outcome) (x : Status) → x ≡ statusOf o → a ≡ Ans.Done o → StepAns.Done x ≡ stepAnswerOf a
 answer-done a o x q e = rw (e, q)
+
+-- ---- the status of a step, by the number of the outcome
+
+status-at : (o : Outcome) (n : ℕ) → n ≡ outcomeNumber o → (x : Status) → x ≡ getD statuses n Step.Halted → x ≡ statusOf o
+status-at o n e x q = q ∙ ap (λ (k : ℕ). getD statuses k Step.Halted) e
+
+pub status-made : (o : Outcome) (n : ℕ) → n ≡ outcomeNumber o → (n ≡ 1) ⊎ (n ≡ 3) → Step.Running ≡ statusOf o
+status-made o n e (inl p) = status-at o n e Step.Running (sym (ap (λ (k : ℕ). getD statuses k Step.Halted) p))
+status-made o n e (inr p) = status-at o n e Step.Running (sym (ap (λ (k : ℕ). getD statuses k Step.Halted) p))
+
+others : (n : ℕ) → ¬ (n ≡ 4) → ¬ ((n ≡ 1) ⊎ (n ≡ 3)) → Step.Halted ≡ getD statuses n Step.Halted
+others zero f g = refl
+others (suc zero) f g = absurd (g (inl refl))
+others (suc (suc zero)) f g = refl
+others (suc (suc (suc zero))) f g = absurd (g (inr refl))
+others (suc (suc (suc (suc zero)))) f g = absurd (f refl)
+others (suc (suc (suc (suc (suc n))))) f g = refl
+
+pub status-halted : (o : Outcome) (n : ℕ) → n ≡ outcomeNumber o → ¬ (n ≡ 4) → ¬ ((n ≡ 1) ⊎ (n ≡ 3)) → Step.Halted ≡ statusOf o
+status-halted o n e f g = status-at o n e Step.Halted (others n f g)

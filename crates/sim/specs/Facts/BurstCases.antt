@@ -11,6 +11,7 @@ use lib.Seq.{length-take-le, getD-take}
 use Rattle.notation.specs.Fill.{fillFrom}
 use Rattle.notation.specs.Facts.Fill.{length-fill, fill-in}
 use Rattle.notation.specs.Facts.Tests.{clash}
+use Rattle.notation.specs.Limits.{stepsMost}
 use Rattle.symbol.specs.declared.State.{State}
 use Rattle.machine.specs.declared.Machine.{Machine}
 use Rattle.machine.specs.declared.Checked.the-variants.{Accepted}
@@ -74,7 +75,7 @@ burst-starts m v c left b x ok allowed z e =
 
 pub after-asks : (Known : List ℕ → Type 0) (m : Machine) (v : Simulator) (c : List ℕ) (left : ℕ) (p : Bool) (stop k len : ℕ) (x y : BurstState) (d : List ℕ)
     → OneTapeOk m v c left → (x ≡ burstStart v left) × (x .state < 65536) → Reached Known p stop k len x c y d
-    → (v .steps + left ≤ 4611686018427387904) × (y .left ≤ left) × (y .state < 65536)
+    → (v .steps + left ≤ stepsMost) × (y .left ≤ left) × (y .state < 65536)
 after-asks Known m v c left p stop k len x y d ok e r =
     let l : x .left ≡ left = ap (λ (h : BurstState). h .left) (e .0) in
     (ok .steps-in, omega (arith, r .less), r .ok .state-in)

@@ -9,6 +9,7 @@ use lib.Dec.{leb}
 use lib.ListN.{length}
 use Rattle.notation.specs.Choice.{pick}
 use Rattle.notation.specs.Facts.Tests.{both-split}
+use Rattle.notation.specs.Limits.{stepsMost, cellsMost}
 use Rattle.symbol.specs.Kinds.{stateOf}
 use Rattle.outcome.specs.declared.Refusal.{Refusal}
 use Rattle.outcome.specs.declared.Refusal.the-variants as Why
@@ -30,7 +31,7 @@ use Rattle.sim.specs.declared.Simulator.{Simulator}
 use Rattle.sim.specs.declared.Fresh.the-variants as New
 use Rattle.sim.specs.Model.Engine.{Conf, conf}
 use Rattle.sim.specs.Model.Turns.{LookOk, RunOk}
-use Rattle.sim.specs.Model.Operations.{has1, has2, ifHas, bareSim, cellsMost, stepsMost, sizesFit, simFits, valueCheck, engineCheck, fuelFits, fuelCheck, runCheck, wordsRight, fastCheck, freshCheck, blankTape, made, madeWith, newAnswer}
+use Rattle.sim.specs.Model.Operations.{has1, has2, ifHas, bareSim, sizesFit, simFits, valueCheck, engineCheck, fuelFits, fuelCheck, runCheck, wordsRight, fastCheck, freshCheck, blankTape, made, madeWith, newAnswer}
 
 -- ---- the checks' returns
 
@@ -144,7 +145,7 @@ bare-look m s σ stride p e l =
       safe2 = bare-safe (has2 m) (m .symbols) (σ .sim .t2) (σ .c2) (f2 .1) (z1 .1);
     }
 
-pub run-says : (m : Machine) (s : List ℕ) (fuel : ℕ) (σ : Conf) → runCheck m s fuel σ ≡ Accepted → Passed m s σ × (σ .sim .steps + fuel ≤ 4611686018427387904)
+pub run-says : (m : Machine) (s : List ℕ) (fuel : ℕ) (σ : Conf) → runCheck m s fuel σ ≡ Accepted → Passed m s σ × (σ .sim .steps + fuel ≤ stepsMost)
 unfolding runCheck fuelCheck
 run-says m s fuel σ e =
     let t = on-says _ _ e in

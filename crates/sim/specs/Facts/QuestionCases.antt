@@ -10,6 +10,7 @@ use lib.IntN.{ℤ}
 use lib.ListN.{length}
 use Rattle.notation.specs.Choice.{pick}
 use Rattle.notation.specs.Facts.Tests.{both-split, pick-true}
+use Rattle.notation.specs.Limits.{cellsMost}
 use Rattle.symbol.specs.Kinds.{symbolOf}
 use Rattle.symbol.specs.declared.Dir.{Dir}
 use Rattle.outcome.specs.declared.Refusal.{Refusal}
@@ -31,7 +32,7 @@ use Rattle.run_rules.specs.declared.questions.Extent.the-variants as Extent
 use Rattle.run_rules.specs.declared.questions.Counted.the-variants as Counted
 use Rattle.run_rules.specs.declared.questions.Located.the-variants as Located
 use Rattle.sim.specs.Model.Engine.{Conf, conf}
-use Rattle.sim.specs.Model.Operations.{cellsMost, ifHas, sizesFit, simFits, engineCheck}
+use Rattle.sim.specs.Model.Operations.{ifHas, sizesFit, simFits, engineCheck}
 use Rattle.sim.specs.Facts.OperationCases.{Passed, engine-says}
 use Rattle.sim.specs.Model.Questions.{tapeAt, cellsAt, questionCheck, getAnswer, extentAnswer, countAnswer, windowInto, findAnswer}
 

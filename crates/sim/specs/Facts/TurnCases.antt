@@ -8,6 +8,7 @@ use lib.Dec.{eqb}
 use lib.ListN.{length}
 use borrow.Author.Tests.{eqb-true, eqb-false}
 use Rattle.notation.specs.Facts.Tests.{by-test}
+use Rattle.notation.specs.Limits.{stepsMost}
 use Rattle.outcome.specs.declared.Outcome.{Outcome}
 use Rattle.outcome.specs.declared.Outcome.the-variants.{Stopped}
 use Rattle.machine.specs.declared.Machine.{Machine}
@@ -76,7 +77,7 @@ step-steps σ a = refl
 pub step-ok : (m : Machine) (stride : ℕ) (v : Simulator) (c0 c1 c2 : List ℕ) (left : ℕ) (a : Action)
     → RunOk m stride v c0 c1 c2 left → roomyOf (conf v c0 c1 c2) a ≡ true → StepOk v c0 c1 c2 a
 step-ok m stride v c0 c1 c2 left a ok z =
-    let s : v .steps + left ≤ 4611686018427387904 = ok .steps-in in
+    let s : v .steps + left ≤ stepsMost = ok .steps-in in
     record { safe0 = ok .ok .safe0; safe1 = ok .ok .safe1; safe2 = ok .ok .safe2; steps-in = omega arith; rooms = z }
 
 -- ---- the loop's invariant: the run from here has the answer of the run from the start
@@ -144,7 +145,7 @@ module _ (k : Task) (f : ℕ) (v : Simulator) (c0 c1 c2 : List ℕ) (c : Choice)
           let g = follow in
           let n : u .steps ≡ v .steps + 1 = ap (λ (τ : Conf). τ .sim .steps) is ∙ step-steps at a in
           let pos : 1 ≤ f = loop-pos in
-          let lim : v .steps + f ≤ 4611686018427387904 = i .now-ok .steps-in in
+          let lim : v .steps + f ≤ stepsMost = i .now-ok .steps-in in
           record {
             same = rw is (run-next k at _ a (g .looks) f (g .fuel) (g .roomy) (sym stops ∙ t) (i .same));
             now-ok = record {

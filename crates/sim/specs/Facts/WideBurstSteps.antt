@@ -8,6 +8,7 @@ use borrow.Author.Tests.{eqb-true, eqb-false}
 use lib.Dec.{eqb}
 use Rattle.notation.specs.Choice.{pick, both}
 use Rattle.notation.specs.Facts.Tests.{by-test}
+use Rattle.notation.specs.Limits.{stepsMost}
 use Rattle.symbol.specs.declared.State.{State}
 use Rattle.symbol.specs.declared.Dir.{Dir}
 use Rattle.symbol.specs.declared.Dir.the-variants.{L, R, N}
@@ -106,7 +107,7 @@ pub wide-asks : (m : Machine) (stride : ℕ) (v : Simulator) (c0 c1 c2 : List �
 wide-asks m stride v c0 c1 c2 left x ok e = rw e (record { safe0 = ok .ok .safe0; safe1 = ok .ok .safe1; safe2 = ok .ok .safe2 })
 
 pub onward-asks : (m : Machine) (s : List ℕ) (stop k stride : ℕ) (v : Simulator) (c0 c1 c2 d0 d1 d2 : List ℕ) (left : ℕ) (x y : WideBurstState) → RunOk m stride v c0 c1 c2 left → x ≡ wideBurstStart v left
-    → Carried s stop k stride x c0 c1 c2 y d0 d1 d2 → (v .steps + left ≤ 4611686018427387904) × (y .left ≤ left)
+    → Carried s stop k stride x c0 c1 c2 y d0 d1 d2 → (v .steps + left ≤ stepsMost) × (y .left ≤ left)
 onward-asks m s stop k stride v c0 c1 c2 d0 d1 d2 left x y ok e r =
     let l : x .left ≡ left = ap (λ (h : WideBurstState). h .left) e in
     (ok .steps-in, omega (arith, r .less))

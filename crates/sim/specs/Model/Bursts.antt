@@ -4,6 +4,7 @@ use mathlib.Core.Bool.{Bool, true, false}
 use mathlib.Core.List.{List}
 use Prim.Native.Nat.{ℕ, _+_, _*_, _≤_, _<_}
 use lib.ListN.{length}
+use Rattle.notation.specs.Limits.{stepsMost}
 use Rattle.symbol.specs.Kinds.{stateOf}
 use Rattle.machine.specs.declared.Machine.{Machine}
 use Rattle.machine.specs.declared.Checked.{Checked}
@@ -78,7 +79,7 @@ pub record BurstAllowedIf (b : Bool) (tapes : ℕ) (v : Simulator) : Type 0 wher
 pub record OneTapeOk (m : Machine) (v : Simulator) (c : List ℕ) (left : ℕ) : Type 0 where
   pub symbols-in : m .symbols ≤ 256
   pub safe0 : TapeSafe (v .t0) c
-  pub steps-in : v .steps + left ≤ 4611686018427387904
+  pub steps-in : v .steps + left ≤ stepsMost
 
 -- the run from v′ with cells c′ has the answer of the run from v with cells c, for every rule that matches no state but stop and
 -- for all contents of the other buffers

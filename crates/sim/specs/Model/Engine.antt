@@ -1,12 +1,13 @@
 -- The model of the plain engine over its lent cells: a configuration, the look before a step, the step, the run. Definitions only.
 use mathlib.Core.Bool.{Bool, false}
-use mathlib.Core.List.{List}
+use mathlib.Core.List.{List, [], _∷_}
 use Prim.Native.Nat.{ℕ, _+_}
-use lib.ListN.{length}
+use lib.ListN.{length, getD}
 use Rattle.notation.specs.Choice.{pick}
 use Rattle.outcome.specs.declared.NonHaltProof.{NonHaltProof}
 use Rattle.outcome.specs.declared.Outcome.{Outcome}
 use Rattle.outcome.specs.declared.Outcome.the-variants.{Halted, OutOfFuel, NeverHalts, Stopped, Full}
+use Rattle.outcome.specs.Numbers.{outcomeNumber}
 use Rattle.outcome.specs.declared.Status.{Status}
 use Rattle.outcome.specs.declared.Status.the-variants as Step
 use Rattle.machine.specs.declared.Machine.{Machine}
@@ -124,10 +125,9 @@ onceOf m s σ =
     onLook (lookWith m s false σ) (once σ Step.Halted) (λ p. once σ Step.Halted)
     (λ a. pick (roomyOf σ a) (once (stepOf σ a) Step.Running) (once σ Step.Full))
 
--- the same by a run that stops after the step: the step's status, from the run's outcome
+-- the same by a run that stops after the step: the step's status, by the number of the run's outcome (halted, out of fuel, never, stopped, full)
+abbrev pub statuses : List Status
+statuses = Step.Halted ∷ Step.Running ∷ Step.Halted ∷ Step.Running ∷ Step.Full ∷ []
+
 abbrev pub statusOf : Outcome → Status
-statusOf (Halted n q) = Step.Halted
-statusOf (OutOfFuel n) = Step.Running
-statusOf (NeverHalts n p) = Step.Halted
-statusOf (Stopped n) = Step.Running
-statusOf (Full n) = Step.Full
+statusOf o = getD statuses (outcomeNumber o) Step.Halted

@@ -5,6 +5,7 @@ use Prim.Native.Nat.{ℕ}
 use lib.Dec.{ltb, leb}
 use lib.ListN.{length}
 use Rattle.notation.specs.Choice.{pick, both}
+use Rattle.notation.specs.Limits.{stepsMost}
 use Rattle.symbol.specs.Kinds.{stateOf}
 use Rattle.outcome.specs.declared.Refusal.the-variants as Why
 use Rattle.machine.specs.declared.Machine.{Machine}
@@ -13,7 +14,7 @@ use Rattle.machine.specs.declared.Checked.the-variants.{Accepted, Refused}
 use Rattle.machine.specs.Model.Check.{demand, checkedOn, tableCheck}
 use Rattle.tape.specs.Model.Moves.{Held, noTape, freshOf}
 use Rattle.tape.specs.Fits.{tapeFits}
-pub use Rattle.run_checks.specs.Model.Sizes.{has1, has2, ifHas, cellsMost, stepsMost, blankTape}
+pub use Rattle.run_checks.specs.Model.Sizes.{has1, has2, ifHas, blankTape}
 unfoldable pub use Rattle.run_checks.specs.Model.Sizes.{sizesFit, fuelFits, wordsRight, freshSizes, freshCheck}
 use Rattle.run_rules.specs.Model.Answers.{answered}
 use Rattle.sim.specs.declared.Simulator.{Simulator}

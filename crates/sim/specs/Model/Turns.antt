@@ -4,6 +4,7 @@ use mathlib.Core.List.{List}
 use Prim.Native.Nat.{ℕ, _+_, _≤_, _<_}
 use mathlib.Core.Bool.{Bool, true}
 use lib.ListN.{length}
+use Rattle.notation.specs.Limits.{stepsMost, raisedZero}
 use Rattle.machine.specs.declared.Machine.{Machine}
 use Rattle.machine.specs.declared.Action.{Action}
 use Rattle.tape.specs.Fits.{TapeSafe}
@@ -25,9 +26,9 @@ pub record StepOk (v : Simulator) (c0 c1 c2 : List ℕ) (a : Action) : Type 0 wh
   pub safe0 : TapeSafe (v .t0) c0
   pub safe1 : TapeSafe (v .t1) c1
   pub safe2 : TapeSafe (v .t2) c2
-  pub steps-in : v .steps < 9223372036854775808
+  pub steps-in : v .steps < raisedZero
   pub rooms : roomsOf (v .t0) (v .t1) (v .t2) (length c0) (length c1) (length c2) a ≡ true
 
 pub record RunOk (m : Machine) (stride : ℕ) (v : Simulator) (c0 c1 c2 : List ℕ) (fuel : ℕ) : Type 0 where
   pub ok : LookOk m stride v c0 c1 c2
-  pub steps-in : v .steps + fuel ≤ 4611686018427387904
+  pub steps-in : v .steps + fuel ≤ stepsMost

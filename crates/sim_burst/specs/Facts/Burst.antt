@@ -5,6 +5,7 @@ use mathlib.Core.List.{List}
 use Prim.Native.Nat.{ℕ, _+_, _*_, _-_, _≤_, _<_}
 use native.Mathlib.Omega.{arith}
 use lib.ListN.{length, getD, set, length-set}
+use Rattle.notation.specs.Limits.{cellsMost}
 use Rattle.machine.specs.Layout.{entryAt}
 use Rattle.sim_burst.specs.declared.inner.step.BurstState.{BurstState}
 use Rattle.sim_burst.specs.Model.Burst.{Says, movedTo, Ordinary, WentIf, BurstOk, Step, Walk, here, more, Reached}
@@ -60,5 +61,5 @@ went-less d len x next y in-it go f h = let l : y .left ≡ x .left - 1 = ap (λ
 
 -- what the function `went` requires
 pub went-asks : (c : List ℕ) (k len : ℕ) (x : BurstState) → BurstOk c k len x → (x .left ≡ 0 → ⊥)
-    → (x .head < len) × (len ≤ 1073741824) × (x .low ≤ x .head) × (x .head ≤ x .high) × (1 ≤ x .left)
+    → (x .head < len) × (len ≤ cellsMost) × (x .low ≤ x .head) × (x .head ≤ x .high) × (1 ≤ x .left)
 went-asks c k len x o h = let a = o .len-in in let b = o .cap in (o .head-in, omega arith, o .low-in, o .high-in, omega arith)

@@ -4,6 +4,7 @@ use mathlib.Core.Bool.{Bool, true, false}
 use mathlib.Core.List.{List}
 use Prim.Native.Nat.{ℕ, _+_, _*_, _-_, _≤_, _<_, min, max}
 use lib.ListN.{length, getD, set}
+use Rattle.notation.specs.Limits.{cellsMost}
 use Rattle.symbol.specs.Kinds.{dirNumber}
 use Rattle.symbol.specs.declared.Dir.the-variants.{N}
 use Rattle.machine.specs.declared.Action.{Action}
@@ -86,7 +87,7 @@ pub record Decodes (e : Entry) (t : Decoded) : Type 0 where
 pub record BurstOk (c : List ℕ) (k len : ℕ) (x : BurstState) : Type 0 where
   pub k-in : k ≤ 256
   pub len-in : len ≤ length c
-  pub cap : length c ≤ 1073741824
+  pub cap : length c ≤ cellsMost
   pub head-in : x .head < len
   pub low-in : x .low ≤ x .head
   pub high-in : x .head ≤ x .high

@@ -1,8 +1,10 @@
 // The tests of a burst on one tape before each step: whether the step may be a proved loop, and where it moves the
 // head.
+use notation::index;
 ghost use mathlib.Core.Path.{_≡_};
 ghost use Prim.Native.Nat.{_*_, _≤_, _<_, min, max};
 ghost use lib.ListN.{length};
+ghost use Rattle.notation.specs.Limits.{cellsMost};
 ghost use Rattle.sim_burst.specs.Model.Burst.{LeftSeen, RightSeen, OrdinaryIf, OrdinaryByEntry, WentIf};
 
 // The numbers of a burst: the head, the lowest and the highest head so far, the state, and the fuel left.
@@ -47,24 +49,6 @@ pub(crate) fn row(state: usize, k: usize) -> usize
     ensures { λ r. ⌜ (r ≡ state * k) × (r ≤ 16776960) ⌝ }
 {
     state * k
-}
-
-fn lower(a: usize, b: usize) -> usize
-    ensures { λ r. ⌜ r ≡ min a b ⌝ }
-{
-    if a < b {
-        return a;
-    }
-    b
-}
-
-fn upper(a: usize, b: usize) -> usize
-    ensures { λ r. ⌜ r ≡ max a b ⌝ }
-{
-    if a < b {
-        return b;
-    }
-    a
 }
 
 // The nearest cell below `head` that is not blank, or `head` where there is none.
@@ -191,7 +175,7 @@ pub(crate) fn ordinary_by_entry(proves: bool, state: usize, read: u8, decoded: D
 
 // The burst after the step, if the step stays on the cells. A move changes only the bound on its side.
 pub(crate) fn went(at: BurstState, dir: u8, len: usize, next: usize) -> Landing
-    requires { ⌜ (at .head < len) × (len ≤ 1073741824) × (at .low ≤ at .head) × (at .head ≤ at .high) × (1 ≤ at .left) ⌝ }
+    requires { ⌜ (at .head < len) × (len ≤ cellsMost) × (at .low ≤ at .head) × (at .head ≤ at .high) × (1 ≤ at .left) ⌝ }
     ensures { λ r. ⌜ WentIf (r .inside) dir len at next (r .at) ⌝ }
 {
     let mut to = at;
@@ -202,7 +186,7 @@ pub(crate) fn went(at: BurstState, dir: u8, len: usize, next: usize) -> Landing
             return Landing { inside: false, at };
         }
         to.head = at.head - 1;
-        to.low = lower(at.low, to.head);
+        to.low = index::min(at.low, to.head);
         return Landing {
             inside: true,
             at: to,
@@ -213,7 +197,7 @@ pub(crate) fn went(at: BurstState, dir: u8, len: usize, next: usize) -> Landing
             return Landing { inside: false, at };
         }
         to.head = at.head + 1;
-        to.high = upper(at.high, to.head);
+        to.high = index::max(at.high, to.head);
         return Landing {
             inside: true,
             at: to,

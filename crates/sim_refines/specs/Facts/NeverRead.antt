@@ -9,6 +9,7 @@ use lib.Dec.{ltb, leb}
 use lib.ListN.{length}
 use Rattle.notation.specs.Choice.{pick, both}
 use Rattle.notation.specs.Facts.Tests.{clash, both-split}
+use Rattle.notation.specs.Limits.{stepsMost, cellsMost}
 use Rattle.outcome.specs.declared.Refusal.the-variants as Why
 use Rattle.machine.specs.declared.Machine.{Machine}
 use Rattle.machine.specs.declared.Checked.{Checked}
@@ -23,7 +24,7 @@ use Rattle.run_rules.specs.declared.Answer.the-variants as Ans
 use Rattle.sim.specs.declared.StepAnswer.the-variants as StepAns
 use Rattle.sim.specs.declared.Simulator.{Simulator}
 use Rattle.sim.specs.Model.Engine.{task, Conf, tape0, tape1, tape2, runOf, onceOf}
-use Rattle.sim.specs.Model.Operations.{has1, has2, ifHas, cellsMost, stepsMost, bareSim, bareOf, handBack, backOf, sizesFit, simFits, valueCheck, engineCheck, fuelFits, fuelCheck, runCheck, wordsRight, fastCheck, answerOf, runAnswer, fastAnswer, StepGiven, stepBack, stepOn, stepAnswer}
+use Rattle.sim.specs.Model.Operations.{has1, has2, ifHas, bareSim, bareOf, handBack, backOf, sizesFit, simFits, valueCheck, engineCheck, fuelFits, fuelCheck, runCheck, wordsRight, fastCheck, answerOf, runAnswer, fastAnswer, StepGiven, stepBack, stepOn, stepAnswer}
 use Rattle.sim.specs.Facts.OperationCases.{Passed, run-says, fast-runs}
 use Rattle.sim_refines.specs.Meaning.{has}
 use Rattle.sim_refines.specs.Lent.{SameFirst, SameLive, SameGiven, SameStepGiven}

@@ -6,6 +6,7 @@ use Prim.Native.Nat.{ℕ, _+_, _≤_}
 use native.Mathlib.Omega.{arith}
 use Rattle.notation.specs.Choice.{pick}
 use Rattle.notation.specs.Facts.Tests.{clash, pick-cases}
+use Rattle.notation.specs.Limits.{stepsMost}
 use Rattle.outcome.specs.declared.NonHaltProof.{NonHaltProof}
 use Rattle.outcome.specs.declared.Outcome.{Outcome}
 use Rattle.outcome.specs.declared.Outcome.the-variants.{NeverHalts}
@@ -66,7 +67,7 @@ module _ (m : Machine) (s : List ℕ) (bytes : Bytes s) (rule : StopRule) (fuel 
   unfolding runAnswer
   accepted = accepted-run _ _ _ _ _ done
 
-  passed : Passed m s σ × (σ .sim .steps + fuel ≤ 4611686018427387904)
+  passed : Passed m s σ × (σ .sim .steps + fuel ≤ stepsMost)
   passed = run-says m s fuel σ (accepted .0)
 
   refined : Refines (task m s true rule) fuel (bareOf m σ) ending
@@ -113,7 +114,7 @@ module _ (m : Machine) (s : List ℕ) (bytes : Bytes s) (σ τ : Conf) (x : Stat
   unfolding stepAnswer
   step-accepted = accepted-step _ _ _ _ _ done
 
-  step-passed : Passed m s σ × (σ .sim .steps + 1 ≤ 4611686018427387904)
+  step-passed : Passed m s σ × (σ .sim .steps + 1 ≤ stepsMost)
   step-passed = run-says m s 1 σ (step-accepted .0)
 
   bare-engine : EngineFits m (bareOf m σ)

@@ -8,6 +8,7 @@ use borrow.Author.Tests.{le-leb}
 use lib.ListN.{length}
 use Rattle.notation.specs.Choice.{pick}
 use Rattle.notation.specs.Facts.Tests.{both-true, pick-cases, pick-true, pick-false}
+use Rattle.notation.specs.Limits.{stepsMost}
 use Rattle.machine.specs.declared.Machine.{Machine}
 use Rattle.machine.specs.declared.Checked.the-variants.{Accepted}
 use Rattle.tape.specs.declared.Tape.{Tape}
@@ -17,7 +18,7 @@ use Rattle.run_checks.specs.declared.inner.look.Look.{Look}
 use Rattle.run_checks.specs.declared.inner.look.Look.the-variants.{Halt, Never, Go}
 use Rattle.run_rules.specs.declared.StopRule.the-variants as Rule
 use Rattle.sim.specs.Model.Engine.{Task, task, Conf, conf, onLook, haltedEnd, neverEnd, fuelEnd, lookOf, runWith, runOf}
-use Rattle.sim.specs.Model.Operations.{has1, has2, stepsMost, sizesFit, bareSim, bareOf, handBack, backOf, valueCheck, engineCheck, fuelFits, fuelCheck, runCheck}
+use Rattle.sim.specs.Model.Operations.{has1, has2, sizesFit, bareSim, bareOf, handBack, backOf, valueCheck, engineCheck, fuelFits, fuelCheck, runCheck}
 use Rattle.sim.specs.Facts.OperationCases.{Passed, engine-says}
 use Rattle.sim_slots.specs.Model.Advance.{ranFrom, advanceOf}
 use Rattle.sim_slots.specs.Facts.Run.{Keeps, Goes, run-goes}

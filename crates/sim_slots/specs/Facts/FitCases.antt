@@ -5,10 +5,11 @@ use mathlib.Core.List.{List}
 use Prim.Native.Nat.{ℕ}
 use lib.Dec.{ltb, leb}
 use Rattle.notation.specs.Facts.Tests.{both-split, both-true, by-test, pick-true, pick-false}
+use Rattle.notation.specs.Limits.{stepsMost}
 use Rattle.machine.specs.declared.Machine.{Machine}
 use Rattle.tape.specs.Fits.{tapeFits}
 use Rattle.sim.specs.declared.Simulator.{Simulator}
-use Rattle.sim.specs.Model.Operations.{has1, has2, ifHas, stepsMost, simFits}
+use Rattle.sim.specs.Model.Operations.{has1, has2, ifHas, simFits}
 
 -- ---- what the tests of an engine say, one by one
 

@@ -11,6 +11,7 @@ use lib.ListN.{length, take}
 use lib.Seq.{paste}
 use Rattle.notation.specs.Choice.{pick}
 use Rattle.notation.specs.Facts.Tests.{both-true, by-test, clash, pick-true, pick-false}
+use Rattle.notation.specs.Limits.{stepsMost}
 use Rattle.symbol.specs.Kinds.{stateOf}
 use Rattle.machine.specs.declared.Machine.{Machine}
 use Rattle.machine.specs.declared.Checked.the-variants.{Accepted}
@@ -18,7 +19,7 @@ use Rattle.tape.specs.declared.Tape.{Tape}
 use Rattle.tape.specs.Fits.{tapeFits}
 use Rattle.sim.specs.declared.Simulator.{Simulator}
 use Rattle.sim.specs.Model.Engine.{Conf}
-use Rattle.sim.specs.Model.Operations.{has1, has2, stepsMost, sizesFit, valueCheck, engineCheck}
+use Rattle.sim.specs.Model.Operations.{has1, has2, sizesFit, valueCheck, engineCheck}
 use Rattle.sim.specs.Facts.OperationCases.{Passed, engine-says}
 use Rattle.sim_slots.specs.Model.Slots.{sizeIf, place1, place2, slotSize, packOf, tapeAt, simIn, partOf, part0, part1, part2, holdsOne, fillIf, filled, unpackOf}
 use Rattle.sim_slots.specs.Facts.SlotBytes.{part-fits, poured-length, poured-live, poured-fits}

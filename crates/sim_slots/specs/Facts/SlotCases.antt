@@ -11,6 +11,7 @@ use lib.ListN.{length, take, drop, length-drop}
 use lib.Seq.{paste, length-take-le}
 use Rattle.notation.specs.Choice.{pick, both}
 use Rattle.notation.specs.Facts.Tests.{both-no, both-go, both-split, pick-true, pick-false}
+use Rattle.notation.specs.Limits.{stepsMost, cellsMost}
 use Rattle.machine.specs.declared.Machine.{Machine}
 use Rattle.machine.specs.declared.Checked.the-variants.{Accepted}
 use Rattle.tape.specs.declared.Tape.{Tape}
@@ -20,7 +21,7 @@ use Rattle.tape.specs.Facts.Fits.{fits-says}
 use Rattle.store_bytes.specs.Bytes.{put16, put64}
 use Rattle.sim.specs.declared.Simulator.{Simulator}
 use Rattle.sim.specs.Model.Engine.{Conf, conf}
-use Rattle.sim.specs.Model.Operations.{has1, has2, ifHas, cellsMost, stepsMost, sizesFit, simFits, engineCheck}
+use Rattle.sim.specs.Model.Operations.{has1, has2, ifHas, sizesFit, simFits, engineCheck}
 use Rattle.sim.specs.Facts.OperationCases.{engine-says}
 use Rattle.sim_slots.specs.declared.inner.Found.the-variants.{Nothing, Holds}
 use Rattle.sim_slots.specs.Model.Slots.{sizeIf, sizeOf, slotSize, putSim, putHeld, putIf, packOf, partOf, part0, part1, part2, simIn, holdsOne, fillIf, filled, unpackOf}

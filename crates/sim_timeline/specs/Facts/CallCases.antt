@@ -7,6 +7,7 @@ use Prim.Native.Nat.{ℕ, _+_, _-_, _*_, _≤_}
 use native.Mathlib.Omega.{arith}
 use lib.ListN.{length, take, drop, length-drop}
 use lib.Seq.{length-take-le}
+use Rattle.notation.specs.Limits.{stepsMost}
 use Rattle.outcome.specs.declared.Outcome.{Outcome}
 use Rattle.outcome.specs.declared.Refusal.the-variants as Why
 use Rattle.machine.specs.declared.Machine.{Machine}
@@ -17,7 +18,6 @@ use Rattle.sim.specs.Model.Engine.{Conf, conf}
 use Rattle.sim.specs.Model.Operations.{sizesFit, engineCheck, runCheck}
 use Rattle.sim.specs.Facts.OperationCases.{engine-says}
 use Rattle.timeline_rule.specs.declared.Times.{Times}
-use Rattle.timeline_rule.specs.Model.Engine.{limit}
 use Rattle.timeline_rule.specs.Model.Due.{stopFor}
 use Rattle.timeline_rule.specs.Model.Timeline.{Reply, refused, slotFor, goOn, goBack}
 use Rattle.timeline_rule.specs.Model.Kind.{TimelineOf, opsOf}
@@ -38,7 +38,7 @@ pub sizes-in : (m : Machine) (s : List ℕ) (e : Conf) (r : Checked) → r ≡ e
     → sizesFit m (length (e .c0)) (length (e .c1)) (length (e .c2)) ≡ true
 sizes-in m s e r q z = engine-says m s e (sym q ∙ z) .sizes
 
-pub low-in : (m : Machine) (s : List ℕ) (e : Conf) (r : Checked) → r ≡ engineCheck m s e → r ≡ Accepted → e .sim .steps ≤ limit
+pub low-in : (m : Machine) (s : List ℕ) (e : Conf) (r : Checked) → r ≡ engineCheck m s e → r ≡ Accepted → e .sim .steps ≤ stepsMost
 low-in m s e r q z = plain-sound m s (slotSize m e) .low e (record { accepted = sym q ∙ z; sized = refl })
 
 pub passed-sizes : (m : Machine) (s : List ℕ) (e : Conf) → engineCheck m s e ≡ Accepted → sizesFit m (length (e .c0)) (length (e .c1)) (length (e .c2)) ≡ true

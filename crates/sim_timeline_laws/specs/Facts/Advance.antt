@@ -7,6 +7,7 @@ use native.Mathlib.Numerals.{add-one}
 use native.Mathlib.Omega.{arith}
 use Rattle.notation.specs.Choice.{pick}
 use Rattle.notation.specs.Facts.Tests.{clash, pick-cases}
+use Rattle.notation.specs.Limits.{stepsMost}
 use Rattle.outcome.specs.declared.Outcome.{Outcome}
 use Rattle.machine.specs.declared.Machine.{Machine}
 use Rattle.machine.specs.declared.Action.{Action}
@@ -73,7 +74,7 @@ module _ (m : Machine) (s : List ℕ) (table : TableOf m (tableOf m s)) where
     unfolding meanOf
     ran-full r = record {
       fits = f;
-      ends = λ o v. advance-full (nextOf m s) (NoRoom m s) (machine m s table) configIn (suc n) (meanOf m σ) _ (omega arith) r tt refl;
+      ends = λ o v. advance-full (nextOf m s) (NoRoom m s) (machine m s table) configIn (suc n) (meanOf m σ) _ (omega arith) r refl refl;
     }
 
   -- ---- a step, and a run from there
@@ -117,7 +118,7 @@ module _ (m : Machine) (s : List ℕ) (table : TableOf m (tableOf m s)) where
 
   -- ---- an advance, of an engine that passes the check
 
-  module _ (n : ℕ) (σ : Conf) (p : Passed m s σ) (small : σ .sim .steps + n ≤ 4611686018427387904) where
+  module _ (n : ℕ) (σ : Conf) (p : Passed m s σ) (small : σ .sim .steps + n ≤ stepsMost) where
     abbrev ending : End
     ending = runOf quiet n (bareOf m σ)
 

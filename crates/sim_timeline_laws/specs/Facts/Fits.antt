@@ -5,12 +5,12 @@ use mathlib.Core.Option.{some}
 use Prim.Native.Nat.{ℕ, _+_, _≤_}
 use borrow.Author.Tests.{leb-true, lt-ltb}
 use lib.ListN.{length}
+use Rattle.notation.specs.Limits.{stepsMost}
 use Rattle.machine.specs.declared.Machine.{Machine}
 use Rattle.machine.specs.declared.Checked.the-variants.{Accepted}
 use Rattle.sim.specs.Model.Engine.{Conf}
 use Rattle.sim.specs.Model.Operations.{engineCheck}
 use Rattle.sim.specs.Facts.OperationCases.{engine-says}
-use Rattle.timeline_rule.specs.Model.Engine.{limit}
 use Rattle.sim_slots.specs.Facts.FitCases.{fitted}
 use Rattle.sim_slots.specs.Model.Advance.{advanceOf}
 use Rattle.sim_slots.specs.Model.Slots.{sizeOf, slotSize, packOf, unpackOf}
@@ -29,14 +29,14 @@ pub record FitsLike (m : Machine) (s : List ℕ) (e u : Conf) : Type 0 where
 
 module _ (m : Machine) (s : List ℕ) (e : Conf) where
   -- its step count is within the limit
-  pub steps-low : (u : Conf) → FitsLike m s e u → u .sim .steps ≤ limit
+  pub steps-low : (u : Conf) → FitsLike m s e u → u .sim .steps ≤ stepsMost
   steps-low u f = leb-true _ _ (fitted m (u .sim) (u .c0) (u .c1) (u .c2) (engine-says m s u (f .accepted) .fits) .steps-in)
 
   -- its slots have the same size
   pub same-slot : (u : Conf) → FitsLike m s e u → slotSize m u ≡ slotSize m e
   same-slot u f = λ i. sizeOf m (f .same0 i) (f .same1 i) (f .same2 i)
 
-  pub advanced-fits : (n : ℕ) (u : Conf) → FitsLike m s e u → u .sim .steps + n ≤ 4611686018427387904 → FitsLike m s e (advanceOf m s n u .1)
+  pub advanced-fits : (n : ℕ) (u : Conf) → FitsLike m s e u → u .sim .steps + n ≤ stepsMost → FitsLike m s e (advanceOf m s n u .1)
   advanced-fits n u f small = record {
     accepted = advance-fits m s n u (f .accepted) small;
     same0 = advance-length0 m s n u (f .accepted) small ∙ f .same0;

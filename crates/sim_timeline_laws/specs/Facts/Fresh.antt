@@ -7,6 +7,7 @@ use lib.Dec.{leb}
 use lib.ListN.{length}
 use Rattle.notation.specs.Choice.{pick}
 use Rattle.notation.specs.Facts.Tests.{both-split, both-true, pick-cases}
+use Rattle.notation.specs.Limits.{cellsMost}
 use Rattle.machine.specs.declared.Machine.{Machine}
 use Rattle.machine.specs.declared.Checked.the-variants.{Accepted}
 use Rattle.machine.specs.Model.Check.{within, tableCheck}
@@ -18,7 +19,7 @@ use Rattle.run_checks.specs.Model.Sizes.{sizesFit, freshSizes, freshCheck}
 use Rattle.sim.specs.declared.Simulator.{Simulator}
 use Rattle.sim.specs.declared.Fresh.the-variants as New
 use Rattle.sim.specs.Model.Engine.{conf}
-use Rattle.sim.specs.Model.Operations.{has1, has2, ifHas, cellsMost, blankTape, made, Made, newAnswer}
+use Rattle.sim.specs.Model.Operations.{has1, has2, ifHas, blankTape, made, Made, newAnswer}
 use Rattle.sim.specs.Facts.OperationCases.{Passed, fresh-says}
 use Rattle.sim_refines.specs.Facts.Fresh.{new-accepted, new-fits}
 

@@ -1,6 +1,6 @@
 -- The bytes of entry i of a table s (document 01, machine.rs): the entry's number, and the table check of its bytes. Definitions only.
 use mathlib.Core.Bool.{Bool}
-use mathlib.Core.List.{List}
+use mathlib.Core.List.{List, [], _∷_}
 use Prim.Native.Nat.{ℕ, _+_, _*_, _/_, _%_}
 use lib.Dec.{eqb, ltb, leb}
 use lib.ListN.{getD}
@@ -21,6 +21,10 @@ byteAt s i j = getD s (8 * i + j) 0
 
 abbrev pub within : ℕ → ℕ → ℕ → Bool
 within low high x = both (leb low x) (leb x high)
+
+-- "Eight bytes each: byte 0 is 1 for a defined entry; bytes 1 and 2 the next state, low byte first; 3 to 5 the writes; 6 is d0 + 3 × d1 + 9 × d2 ..; 7 is 0."
+abbrev pub definedBytes : (next w0 w1 w2 moves : ℕ) → List ℕ
+definedBytes next w0 w1 w2 moves = 1 ∷ (next % 256) ∷ (next / 256) ∷ w0 ∷ w1 ∷ w2 ∷ moves ∷ 0 ∷ []
 
 -- ---- one entry, for n states, t tapes and k symbols
 

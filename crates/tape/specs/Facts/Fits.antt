@@ -8,6 +8,7 @@ use borrow.Author.Tests.{leb-true, ltb-true, le-leb, lt-ltb}
 use lib.ListN.{length, getD}
 use Rattle.notation.specs.Facts.Scan.{all-says, all-holds}
 use Rattle.notation.specs.Facts.Tests.{both-split, both-true}
+use Rattle.notation.specs.Limits.{cellsMost}
 use Rattle.symbol.specs.Kinds.{symbolIn}
 use Rattle.tape.specs.declared.Tape.{Tape}
 use Rattle.tape.specs.Fits.{shapeFits, tapeFits, TapeFits, TapeOk}
@@ -49,5 +50,5 @@ module _ (k : ℕ) (t : Tape) (c : List ℕ) where
       (both-true (le-leb _ _ (f .low-head)) (both-true (le-leb _ _ (f .head-high)) (lt-ltb _ _ (f .high-in))))))))
       (all-holds (symbolIn k c) (t .len) 0 (λ i a b. lt-ltb _ _ (f .symbols i (omega arith))))
 
-  pub fits-ok : TapeFits k t c → t .len ≤ 1073741824 → TapeOk t c
+  pub fits-ok : TapeFits k t c → t .len ≤ cellsMost → TapeOk t c
   fits-ok f h = omega arith

@@ -11,6 +11,7 @@ use lib.ListN.{length, getD, set, length-set}
 use lib.Seq.{getD-set-same, getD-set-other}
 use Rattle.notation.specs.Choice.{pick}
 use Rattle.notation.specs.Facts.Tests.{pick-cases}
+use Rattle.notation.specs.Limits.{cellsMost}
 use Rattle.symbol.specs.declared.Dir.{Dir}
 use Rattle.symbol.specs.declared.Dir.the-variants.{L, R, N}
 use Rattle.tape.specs.declared.Tape.{Tape}
@@ -90,7 +91,7 @@ shift-ok t c L ok h = omega arith
 shift-ok t c R ok h = omega arith
 shift-ok t c N ok h = ok
 
-grow-ok : (h : Held) (d : Dir) → HeldOk h → length (h .cells) ≤ 1073741824 → HeldOk (growOf h d)
+grow-ok : (h : Held) (d : Dir) → HeldOk h → length (h .cells) ≤ cellsMost → HeldOk (growOf h d)
 unfolding grownBy
 grow-ok h L ok small = omega (arith, extra-within (h .tape .len) (length (h .cells)) (ok .len-in), length-grow h L)
 grow-ok h R ok small = omega (arith, extra-within (h .tape .len) (length (h .cells)) (ok .len-in), length-grow h R)
@@ -102,13 +103,13 @@ grow-head h L a = omega arith
 grow-head h R a = omega arith
 grow-head h N a = a
 
-move-ok : (h : Held) (d : Dir) → HeldOk h → h .tape .head < h .tape .len → length (h .cells) ≤ 1073741824 → HeldOk (moveOf h d)
+move-ok : (h : Held) (d : Dir) → HeldOk h → h .tape .head < h .tape .len → length (h .cells) ≤ cellsMost → HeldOk (moveOf h d)
 unfolding moveOf
 move-ok h d ok a small = pick-cases (leaves (h .tape) d) (growOf h d) h (λ g. HeldOk (shifted g d))
     (λ t. shift-ok _ _ d (grow-ok h d ok small) (grow-head h d a))
     (λ t. shift-ok _ _ d ok a)
 
-pub act-ok : (h : Held) (w : ℕ) (d : Dir) → HeldOk h → (h .tape .head < h .tape .len → length (h .cells) ≤ 1073741824) → HeldOk (actOf h w d)
+pub act-ok : (h : Held) (w : ℕ) (d : Dir) → HeldOk h → (h .tape .head < h .tape .len → length (h .cells) ≤ cellsMost) → HeldOk (actOf h w d)
 unfolding actOf
 act-ok h w d ok sized = pick-cases (ltb (h .tape .head) (h .tape .len)) (moveOf (writeOf h w) d) h HeldOk
     (λ t.
@@ -117,18 +118,18 @@ act-ok h w d ok sized = pick-cases (ltb (h .tape .head) (h .tape .len)) (moveOf 
     move-ok (writeOf h w) d (omega arith) a (omega (arith, sized a)))
     (λ t. ok)
 
-act-sized : (h : Held) (w : ℕ) (d : Dir) → (h .tape .head < h .tape .len → length (h .cells) ≤ 1073741824)
-    → actOf h w d .tape .head < actOf h w d .tape .len → length (actOf h w d .cells) ≤ 1073741824
+act-sized : (h : Held) (w : ℕ) (d : Dir) → (h .tape .head < h .tape .len → length (h .cells) ≤ cellsMost)
+    → actOf h w d .tape .head < actOf h w d .tape .len → length (actOf h w d .cells) ≤ cellsMost
 unfolding actOf
 act-sized h w d sized = pick-cases (ltb (h .tape .head) (h .tape .len)) (moveOf (writeOf h w) d) h
-    (λ g. g .tape .head < g .tape .len → length (g .cells) ≤ 1073741824)
+    (λ g. g .tape .head < g .tape .len → length (g .cells) ≤ cellsMost)
     (λ t a. omega (arith, length-move (writeOf h w) d, length-set (h .cells) (h .tape .head) w, sized (ltb-true (h .tape .head) (h .tape .len) t)))
     (λ t a. sized a)
 
 pub act-safe : (h : Held) (w : ℕ) (d : Dir) → TapeSafe (h .tape) (h .cells) → TapeSafe (actOf h w d .tape) (actOf h w d .cells)
 act-safe h w d s = record { ok = act-ok h w d (s .ok) (s .sized); sized = act-sized h w d (s .sized) }
 
-pub fits-safe : (k : ℕ) (t : Tape) (c : List ℕ) → tapeFits k t c ≡ true → length c ≤ 1073741824 → TapeSafe t c
+pub fits-safe : (k : ℕ) (t : Tape) (c : List ℕ) → tapeFits k t c ≡ true → length c ≤ cellsMost → TapeSafe t c
 fits-safe k t c f small = record { ok = fits-ok k t c (fits-says k t c f) (omega (arith, fits-says k t c f .most)); sized = λ h. small }
 
 -- ---- what fits

@@ -10,6 +10,7 @@ use lib.IntN.{ℤ}
 use mir.Syntax.{w32}
 use mir.Val.{Fits}
 use Rattle.notation.specs.Choice.{pick}
+use Rattle.notation.specs.Limits.{cellsMost}
 use Rattle.notation.specs.Scan.{allIn}
 use Rattle.notation.specs.Position.{_⊖_}
 use Rattle.symbol.specs.declared.Dir.{Dir}
@@ -43,7 +44,7 @@ beyond-none t c d e = rw e
 
 -- ---- the positions of what was found
 
-pub found-fits : (f : Found) (i : ℕ) → f ≡ Index.At i → reach f ≤ 1073741824 → Fits w32 i
+pub found-fits : (f : Found) (i : ℕ) → f ≡ Index.At i → reach f ≤ cellsMost → Fits w32 i
 found-fits f i e h = record { fits = omega (arith, ap reach e) }
 
 module _ (o : ℕ) where

@@ -9,10 +9,11 @@ use lib.Dec.{leb, ltb, eqb}
 use borrow.Author.Tests.{ltb-true, ltb-false, eqb-true, lt-ltb, le-leb}
 use Rattle.notation.specs.Choice.{pick}
 use Rattle.notation.specs.Facts.Tests.{both-true, pick-cases}
+use Rattle.notation.specs.Limits.{stepsMost, intervalMost}
 use Rattle.machine.specs.declared.Checked.the-variants.{Accepted}
 use Rattle.machine.specs.Model.Check.{within, demand}
 use Rattle.outcome.specs.declared.Refusal.the-variants as Why
-use Rattle.timeline_rule.specs.Model.Engine.{Ops, limit}
+use Rattle.timeline_rule.specs.Model.Engine.{Ops}
 use Rattle.timeline_rule.specs.Model.Timeline.{TimelineOver, Call, Reply, answered, target, due, timesOk, withEngine, gasFor, advanceTo, goOn, slotFor, slotStep, fromSlot, goBack, stay, goTo, callCheck, onCheck, call}
 use Rattle.timeline_laws.specs.Automaton.{Automaton}
 use Rattle.timeline_laws.specs.Laws.{Laws, Advance, went, full}
@@ -34,13 +35,13 @@ module _ {M : Automaton} {O : Ops (M .Out)} (E : Laws M O) (x : E .Mean) (good :
   unfolding timesOk
   times-ok w p i =
       both-true (within-is 1 512 (w .times .most) (omega arith) (omega arith))
-      (both-true (within-is 1 9223372036854775808 (w .times .every) (omega arith) (omega arith))
+      (both-true (within-is 1 intervalMost (w .times .every) (omega arith) (omega arith))
       (both-true (within-is 1 (w .times .most) (w .times .count) (omega arith) (omega arith))
       (within-is (w .times .first) (due (w .times)) p (omega (arith, i .tidy .first-is, i .stands .low)) (i .behind))))
 
   -- a call never gets refusals 1 to 12, 14 and 15
   pub call-is : (w : TimelineOver O) (p : ℕ) (c : Call) → Inv E x good w p
-      → call O w c ≡ onCheck O (demand (leb (target p c) limit) Why.StepLimit Accepted) w (goTo O (max (target p c) (base E x)) w)
+      → call O w c ≡ onCheck O (demand (leb (target p c) stepsMost) Why.StepLimit Accepted) w (goTo O (max (target p c) (base E x)) w)
   unfolding call callCheck pick
   call-is w p c i = rw (E .fits-check (w .engine) (i .stands .fits), now-at E x good (w .engine) p (i .stands), times-ok w p i, enough, upto)
     where
@@ -54,7 +55,7 @@ module _ {M : Automaton} {O : Ops (M .Out)} (E : Laws M O) (x : E .Mean) (good :
   unfolding stay
   stays w p i = record { out = O .advance 0 (w .engine) .0; says = refl; way = cases (E .advances 0 (w .engine) (i .stands .fits) small) }
     where
-      small : O .now (w .engine) + 0 ≤ limit
+      small : O .now (w .engine) + 0 ≤ stepsMost
       small = omega (arith, now-at E x good (w .engine) p (i .stands), i .stands .small)
 
       cases : Advance M (E .Mean) (E .config) (E .next) (E .NoRoom) 0 (E .mean (w .engine)) (O .advance 0 (w .engine) .0) (E .mean (O .advance 0 (w .engine) .1))
@@ -64,7 +65,7 @@ module _ {M : Automaton} {O : Ops (M .Out)} (E : Laws M O) (x : E .Mean) (good :
           (y ∙ (from-at E x good 0 p (E .mean (w .engine)) (i .stands .low) (i .stands .here) ∙ ap (at E x) (zero-add p))) (i .stands .room) (i .stands .small) (i .behind)) z
       cases (full j g r z y f d) = absurd (omega arith)
 
-  goes-on : (w : TimelineOver O) (p t : ℕ) → Inv E x good w p → p ≤ t → t ≤ limit → Taken t (goOn O t w)
+  goes-on : (w : TimelineOver O) (p t : ℕ) → Inv E x good w p → p ≤ t → t ≤ stepsMost → Taken t (goOn O t w)
   unfolding goOn
   goes-on w p t i l h = record {
     out = advanceTo O (gasFor O t w) t w .0;
@@ -117,7 +118,7 @@ module _ {M : Automaton} {O : Ops (M .Out)} (E : Laws M O) (x : E .Mean) (good :
               below : Inv E x good w p → n ≤ w .times .count
               below i = omega (arith, i .tidy .count-low)
 
-  pub taken : (w : TimelineOver O) (p t : ℕ) → Inv E x good w p → base E x ≤ t → t ≤ limit → Taken t (goTo O t w)
+  pub taken : (w : TimelineOver O) (p t : ℕ) → Inv E x good w p → base E x ≤ t → t ≤ stepsMost → Taken t (goTo O t w)
   unfolding goTo
   taken w p t i b l = pick-cases (eqb t (O .now (w .engine))) (stay O w) (pick (ltb t (O .now (w .engine))) (goBack O t w) (goOn O t w)) (Taken t)
       (λ q. subst (λ n. Taken n (stay O w)) (sym (eqb-true t (O .now (w .engine)) q ∙ now)) (stays w p i))

@@ -8,8 +8,9 @@ use native.Mathlib.Omega.{arith}
 use lib.Dec.{ltb, eqb}
 use borrow.Author.Tests.{ltb-true, ltb-false, eqb-true, eqb-false}
 use Rattle.notation.specs.Facts.Tests.{pick-cases}
+use Rattle.notation.specs.Limits.{stepsMost}
 use Rattle.store_bytes.specs.Model.{thinBy}
-use Rattle.timeline_rule.specs.Model.Engine.{Ops, limit}
+use Rattle.timeline_rule.specs.Model.Engine.{Ops}
 use Rattle.timeline_rule.specs.declared.Times.{Times}
 use Rattle.timeline_rule.specs.Model.Timeline.{TimelineOver, timelineWith, due, oneMore, halved, thin, thinned, recorded, recordDue}
 use Rattle.timeline_laws.specs.Automaton.{Automaton}
@@ -62,7 +63,7 @@ module _ {M : Automaton} {O : Ops (M .Out)} (E : Laws M O) (x : E .Mean) (good :
     pub count-low : 1 ≤ v .count
     pub every-low : 1 ≤ v .every
     pub every-high : v .every ≤ 2 ^ 63
-    pub last-low : due v ≤ limit + v .every  -- the last slot is at most at the limit
+    pub last-low : due v ≤ stepsMost + v .every  -- the last slot is at most at the stepsMost
     pub slot : (i : ℕ) → i < v .count → Slot t v i
 
   -- the engine is at step p
@@ -72,7 +73,7 @@ module _ {M : Automaton} {O : Ops (M .Out)} (E : Laws M O) (x : E .Mean) (good :
     pub here : E .mean s ≡ at E x p
     pub exactly : pos E x p ≡ p
     pub room : Room E x p
-    pub small : p ≤ limit
+    pub small : p ≤ stepsMost
 
   pub record Inv (w : TimelineOver O) (p : ℕ) : Type 0 where
     pub stands : Stands (w .engine) p
@@ -90,7 +91,7 @@ module _ {M : Automaton} {O : Ops (M .Out)} (E : Laws M O) (x : E .Mean) (good :
   slot-now t v i z = E .now-is (z .engine) ∙ (ap (λ y. M .steps (E .config y)) (z .means) ∙ z .step)
 
   -- an engine whose meaning is that at step k, where all steps before k had room
-  pub arrive : (s : O .State) (k : ℕ) → E .Fits s → base E x ≤ k → E .mean s ≡ at E x k → Room E x k → k ≤ limit
+  pub arrive : (s : O .State) (k : ℕ) → E .Fits s → base E x ≤ k → E .mean s ≡ at E x k → Room E x k → k ≤ stepsMost
       → Stands s (pos E x k)
   arrive s k f b h r l =
       let q : Settled E x good k = settle E x good k b r in
@@ -154,7 +155,7 @@ module _ {M : Automaton} {O : Ops (M .Out)} (E : Laws M O) (x : E .Mean) (good :
         step = subst (λ n. pos E x n ≡ n) twice (old .step);
       }
 
-  thins : (t : O .Store) (v : Times) (p : ℕ) → Tidy t v → v .count ≡ v .most + 1 → p + v .every ≡ due v → p ≤ limit
+  thins : (t : O .Store) (v : Times) (p : ℕ) → Tidy t v → v .count ≡ v .most + 1 → p + v .every ≡ due v → p ≤ stepsMost
       → Tidy (thin O ((v .count - 1) / 2) t) (halved v)
   thins t v p b c q l = record {
     most-low = b .most-low;

@@ -6,7 +6,8 @@ use native.Mathlib.Decide.{decLt, ℕ-discrete}
 use native.Mathlib.Omega.{arith}
 use Rattle.notation.specs.Choice.{pick}
 use Rattle.notation.specs.Facts.Tests.{pick-cases}
-use Rattle.timeline_rule.specs.Model.Engine.{Ops, limit}
+use Rattle.notation.specs.Limits.{stepsMost}
+use Rattle.timeline_rule.specs.Model.Engine.{Ops}
 use Rattle.timeline_rule.specs.Facts.Loop.{Done, done, not-done}
 use Rattle.timeline_rule.specs.Model.Timeline.{TimelineOver, due, recordDue, withEngine, stopAt, stride, turned, advanceTo}
 use Rattle.timeline_laws.specs.Automaton.{Automaton, iterate}
@@ -41,7 +42,7 @@ module _ {M : Automaton} {O : Ops (M .Out)} (E : Laws M O) (x : E .Mean) (good :
     off : (k : ℕ) → p ≤ k → k < t → E .NoRoom (at E x k) → Inv E x good w k → M .Full o → M .counted o ≡ k → OneAdvance t p o w
 
   -- the invariant of a timeline whose engine has gone on to k
-  pub gone : (v : TimelineOver O) (p : ℕ) → Inv E x good v p → (s : O .State) (k : ℕ) → E .Fits s → base E x ≤ k → E .mean s ≡ at E x k → Room E x k → k ≤ limit
+  pub gone : (v : TimelineOver O) (p : ℕ) → Inv E x good v p → (s : O .State) (k : ℕ) → E .Fits s → base E x ≤ k → E .mean s ≡ at E x k → Room E x k → k ≤ stepsMost
       → k ≤ due (v .times) → Inv E x good (withEngine O v s) (pos E x k)
   gone v p i s k f b h r l d = record {
     stands = arrive E x good s k f b h r l;
@@ -50,7 +51,7 @@ module _ {M : Automaton} {O : Ops (M .Out)} (E : Laws M O) (x : E .Mean) (good :
     behind = omega (arith, settle E x good k b r .high);
   }
 
-  one-advance : (t : ℕ) (v : TimelineOver O) (p : ℕ) → Inv E x good v p → p < due (v .times) → p ≤ t → t ≤ limit
+  one-advance : (t : ℕ) (v : TimelineOver O) (p : ℕ) → Inv E x good v p → p < due (v .times) → p ≤ t → t ≤ stepsMost
       → OneAdvance t p (stride O t v .0) (withEngine O v (stride O t v .1))
   one-advance t v p i d l h = go (stopAt O t v - O .now (v .engine)) now (omega (arith, now)) (omega (arith, now)) (λ l. omega (arith, now))
     where
@@ -128,7 +129,7 @@ module _ {M : Automaton} {O : Ops (M .Out)} (E : Laws M O) (x : E .Mean) (good :
       (λ q. goes t p o w r e y g (subst (λ a. (O .now (w .engine) < t) × ¬ (O .now (w .engine) ≡ a)) m (not-done t (O .now (w .engine)) n q)) ih)
 
   -- the loop, with enough gas
-  pub go-on : (gas t : ℕ) (w : TimelineOver O) (p : ℕ) → Inv E x good w p → p ≤ t → t ≤ limit → t < gas + p
+  pub go-on : (gas t : ℕ) (w : TimelineOver O) (p : ℕ) → Inv E x good w p → p ≤ t → t ≤ stepsMost → t < gas + p
       → Way t (advanceTo O gas t w .0) (advanceTo O gas t w .1)
   unfolding advanceTo
   go-on zero t w p i l h g = absurd (omega arith)

@@ -4,11 +4,11 @@ use mathlib.Core.Path.{_≡_}
 use mathlib.Core.List.{List}
 use mathlib.Core.Option.{some}
 use lib.ListN.{length}
+use Rattle.notation.specs.Limits.{stepsMost}
 use Rattle.machine.specs.declared.Machine.{Machine}
 use Rattle.machine.specs.declared.Checked.the-variants.{Accepted}
 use Rattle.table_machine.specs.TableMachine.{Config, step, Halted}
 use Rattle.table_machine.specs.Tables.{tableOf, TableOf}
-use Rattle.timeline_rule.specs.Model.Engine.{limit}
 use Rattle.timeline_rule.specs.Model.Kind.{opsOf}
 use Rattle.timeline_laws.specs.Laws.{Advance, Laws}
 use Rattle.timeline_laws.specs.Meaning.{EngineMeaning}
@@ -25,16 +25,16 @@ pub record Parts (X : EngineMeaning) (m : Machine) (s : List ℕ) (table : Table
   pub Fits : X .kind .State → Type 0
   pub Good : Mean → Type 0
   pub fits-check : (u : X .kind .State) → Fits u → X .kind .check m s u ≡ Accepted
-  pub fits-low : (u : X .kind .State) → Fits u → X .kind .now u ≤ limit
+  pub fits-low : (u : X .kind .State) → Fits u → X .kind .now u ≤ stepsMost
   pub fits-good : (u : X .kind .State) → Fits u → Good (mean u)
   pub now-is : (u : X .kind .State) → X .kind .now u ≡ config (mean u) .steps
   pub next-good : (x : Mean) → Good x → ¬ NoRoom x → Good (next x)
   pub next-is : (x : Mean) → Good x → ¬ NoRoom x → config (next x) ≡ step (tableOf m s) (config x)
   pub next-stays : (x : Mean) → Good x → Halted (tableOf m s) (config x) → next x ≡ x
   pub no-room-runs : (x : Mean) → Good x → NoRoom x → ¬ Halted (tableOf m s) (config x)
-  pub advances : (n : ℕ) (u : X .kind .State) → Fits u → X .kind .now u + n ≤ limit
+  pub advances : (n : ℕ) (u : X .kind .State) → Fits u → X .kind .now u + n ≤ stepsMost
       → Advance (machine m s table) Mean config next NoRoom n (mean u) (X .kind .advance m s n u .0) (mean (X .kind .advance m s n u .1))
-  pub advance-fits : (n : ℕ) (u : X .kind .State) → Fits u → X .kind .now u + n ≤ limit → Fits (X .kind .advance m s n u .1)
+  pub advance-fits : (n : ℕ) (u : X .kind .State) → Fits u → X .kind .now u + n ≤ stepsMost → Fits (X .kind .advance m s n u .1)
   -- a packed engine fills its slot, and can be unpacked into the buffers of any fitting engine
   pub pack-length : (u : X .kind .State) (old : List ℕ) → Fits u → length old ≡ size → length (X .kind .pack m u old) ≡ size
   pub unpack-pack : (u t : X .kind .State) (old : List ℕ) → Fits u → Fits t → length old ≡ size

@@ -5,17 +5,19 @@ use mathlib.Core.Logic.{_↔_}
 use mathlib.Core.List.{List}
 use native.Mathlib.Omega.{arith}
 use lib.Dec.{leb}
-use borrow.Author.Tests.{le-leb, lt-leb}
+use borrow.Author.Tests.{le-leb, lt-leb, eq-eqb}
 use Rattle.notation.specs.Facts.Tests.{pick-true, pick-false}
+use Rattle.notation.specs.Limits.{stepsMost}
 use Rattle.outcome.specs.declared.Outcome.{Outcome}
 use Rattle.outcome.specs.declared.Outcome.the-variants as Out
 use Rattle.outcome.specs.declared.Refusal.{Refusal}
 use Rattle.outcome.specs.declared.Refusal.the-variants as Why
 use Rattle.outcome.specs.Numbers.{stepsOf}
+use Rattle.outcome.specs.Facts.Numbers.{full-of}
 use Rattle.machine.specs.declared.Machine.{Machine}
 use Rattle.table_machine.specs.TableMachine.{Table, Config, step, Halted, Verdict, halts, stays, walks, goes}
 use Rattle.table_machine.specs.Tables.{tableOf, Bare}
-use Rattle.timeline_rule.specs.Model.Engine.{limit, Ops}
+use Rattle.timeline_rule.specs.Model.Engine.{Ops}
 use Rattle.timeline_rule.specs.Model.Timeline.{Reply, refused, answered, call, Call, target}
 use Rattle.timeline_rule.specs.Model.Kind.{opsOf, opsFor, TimelineOf, callOn}
 use Rattle.timeline_laws.specs.Automaton.{Automaton, iterate, run as runs, reach}
@@ -25,24 +27,13 @@ use Rattle.timeline_laws.specs.Facts.Invariant.{Inv, now-at}
 use Rattle.timeline_laws.specs.Facts.Ends.{inv-held, aim, Ends, over, reached, stopped, ends}
 use Rattle.timeline_laws.specs.Facts.TableRun.{IsFull, IsNever, machine, iterate-run}
 use Rattle.timeline_laws.specs.Meaning.{EngineMeaning}
-use Rattle.timeline_laws.specs.Statement.{afterSteps, reachIn, goalIn, movedIn, Numbers, stoppedAt, heldOn, FullFrom, Stuck, Result}
+use Rattle.timeline_laws.specs.Statement.{afterSteps, reachIn, goalIn, movedIn, Numbers, stepsIf, stoppedAt, heldOn, FullFrom, Stuck, Result}
 use Rattle.timeline_laws.specs.Instance.{Instance}
 
 -- ---- answers
 
-pub full-of : (o : Outcome) → IsFull o → o ≡ Out.Full (stepsOf o)
-full-of (Out.Halted n q) f = absurd f
-full-of (Out.OutOfFuel n) f = absurd f
-full-of (Out.NeverHalts n p) f = absurd f
-full-of (Out.Stopped n) f = absurd f
-full-of (Out.Full n) f = refl
-
 full-stops : (o : Outcome) (q : ℕ) → IsFull o → stepsOf o ≡ stoppedAt (answered o) q
-full-stops (Out.Halted n z) q f = absurd f
-full-stops (Out.OutOfFuel n) q f = absurd f
-full-stops (Out.NeverHalts n p) q f = absurd f
-full-stops (Out.Stopped n) q f = absurd f
-full-stops (Out.Full n) q f = refl
+full-stops o q f = sym (ap (λ b. stepsIf b o q) (eq-eqb _ 4 f))
 
 verdict-goes : (t : ℕ) (d : Table) (c : Config) (o : Outcome) (q : ℕ) → Verdict t d c o → q ≡ stoppedAt (answered o) q
 verdict-goes t d c o q (halts h) = refl
@@ -95,11 +86,11 @@ module _ (X : EngineMeaning) (m : Machine) (s : List ℕ) (e : X .kind .State) (
   aim-is : (p : ℕ) (k : Call) → aim E (E .mean e) (E .fits-good e (I .fits)) p k ≡ goalIn m s c p k
   aim-is p k = ap (max (target p k)) base-is
 
-  moved-under : (p : ℕ) (k : Call) → target p k ≤ limit → movedIn m s c p k ≡ reachIn m s c (goalIn m s c p k)
-  moved-under p k l = pick-true (leb (target p k) limit) (reachIn m s c (goalIn m s c p k)) p (le-leb (target p k) limit l)
+  moved-under : (p : ℕ) (k : Call) → target p k ≤ stepsMost → movedIn m s c p k ≡ reachIn m s c (goalIn m s c p k)
+  moved-under p k l = pick-true (leb (target p k) stepsMost) (reachIn m s c (goalIn m s c p k)) p (le-leb (target p k) stepsMost l)
 
-  moved-over : (p : ℕ) (k : Call) → limit < target p k → movedIn m s c p k ≡ p
-  moved-over p k l = pick-false (leb (target p k) limit) (reachIn m s c (goalIn m s c p k)) p (lt-leb (target p k) limit l)
+  moved-over : (p : ℕ) (k : Call) → stepsMost < target p k → movedIn m s c p k ≡ p
+  moved-over p k l = pick-false (leb (target p k) stepsMost) (reachIn m s c (goalIn m s c p k)) p (lt-leb (target p k) stepsMost l)
 
   -- ---- full steps
 
@@ -142,7 +133,7 @@ module _ (X : EngineMeaning) (m : Machine) (s : List ℕ) (e : X .kind .State) (
     abbrev Claimed : Type 0
     Claimed = Result X m s c e u p k (call ops u k)
 
-    refused-result : limit < target p k → r ≡ (refused Why.StepLimit, u) → Claimed
+    refused-result : stepsMost < target p k → r ≡ (refused Why.StepLimit, u) → Claimed
     refused-result l q = record {
       refuses = λ h. (Why.StepLimit, refl, q);
       accepts = λ h. absurd (omega arith);
@@ -156,7 +147,7 @@ module _ (X : EngineMeaning) (m : Machine) (s : List ℕ) (e : X .kind .State) (
         no : (o : Outcome) → r .0 ≡ answered o → ⊥
         no o a = no-answer (r .0) o Why.StepLimit (ap (λ (z : Reply Outcome × TimelineOf (X .kind)). z .0) q) a
 
-    module _ (l : target p k ≤ limit) (o : Outcome) (says : call ops u k .0 ≡ answered o) where
+    module _ (l : target p k ≤ stepsMost) (o : Outcome) (says : call ops u k .0 ≡ answered o) where
       is : (z : Outcome) → r .0 ≡ answered z → o ≡ z
       is z a = one-answer (r .0) o z says a
 
@@ -172,11 +163,11 @@ module _ (X : EngineMeaning) (m : Machine) (s : List ℕ) (e : X .kind .State) (
         never = λ n f a j. subst (λ y. ¬ Halted (tableOf m s) y) (runs-is j)
             (never-any M (E .config (E .mean e)) (reachIn m s c t) (i .stands .low)
             (M .never-halts (runs M (E .config (E .mean e)) (reachIn m s c t)) o (run-real M (E .config (E .mean e)) real (reachIn m s c t))
-            (subst (λ y. Verdict (m .tapes) (tableOf m s) y o) (sym (runs-is (reachIn m s c t))) there) (subst IsNever (sym (is _ a)) tt)) j);
+            (subst (λ y. Verdict (m .tapes) (tableOf m s) y o) (sym (runs-is (reachIn m s c t))) there) (subst IsNever (sym (is _ a)) refl)) j);
       }
         where
           not-full : (n : ℕ) → r .0 ≡ answered (Out.Full n) → ⊥
-          not-full n a = M .verdict-not-full _ o v (subst IsFull (sym (is _ a)) tt)
+          not-full n a = M .verdict-not-full _ o v (subst IsFull (sym (is _ a)) refl)
 
           real : Bare (m .tapes) (E .config (E .mean e))
           real = subst (Bare (m .tapes)) (sym (I .same-config e)) (I .bare)
@@ -195,7 +186,7 @@ module _ (X : EngineMeaning) (m : Machine) (s : List ℕ) (e : X .kind .State) (
         stands = λ n a. subst (Stuck X m s c e (r .1) p t) (step n a) stuck;
         says = λ z a g. absurd (g j (sym (is z a) ∙ is-full));
         numbers = λ z a. subst (λ y. Numbers y (heldOn X m s (r .1))) (sym is-full ∙ is z a) counts;
-        never = λ n g a. absurd (subst IsFull (is _ a) f);
+        never = λ n g a. absurd (omega (arith, subst IsFull (is _ a) f));
       }
         where
           is-full : o ≡ Out.Full j

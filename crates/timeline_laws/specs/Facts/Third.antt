@@ -6,17 +6,18 @@ use mathlib.Core.Option.{Option, none, some}
 use mathlib.Core.List.{List, [], _∷_}
 use native.Mathlib.Omega.{arith}
 use lib.Dec.{leb}
-use borrow.Author.Tests.{le-leb}
+use borrow.Author.Tests.{le-leb, eqb-true}
 use Rattle.notation.specs.Choice.{pick}
-use Rattle.notation.specs.Facts.Tests.{pick-true}
+use Rattle.notation.specs.Facts.Tests.{pick-true, by-test}
+use Rattle.notation.specs.Limits.{stepsMost}
 use Rattle.outcome.specs.declared.Outcome.{Outcome}
 use Rattle.outcome.specs.declared.Outcome.the-variants as Out
-use Rattle.outcome.specs.Numbers.{stepsOf}
+use Rattle.outcome.specs.Numbers.{stepsOf, isFull}
+use Rattle.outcome.specs.Facts.Numbers.{full-of}
 use Rattle.machine.specs.declared.Machine.{Machine}
 use Rattle.table_machine.specs.TableMachine.{Config, start, run, Halted}
 use Rattle.table_machine.specs.Tables.{tableOf}
 use Rattle.store_bytes.specs.Model.{slotOf}
-use Rattle.timeline_rule.specs.Model.Engine.{limit}
 use Rattle.timeline_rule.specs.Model.Timeline.{Reply, refused, answered, Call, forward, target, call}
 use Rattle.timeline_rule.specs.Model.Kind.{opsOf, opsFor, TimelineOf, newOn, callOn}
 use Rattle.timeline_laws.specs.Automaton.{Automaton, run as runs}
@@ -29,19 +30,16 @@ use Rattle.timeline_laws.specs.Facts.TableRun.{IsFull, machine}
 use Rattle.timeline_laws.specs.Meaning.{EngineMeaning}
 use Rattle.timeline_laws.specs.Notes.{noting, bare, NotedOf, newNoted, callNoted, afterNoted}
 use Rattle.timeline_laws.specs.Facts.Notes.{call-bare, noted}
-use Rattle.timeline_laws.specs.Statement.{orHalt, placeBy, HaltedAt, HaltsIn, reachIn, goalIn, movedIn, placeIn, stoppedAt, afterOn, placeOn, placeAfter, RoomFor, Roomy, Twice, FullFrom, SlotGives, WholeList, DemandFrom, Demand}
+use Rattle.timeline_laws.specs.Statement.{orHalt, placeBy, HaltedAt, HaltsIn, reachIn, goalIn, movedIn, placeIn, stepsIf, stoppedAt, afterOn, placeOn, placeAfter, RoomFor, Roomy, Twice, FullFrom, SlotGives, WholeList, DemandFrom, Demand}
 use Rattle.timeline_laws.specs.Instance.{Instance, Instances, Beginnings}
-use Rattle.timeline_laws.specs.Facts.Results.{full-of, StandsAt, runs-is, reach-in, base-is, stands-now, stands-low, stands-held, result, next-stands}
+use Rattle.timeline_laws.specs.Facts.Results.{StandsAt, runs-is, reach-in, base-is, stands-now, stands-low, stands-held, result, next-stands}
 use Rattle.timeline_laws.specs.Facts.Twice.{twice-is}
 
 -- after an answer other than full, the rule gives p
 not-stopped : (r : Reply Outcome) (q : ℕ) → ((n : ℕ) → ¬ (r ≡ answered (Out.Full n))) → stoppedAt r q ≡ q
 not-stopped (refused why) q f = refl
-not-stopped (answered (Out.Halted n x)) q f = refl
-not-stopped (answered (Out.OutOfFuel n)) q f = refl
-not-stopped (answered (Out.NeverHalts n x)) q f = refl
-not-stopped (answered (Out.Stopped n)) q f = refl
-not-stopped (answered (Out.Full n)) q f = absurd (f n refl)
+not-stopped (answered o) q f =
+    by-test (isFull o) (λ t. absurd (f (stepsOf o) (ap answered (full-of o (eqb-true _ 4 t))))) (λ t. ap (λ b. stepsIf b o q) t)
 
 module _ (X : EngineMeaning) (m : Machine) (s : List ℕ) (e : X .kind .State) (I : Instance X m s e) where
   abbrev M : Automaton
@@ -77,14 +75,14 @@ module _ (X : EngineMeaning) (m : Machine) (s : List ℕ) (e : X .kind .State) (
   place-by : (h : Option ℕ) → HaltsIn m s c h → (p : ℕ) (ks : List Call) → placeIn m s c p ks ≡ placeBy (c .steps) h p ks
   place-by h q p [] = refl
   place-by h q p (k ∷ ks) = place-by h q (movedIn m s c p k) ks
-      ∙ ap (λ t. placeBy (c .steps) h (pick (leb (target p k) limit) t p) ks) (reach-by h q (goalIn m s c p k) (omega arith))
+      ∙ ap (λ t. placeBy (c .steps) h (pick (leb (target p k) stepsMost) t p) ks) (reach-by h q (goalIn m s c p k) (omega arith))
 
   -- ---- the engine's own rule of space
 
   full-rule : (n : ℕ) (o : Outcome) (y : E .Mean) → Advance M (E .Mean) (E .config) (E .next) (E .NoRoom) n (E .mean e) o y
       → ((i : ℕ) × (o ≡ Out.Full i)) ↔ ((j : ℕ) × (c .steps ≤ j) × (j < c .steps + n) × FullFrom X m s c e j)
   full-rule n o y (went r q v) = (
-    (λ f. absurd (M .verdict-not-full (E .config y) o v (subst IsFull (sym (f .1)) tt))),
+    (λ f. absurd (M .verdict-not-full (E .config y) o v (subst IsFull (sym (f .1)) refl))),
     (λ f. absurd (r (f .0 - c .steps) (omega (arith, f .1, f .2)) (I .full-is (f .0 - c .steps) .1 (f .3)))),
   )
   full-rule n o y (full j l r k q f d) = ((λ _. (c .steps + j, omega arith, omega arith, subst (X .FullStep m s e) there (I .full-is j .0 k))), (λ _. (stepsOf o, full-of o f)))
@@ -102,7 +100,7 @@ module _ (X : EngineMeaning) (m : Machine) (s : List ℕ) (e : X .kind .State) (
   stands-after u p (k ∷ ks) i =
       stands-after (callOn (X .kind) m s u k .1) (stoppedAt (callOn (X .kind) m s u k .0) (movedIn m s c p k)) ks (next-stands X m s e I u p k i)
 
-  twice-from : (u : TimelineOf (X .kind)) (p : ℕ) → StandsAt X m s e I u p → (a b : ℕ) → p + a + b ≤ limit
+  twice-from : (u : TimelineOf (X .kind)) (p : ℕ) → StandsAt X m s e I u p → (a b : ℕ) → p + a + b ≤ stepsMost
       → RoomFor X m s u (forward a) → RoomFor X m s (callOn (X .kind) m s u (forward a) .1) (forward b) → Twice X m s u a b
   twice-from u p i a b l f g = twice-is X m s e I u p a b under l f g
       (result X m s e I u p (forward a) i) (result X m s e I (callOn (X .kind) m s u (forward a) .1) (reachIn m s c (p + a)) (forward b) next) (result X m s e I u p (forward (a + b)) i)
@@ -116,7 +114,7 @@ module _ (X : EngineMeaning) (m : Machine) (s : List ℕ) (e : X .kind .State) (
       next : StandsAt X m s e I (callOn (X .kind) m s u (forward a) .1) (reachIn m s c (p + a))
       next = subst (StandsAt X m s e I (callOn (X .kind) m s u (forward a) .1))
           (not-stopped (callOn (X .kind) m s u (forward a) .0) (movedIn m s c p (forward a)) f
-          ∙ (pick-true (leb (p + a) limit) (reachIn m s c (goalIn m s c p (forward a))) p (le-leb (p + a) limit (omega arith)) ∙ ap (reachIn m s c) there))
+          ∙ (pick-true (leb (p + a) stepsMost) (reachIn m s c (goalIn m s c p (forward a))) p (le-leb (p + a) stepsMost (omega arith)) ∙ ap (reachIn m s c) there))
           (next-stands X m s e I u p (forward a) i)
 
   -- ---- notes

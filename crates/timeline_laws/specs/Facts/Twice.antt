@@ -4,13 +4,13 @@ use mathlib.Core.Path.{_≡_, sym, ap, _∙_, subst}
 use mathlib.Core.List.{List}
 use native.Mathlib.Decide.{decLt}
 use native.Mathlib.Omega.{arith}
+use Rattle.notation.specs.Limits.{stepsMost}
 use Rattle.outcome.specs.declared.Outcome.{Outcome}
 use Rattle.outcome.specs.declared.Outcome.the-variants as Out
 use Rattle.machine.specs.declared.Machine.{Machine}
 use Rattle.table_machine.specs.TableMachine.{Config, Verdict}
 use Rattle.table_machine.specs.Tables.{tableOf}
 use Rattle.table_machine.specs.Facts.Verdict.{verdict-unique}
-use Rattle.timeline_rule.specs.Model.Engine.{limit}
 use Rattle.timeline_rule.specs.Model.Timeline.{answered, forward}
 use Rattle.timeline_rule.specs.Model.Kind.{TimelineOf, callOn}
 use Rattle.timeline_laws.specs.Automaton.{Automaton, reach}
@@ -52,7 +52,7 @@ module _ (X : EngineMeaning) (m : Machine) (s : List ℕ) (e : X .kind .State) (
 
   -- ---- the three calls
 
-  module _ (u : TimelineOf (X .kind)) (p a b : ℕ) (under : X .config m e .steps ≤ p) (small : p + a + b ≤ limit)
+  module _ (u : TimelineOf (X .kind)) (p a b : ℕ) (under : X .config m e .steps ≤ p) (small : p + a + b ≤ stepsMost)
       (free : RoomFor X m s u (forward a)) (again : RoomFor X m s (callOn (X .kind) m s u (forward a) .1) (forward b))
       (first : Result X m s (X .config m e) e u p (forward a) (callOn (X .kind) m s u (forward a)))
       (second : Result X m s (X .config m e) e (callOn (X .kind) m s u (forward a) .1) (reachIn m s (X .config m e) (p + a)) (forward b)

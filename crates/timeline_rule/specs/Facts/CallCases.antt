@@ -7,12 +7,12 @@ use native.Mathlib.Omega.{arith}
 use lib.Dec.{leb}
 use borrow.Author.Tests.{leb-true, leb-false}
 use Rattle.notation.specs.Facts.Tests.{by-test, pick-true, pick-false}
+use Rattle.notation.specs.Limits.{stepsMost}
 use Rattle.outcome.specs.declared.Outcome.{Outcome}
 use Rattle.outcome.specs.declared.Refusal.{Refusal}
 use Rattle.machine.specs.declared.Machine.{Machine}
 use Rattle.machine.specs.declared.Checked.{Checked}
 use Rattle.machine.specs.declared.Checked.the-variants.{Accepted, Refused}
-use Rattle.timeline_rule.specs.Model.Engine.{limit}
 use Rattle.timeline_rule.specs.Model.Timeline.{Reply, refused, Call, seek, forward, back, goTo, callCheck, call}
 use Rattle.timeline_rule.specs.Model.Due.{forwardTo}
 use Rattle.timeline_rule.specs.Facts.Loop.{forward-is, forward-over, back-is}
@@ -22,13 +22,13 @@ use Rattle.timeline_rule.specs.Facts.GoCases.{call-says, seek-refused, s
 
 -- ---- forward and back by their targets
 
-pub forward-to : (p n : ℕ) → (forwardTo p n ≡ p + n) ⊎ ((limit < p + n) × (forwardTo p n ≡ limit + 1))
+pub forward-to : (p n : ℕ) → (forwardTo p n ≡ p + n) ⊎ ((stepsMost < p + n) × (forwardTo p n ≡ stepsMost + 1))
 unfolding forwardTo
-forward-to p n = by-test (leb p limit)
-    (λ a. by-test (leb n (limit - p))
+forward-to p n = by-test (leb p stepsMost)
+    (λ a. by-test (leb n (stepsMost - p))
     (λ b. inl (pick-true _ _ _ a ∙ pick-true _ _ _ b))
-    (λ b. inr (omega (arith, leb-true p limit a, leb-false n (limit - p) b), pick-true _ _ _ a ∙ pick-false _ _ _ b)))
-    (λ a. inr (omega (arith, leb-false p limit a), pick-false _ _ _ a))
+    (λ b. inr (omega (arith, leb-true p stepsMost a, leb-false n (stepsMost - p) b), pick-true _ _ _ a ∙ pick-false _ _ _ b)))
+    (λ a. inr (omega (arith, leb-false p stepsMost a), pick-false _ _ _ a))
 
 module _ (X : Kind) (m : Machine) (s : List ℕ) (w : TimelineOf X) (x : Reply Outcome × TimelineOf X) where
   -- the lent buffers determine the slot's size
@@ -44,7 +44,7 @@ module _ (X : Kind) (m : Machine) (s : List ℕ) (w : TimelineOf X) (x : Reply O
         now : ℕ
         now = X .now (w .engine)
 
-        by : (forwardTo now n ≡ now + n) ⊎ ((limit < now + n) × (forwardTo now n ≡ limit + 1))
+        by : (forwardTo now n ≡ now + n) ⊎ ((stepsMost < now + n) × (forwardTo now n ≡ stepsMost + 1))
             → call (opsFor X m s (w .engine)) w (seek (forwardTo now n)) ≡ call (opsFor X m s (w .engine)) w (forward n)
         by (inl k) = ap (λ j. call (opsFor X m s (w .engine)) w (seek j)) k ∙ sym (forward-is (opsFor X m s (w .engine)) w n)
         by (inr k) = ap (λ j. call (opsFor X m s (w .engine)) w (seek j)) (k .1) ∙ sym (forward-over (opsFor X m s (w .engine)) w n (k .0))

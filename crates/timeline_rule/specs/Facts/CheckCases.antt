@@ -5,15 +5,15 @@ use Prim.Native.Nat.{ℕ, _-_, _≤_, _<_}
 use native.Mathlib.Omega.{arith}
 use borrow.Author.Tests.{le-leb, lt-leb, lt-ltb, le-ltb}
 use Rattle.notation.specs.Facts.Tests.{both-split, pick-true, pick-false}
+use Rattle.notation.specs.Limits.{stepsMost, intervalMost}
 use Rattle.outcome.specs.declared.Refusal.the-variants as Why
 use Rattle.machine.specs.declared.Checked.the-variants.{Accepted, Refused}
 use Rattle.machine.specs.Facts.Check.{within-says}
 use Rattle.timeline_rule.specs.declared.Times.{Times}
-use Rattle.timeline_rule.specs.Model.Engine.{limit}
 use Rattle.timeline_rule.specs.Model.Timeline.{due, newOk, timesOk, firstCheck, laterCheck}
 use Rattle.timeline_rule.specs.Invariants.{Shape}
 
-pub times-shape : (v : Times) (p : ℕ) → timesOk v p ≡ true → p ≤ limit → Shape v
+pub times-shape : (v : Times) (p : ℕ) → timesOk v p ≡ true → p ≤ stepsMost → Shape v
 unfolding timesOk
 times-shape v p q h =
     let a = both-split q in
@@ -24,7 +24,7 @@ times-shape v p q h =
       first-in = omega (arith, within-says (v .first) (due v) p (c .1) .0);
       count-low = within-says 1 (v .most) (v .count) (c .0) .0;
       count-in = within-says 1 (v .most) (v .count) (c .0) .1;
-      every-in = within-says 1 9223372036854775808 (v .every) (b .0) .0;
+      every-in = within-says 1 intervalMost (v .every) (b .0) .0;
     }
 
 -- ---- 14, 15 and 13, in their order
@@ -37,10 +37,10 @@ module _ (v : Times) (p n t : ℕ) (k : Bool) (ranged : k ≡ timesOk v p) where
     pub later-store : n ≤ v .most → Refused Why.StoreSize ≡ laterCheck v p n t
     later-store h = sym (pick-true _ _ _ (sym ranged ∙ inside) ∙ pick-false _ _ _ (le-ltb _ _ h))
 
-    pub later-limit : v .most < n → limit < t → Refused Why.StepLimit ≡ laterCheck v p n t
+    pub later-limit : v .most < n → stepsMost < t → Refused Why.StepLimit ≡ laterCheck v p n t
     later-limit h l = sym (pick-true _ _ _ (sym ranged ∙ inside) ∙ (pick-true _ _ _ (lt-ltb _ _ h) ∙ pick-false _ _ _ (lt-leb _ _ l)))
 
-    pub later-passed : v .most < n → t ≤ limit → Accepted ≡ laterCheck v p n t
+    pub later-passed : v .most < n → t ≤ stepsMost → Accepted ≡ laterCheck v p n t
     later-passed h l = sym (pick-true _ _ _ (sym ranged ∙ inside) ∙ (pick-true _ _ _ (lt-ltb _ _ h) ∙ pick-true _ _ _ (le-leb _ _ l)))
 
 module _ (most every n : ℕ) (k : Bool) (ranged : k ≡ newOk most every) where

@@ -9,6 +9,7 @@ use native.Mathlib.Omega.{arith}
 use lib.ListN.{length, take, drop}
 use borrow.Author.Tests.{lt-ltb, le-ltb, eq-eqb, ne-eqb, leb-true, ltb-true}
 use Rattle.notation.specs.Facts.Tests.{pick-true, pick-false}
+use Rattle.notation.specs.Limits.{stepsMost}
 use Rattle.outcome.specs.declared.Outcome.{Outcome}
 use Rattle.outcome.specs.declared.Refusal.{Refusal}
 use Rattle.outcome.specs.declared.Refusal.the-variants as Why
@@ -20,7 +21,7 @@ use Rattle.machine.specs.Facts.Check.{demand-says, on-says}
 use Rattle.store_bytes.specs.Model.{slotCount, slotOf}
 use Rattle.store_bytes.specs.Facts.Slots.{slot-inside, slot-part}
 use Rattle.timeline_rule.specs.declared.Times.{Times}
-use Rattle.timeline_rule.specs.Model.Engine.{limit, Ops}
+use Rattle.timeline_rule.specs.Model.Engine.{Ops}
 use Rattle.timeline_rule.specs.Model.Timeline.{Reply, refused, answered, seek, timesOk, slotFor, slotStep, said, goOn, fromSlot, goBack, stay, goTo, firstCheck, laterCheck, callCheck, onCheck, call, newCheck}
 use Rattle.timeline_rule.specs.Model.Kind.{Kind, TimelineOf, opsOf}
 use Rattle.timeline_rule.specs.Invariants.{timelineOf, Sound, Shape, LoopOk, GoOk, rewindOf, wayOf}
@@ -105,7 +106,7 @@ module _ (X : Kind) (m : Machine) (s : List ℕ) (size : ℕ) where
     pub fits : X .check m s (w .engine) ≡ Accepted
     pub times : timesOk (w .times) (X .now (w .engine)) ≡ true
     pub room : w .times .most < slotCount size (w .store)
-    pub top : t ≤ limit
+    pub top : t ≤ stepsMost
 
   pub call-says : (t : ℕ) (w : TimelineOf X) → callCheck O w t ≡ Accepted → Passed t w
   unfolding callCheck
@@ -114,7 +115,7 @@ module _ (X : Kind) (m : Machine) (s : List ℕ) (size : ℕ) where
       let b = demand-says _ _ _ (a .1) in
       let c = demand-says _ _ _ (b .1) in
       let d = demand-says _ _ _ (c .1) in
-      record { fits = a .0; times = b .0; room = ltb-true _ _ (c .0); top = leb-true t limit (d .0) }
+      record { fits = a .0; times = b .0; room = ltb-true _ _ (c .0); top = leb-true t stepsMost (d .0) }
 
   -- ---- seek
 
@@ -138,7 +139,7 @@ module _ (X : Kind) (m : Machine) (s : List ℕ) (size : ℕ) where
   -- ---- the requirements of the parts of a call, from those of the call
 
   module _ (Fits : X .State → Type 0) (E : Sound X m s size Fits) (t : ℕ) (w : TimelineOf X) (ok : GoOk X size Fits t w) where
-    pub to-low : X .now (w .engine) + 0 ≤ limit
+    pub to-low : X .now (w .engine) + 0 ≤ stepsMost
     to-low = omega (arith, E .low (w .engine) (ok .rec .fits))
 
     pub to-loop : X .now (w .engine) ≤ t → LoopOk X size Fits t w
@@ -155,7 +156,7 @@ module _ (X : Kind) (m : Machine) (s : List ℕ) (size : ℕ) where
     back-loop r z =
         let b : List ℕ = slotOf size (slotFor t (w .times)) (w .store) in
         let p : ℕ = slotStep t (w .times) in
-        let l : p ≤ limit = omega (arith, back-step, ok .top) in
+        let l : p ≤ stepsMost = omega (arith, back-step, ok .top) in
         record {
           rec = record { fits = E .restored-fits b p (w .engine) r (ok .rec .fits) l z; shape = ok .rec .shape; room = ok .rec .room };
           below = omega (arith, back-step, E .restored-now b p (w .engine) r (ok .rec .fits) l z);

@@ -8,11 +8,12 @@ use lib.Dec.{leb, ltb, eqb}
 use borrow.Author.Tests.{leb-true, leb-false, eqb-true, eqb-false, lt-leb}
 use Rattle.notation.specs.Choice.{pick}
 use Rattle.notation.specs.Facts.Tests.{clash, by-test, pick-true, pick-false, pick-cases}
+use Rattle.notation.specs.Limits.{stepsMost}
 use Rattle.outcome.specs.declared.Refusal.the-variants as Why
 use Rattle.machine.specs.declared.Checked.{Checked}
 use Rattle.machine.specs.declared.Checked.the-variants.{Accepted, Refused}
 use Rattle.machine.specs.Model.Check.{demand, checkedOn}
-use Rattle.timeline_rule.specs.Model.Engine.{limit, Ops}
+use Rattle.timeline_rule.specs.Model.Engine.{Ops}
 use Rattle.timeline_rule.specs.Model.Timeline.{seek, forward, back, Reply, TimelineOver, due, timesOk, ended, thinned, recorded, recordDue, stopAt, stride, turned, advanceTo, gasFor, goTo, callCheck, onCheck, call}
 
 -- ---- a call by its target
@@ -27,9 +28,9 @@ module _ {Out : Type 0} (O : Ops Out) (w : TimelineOver O) where
   back-is n = refl
 
   -- all targets over 2^62 get the same refusal
-  module _ (t : ℕ) (l : limit < t) where
-    late : demand (leb t limit) Why.StepLimit Accepted ≡ Refused Why.StepLimit
-    late = pick-false (leb t limit) Accepted (Refused Why.StepLimit) (lt-leb t limit l)
+  module _ (t : ℕ) (l : stepsMost < t) where
+    late : demand (leb t stepsMost) Why.StepLimit Accepted ≡ Refused Why.StepLimit
+    late = pick-false (leb t stepsMost) Accepted (Refused Why.StepLimit) (lt-leb t stepsMost l)
 
     -- the check of such a target
     abbrev lateCheck : Checked
@@ -57,13 +58,13 @@ module _ {Out : Type 0} (O : Ops Out) (w : TimelineOver O) where
             (λ _. pick-cases (ltb (w .times .most) (O .slots (w .store))) (Refused Why.StepLimit) (Refused Why.StoreSize) Same (λ _. refl) (λ _. refl)) (λ _. refl)
 
   -- so the code need not compute p + n where it is over 2^62
-  pub forward-over : (n : ℕ) → limit < O .now (w .engine) + n → call O w (forward n) ≡ call O w (seek (limit + 1))
+  pub forward-over : (n : ℕ) → stepsMost < O .now (w .engine) + n → call O w (forward n) ≡ call O w (seek (stepsMost + 1))
   unfolding call
   forward-over n l =
       let t : ℕ = O .now (w .engine) + n in
       let x : Reply Out × TimelineOver O = goTo O (max t (w .times .first)) w in
-      let y : Reply Out × TimelineOver O = goTo O (max (limit + 1) (w .times .first)) w in
-      ap (λ r. onCheck O r w x) (check-late t l) ∙ (refused-late t l x y ∙ ap (λ r. onCheck O r w y) (sym (check-late (limit + 1) (omega arith))))
+      let y : Reply Out × TimelineOver O = goTo O (max (stepsMost + 1) (w .times .first)) w in
+      ap (λ r. onCheck O r w x) (check-late t l) ∙ (refused-late t l x y ∙ ap (λ r. onCheck O r w y) (sym (check-late (stepsMost + 1) (omega arith))))
 
 -- ---- the loop
 
@@ -94,8 +95,8 @@ module _ {Out : Type 0} (O : Ops Out) where
 -- all that the proofs of the code require of an engine (a part of Laws): an advance keeps the engine fitting and does not go back
 pub record Moves {Out : Type 0} (O : Ops Out) : Type 1 where
   pub Fits : O .State → Type 0
-  pub advance-fits : (n : ℕ) (s : O .State) → Fits s → O .now s + n ≤ limit → Fits (O .advance n s .1)
-  pub advance-climbs : (n : ℕ) (s : O .State) → Fits s → O .now s + n ≤ limit → O .now s ≤ O .now (O .advance n s .1)
+  pub advance-fits : (n : ℕ) (s : O .State) → Fits s → O .now s + n ≤ stepsMost → Fits (O .advance n s .1)
+  pub advance-climbs : (n : ℕ) (s : O .State) → Fits s → O .now s + n ≤ stepsMost → O .now s ≤ O .now (O .advance n s .1)
 
 module _ {Out : Type 0} {O : Ops Out} (E : Moves O) where
   -- after one turn the engine fits and has not gone back
@@ -103,7 +104,7 @@ module _ {Out : Type 0} {O : Ops Out} (E : Moves O) where
     pub fits : E .Fits (turned O t w .engine)
     pub climbs : O .now (w .engine) ≤ O .now (turned O t w .engine)
 
-  pub strides : (t : ℕ) (w : TimelineOver O) → E .Fits (w .engine) → O .now (w .engine) ≤ t → t ≤ limit → Strides t w
+  pub strides : (t : ℕ) (w : TimelineOver O) → E .Fits (w .engine) → O .now (w .engine) ≤ t → t ≤ stepsMost → Strides t w
   strides t w f l h = record {
     fits = E .advance-fits n v g small;
     climbs = subst (λ s. O .now s ≤ O .now (turned O t w .engine)) (record-engine O w) (E .advance-climbs n v g small);
@@ -118,11 +119,11 @@ module _ {Out : Type 0} {O : Ops Out} (E : Moves O) where
       g : E .Fits v
       g = subst (E .Fits) (sym (record-engine O w)) f
 
-      small : O .now v + n ≤ limit
+      small : O .now v + n ≤ stepsMost
       small = omega (arith, ap (O .now) (record-engine O w))
 
   -- any two amounts of gas that are enough give the same result
-  pub gas-enough : (g k t : ℕ) (w : TimelineOver O) → E .Fits (w .engine) → O .now (w .engine) ≤ t → t ≤ limit
+  pub gas-enough : (g k t : ℕ) (w : TimelineOver O) → E .Fits (w .engine) → O .now (w .engine) ≤ t → t ≤ stepsMost
       → t < g + O .now (w .engine) → t < k + O .now (w .engine) → advanceTo O g t w ≡ advanceTo O k t w
   unfolding advanceTo
   gas-enough zero k t w f l h a b = absurd (omega arith)
@@ -135,12 +136,12 @@ module _ {Out : Type 0} {O : Ops Out} (E : Moves O) where
       v = turned O t w
 
       on : (O .now (v .engine) < t) × ¬ (O .now (v .engine) ≡ O .now (w .engine)) → Strides t w
-          → (E .Fits (v .engine) → O .now (v .engine) ≤ t → t ≤ limit → t < g + O .now (v .engine) → t < k + O .now (v .engine) → advanceTo O g t v ≡ advanceTo O k t v)
+          → (E .Fits (v .engine) → O .now (v .engine) ≤ t → t ≤ stepsMost → t < g + O .now (v .engine) → t < k + O .now (v .engine) → advanceTo O g t v ≡ advanceTo O k t v)
           → advanceTo O g t v ≡ advanceTo O k t v
       on c r ih = ih (r .fits) (omega (arith, c .0)) h (omega (arith, c .1, r .climbs)) (omega (arith, c .1, r .climbs))
 
   -- one turn of the loop, with the gas of the contract. The loop's invariant: `advanceTo` from here gives what `advanceTo` gives from the start
-  pub turn-is : (t : ℕ) (w : TimelineOver O) → E .Fits (w .engine) → O .now (w .engine) ≤ t → t ≤ limit
+  pub turn-is : (t : ℕ) (w : TimelineOver O) → E .Fits (w .engine) → O .now (w .engine) ≤ t → t ≤ stepsMost
       → advanceTo O (gasFor O t w) t w ≡ pick (Done O t (turned O t w) (O .now (w .engine))) (stride O t (recordDue O w) .0, turned O t w)
       (advanceTo O (gasFor O t (turned O t w)) t (turned O t w))
   unfolding advanceTo

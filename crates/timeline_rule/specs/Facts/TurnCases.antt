@@ -10,12 +10,13 @@ use lib.Seq.{length-take-le}
 use borrow.Author.Tests.{le-leb, lt-leb, eq-eqb, ne-eqb, eqb-true, ltb-false}
 use Rattle.notation.specs.Choice.{pick}
 use Rattle.notation.specs.Facts.Tests.{clash, pick-cases, pick-true, pick-false}
+use Rattle.notation.specs.Limits.{stepsMost}
 use Rattle.outcome.specs.declared.Outcome.{Outcome}
 use Rattle.machine.specs.declared.Machine.{Machine}
 use Rattle.store_bytes.specs.Model.{slotCount, slotOf, putSlot}
 use Rattle.store_bytes.specs.Facts.Slots.{slot-inside, slot-part, slot-put}
 use Rattle.timeline_rule.specs.declared.Times.{Times}
-use Rattle.timeline_rule.specs.Model.Engine.{limit, Ops}
+use Rattle.timeline_rule.specs.Model.Engine.{Ops}
 use Rattle.timeline_rule.specs.Model.Timeline.{due, oneMore, halved, ended, thinned, recorded, recordDue, stride, turned, advanceTo, gasFor}
 use Rattle.timeline_rule.specs.Model.Due.{isDue, stopFor, thinTimes, thinStore, Thinned, TimesFit, RecordOk}
 use Rattle.timeline_rule.specs.Facts.DueCases.{double-fits}
@@ -26,7 +27,7 @@ use Rattle.timeline_rule.specs.Invariants.{timelineOf, Sound, Shape, Rec
 -- ---- the stride
 
 module _ (v : Times) (t p stop : ℕ) (stops : stop ≡ stopFor t v p) where
-  pub stride-fuel : p ≤ t → t ≤ limit → p + (stop - p) ≤ limit
+  pub stride-fuel : p ≤ t → t ≤ stepsMost → p + (stop - p) ≤ stepsMost
   stride-fuel l h = omega arith
 
 module _ (X : Kind) (m : Machine) (s : List ℕ) where
@@ -61,7 +62,7 @@ module _ (X : Kind) (m : Machine) (s : List ℕ) (size : ℕ) (Fits : X .State �
   pub rec-fit : (w : TimelineOf X) → RecOk X size Fits w → TimesFit (w .times)
   rec-fit w o = shape-fits (w .times) (o .shape)
 
-  pub rec-low : (w : TimelineOf X) → RecOk X size Fits w → X .now (w .engine) ≤ limit
+  pub rec-low : (w : TimelineOf X) → RecOk X size Fits w → X .now (w .engine) ≤ stepsMost
   rec-low w o = E .low (w .engine) (o .fits)
 
   -- the next slot lies inside the store

@@ -3,10 +3,6 @@ use Prim.Native.Nat.{ℕ}
 use mathlib.Core.Option.{Option}
 use Rattle.machine.specs.declared.Checked.{Checked}
 
--- the largest step count: 2^62
-abbrev pub limit : ℕ
-limit = 4611686018427387904
-
 -- `State` is the engine's value with its lent buffers; `Out` is the type of its answers
 pub record Ops (Out : Type 0) : Type 1 where
   pub State : Type 0

@@ -3,29 +3,26 @@ use Prim.Native.Nat.{ℕ}
 use mathlib.Core.Bool.{Bool, true, false}
 use mathlib.Core.Option.{Option}
 use mathlib.Core.List.{List}
+use lib.Dec.{eqb}
 use Rattle.outcome.specs.declared.Outcome.{Outcome}
-use Rattle.outcome.specs.declared.Outcome.the-variants.{Halted, OutOfFuel, NeverHalts, Stopped, Full}
+use Rattle.outcome.specs.Numbers.{outcomeNumber}
 use Rattle.machine.specs.declared.Machine.{Machine}
 use Rattle.machine.specs.declared.Checked.{Checked}
 use Rattle.store_bytes.specs.Model.{slotCount, slotOf, putSlot, moveSlot}
 use Rattle.timeline_rule.specs.Model.Engine.{Ops}
 use Rattle.timeline_rule.specs.Model.Timeline.{Reply, refused, answered, TimelineWith, Call, call, new}
 
--- the outcome of an advance: that of its run, or the never test's verdict where the run is out of fuel
-abbrev pub verdictOr : (ran verdict : Outcome) → Outcome
-verdictOr (OutOfFuel n) v = v
-verdictOr (Halted n q) v = Halted n q
-verdictOr (NeverHalts n p) v = NeverHalts n p
-verdictOr (Stopped n) v = Stopped n
-verdictOr (Full n) v = Full n
-
--- whether a run is out of fuel
+-- whether a run is out of fuel, by its outcome's number
 abbrev pub spent : Outcome → Bool
-spent (OutOfFuel n) = true
-spent (Halted n q) = false
-spent (NeverHalts n p) = false
-spent (Stopped n) = false
-spent (Full n) = false
+spent o = eqb (outcomeNumber o) 1
+
+-- the outcome of an advance: that of its run, or the never test's verdict where the run is out of fuel
+abbrev pub verdictIf : (spent : Bool) → (ran verdict : Outcome) → Outcome
+verdictIf true o v = v
+verdictIf false o v = o
+
+abbrev pub verdictOr : (ran verdict : Outcome) → Outcome
+verdictOr o v = verdictIf (spent o) o v
 
 pub record Kind : Type 1 where
   -- an engine's value with its lent buffers; the buffers lent to a fresh engine

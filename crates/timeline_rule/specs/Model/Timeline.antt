@@ -4,6 +4,7 @@ use mathlib.Core.Bool.{Bool, true}
 use mathlib.Core.Option.{Option, none, some}
 use lib.Dec.{leb, ltb, eqb}
 use Rattle.notation.specs.Choice.{pick, both}
+use Rattle.notation.specs.Limits.{stepsMost, intervalMost}
 use Rattle.outcome.specs.declared.Refusal.{Refusal}
 use Rattle.outcome.specs.declared.Refusal.the-variants as Why
 use Rattle.machine.specs.declared.Checked.{Checked}
@@ -11,7 +12,7 @@ use Rattle.machine.specs.declared.Checked.the-variants.{Accepted, Refused}
 use Rattle.machine.specs.Model.Check.{within, demand, checkedOn}
 use Rattle.store_bytes.specs.Model.{thinBy}
 use Rattle.timeline_rule.specs.declared.Times.{Times}
-use Rattle.timeline_rule.specs.Model.Engine.{limit, Ops}
+use Rattle.timeline_rule.specs.Model.Engine.{Ops}
 
 -- ---- a call, and its answer
 
@@ -48,7 +49,7 @@ newOk m k = both (within 1 512 m) (within 1 4294967296 k)
 unfoldable pub timesOk : Times → (steps : ℕ) → Bool
 timesOk t p =
     both (within 1 512 (t .most))
-    (both (within 1 9223372036854775808 (t .every)) (both (within 1 (t .most) (t .count)) (within (t .first) (due t) p)))
+    (both (within 1 intervalMost (t .every)) (both (within 1 (t .most) (t .count)) (within (t .first) (due t) p)))
 
 -- the refusals of a new timeline: "14 ..; 15 a store under m + 1 slots"; a call at step p has these, then "13 target over 2^62"
 abbrev pub firstCheck : (most every slots : ℕ) → Checked
@@ -57,7 +58,7 @@ firstCheck m k n = demand (newOk m k) Why.Settings (demand (ltb m n) Why.StoreSi
 abbrev pub laterCheck : Times → (steps slots target : ℕ) → Checked
 laterCheck t p n target =
     demand (timesOk t p) Why.Settings
-    (demand (ltb (t .most) n) Why.StoreSize (demand (leb target limit) Why.StepLimit Accepted))
+    (demand (ltb (t .most) n) Why.StoreSize (demand (leb target stepsMost) Why.StepLimit Accepted))
 
 -- "Going back restores slot (target - start) / interval, the last at most."
 abbrev pub slotFor : (target : ℕ) → Times → ℕ

@@ -4,25 +4,11 @@ use borrow.Author.Needs.{needs}
 use Rattle.capi.proofs.chain_questions.tm_chain_get.Statement.{statement}
 use Rattle.capi.proofs.chain_questions.tm_chain_get.Tie as tie
 
-machine-of-requires : tie.Need-machine-of-requires
-machine-of-requires c κs = search needs
-
-chain-of-requires : tie.Need-chain-of-requires
-chain-of-requires c κs = search needs
-
 get-requires : tie.Need-get-requires
 get-requires c κs = search needs
 
-put-got-requires : tie.Need-put-got-requires
-put-got-requires c κs = search needs
-
 returns : tie.Need-returns
-returns c =
-    let e = toZ-ofZ w64 (c .before .before .before .before .before .before .before .before .before .before .args .at) (c .before .before .before .before .before .before .before .before .before .before .fits .at) in
-    let g = rw e at (c .before .before .get .ensures) in
-    rw (← c .before .before .before .before .machine-of .ensures, ← c .before .before .before .chain-of .ensures, ← g) (c .put-got .ensures)
+returns c = rw (toZ-ofZ w64 (c .before .before .before .before .before .before .before .args .at) (c .before .before .before .before .before .before .before .fits .at)) at (c .get .ensures)
 
 pub tm-chain-get-spec : {M : Type 1} → statement M
-tm-chain-get-spec =
-    tie.close
-    (tie.spec machine-of-requires chain-of-requires get-requires put-got-requires returns)
+tm-chain-get-spec = tie.close (tie.spec get-requires returns)

@@ -4,25 +4,11 @@ use borrow.Author.Needs.{needs}
 use Rattle.capi.proofs.questions.tm_sim_get.Statement.{statement}
 use Rattle.capi.proofs.questions.tm_sim_get.Tie as tie
 
-machine-of-requires : tie.Need-machine-of-requires
-machine-of-requires c κs = search needs
-
-engine-of-requires : tie.Need-engine-of-requires
-engine-of-requires c κs = search needs
-
 get-requires : tie.Need-get-requires
 get-requires c κs = search needs
 
-put-got-requires : tie.Need-put-got-requires
-put-got-requires c κs = search needs
-
 returns : tie.Need-returns
-returns c =
-    let e = toZ-ofZ w64 (c .before .before .before .before .before .before .before .before .before .args .at) (c .before .before .before .before .before .before .before .before .before .fits .at) in
-    let g = rw e at (c .before .before .get .ensures) in
-    rw (← c .before .before .before .before .machine-of .ensures, ← c .before .before .before .engine-of .ensures, ← g) (c .put-got .ensures)
+returns c = rw (toZ-ofZ w64 (c .before .before .before .before .before .before .args .at) (c .before .before .before .before .before .before .fits .at)) at (c .get .ensures)
 
 pub tm-sim-get-spec : {M : Type 1} → statement M
-tm-sim-get-spec =
-    tie.close
-    (tie.spec machine-of-requires engine-of-requires get-requires put-got-requires returns)
+tm-sim-get-spec = tie.close (tie.spec get-requires returns)

@@ -4,34 +4,14 @@ use borrow.Author.Needs.{needs}
 use Rattle.capi.proofs.questions.tm_sim_window.Statement.{statement}
 use Rattle.capi.proofs.questions.tm_sim_window.Tie as tie
 
-machine-of-requires : tie.Need-machine-of-requires
-machine-of-requires c κs = search needs
-
-engine-of-requires : tie.Need-engine-of-requires
-engine-of-requires c κs = search needs
-
 window-requires : tie.Need-window-requires
 window-requires c κs = search needs
-
-put-checked-requires : tie.Need-put-checked-requires
-put-checked-requires c κs = search needs
 
 same-length : tie.Need-same-length
 same-length c = search needs
 
 returns : tie.Need-returns
-returns c =
-    let e = toZ-ofZ w64 (c .before .before .before .before .before .before .before .before .before .before .before .before .before .args .from) (c .before .before .before .before .before .before .before .before .before .before .before .before .before .fits .from) in
-    let w = rw e at (c .before .before .before .before .window .ensures .1) in
-    rw (← c .before .before .before .before .before .before .before .machine-of .ensures, ← c .before .before .before .before .before .before .engine-of .ensures, ← c .before .before .before .before .window .ensures .0) (c .put-checked .ensures .0, c .put-checked .ensures .1, w)
+returns c = rw (toZ-ofZ w64 (c .before .before .before .before .before .before .before .before .before .before .args .from) (c .before .before .before .before .before .before .before .before .before .before .fits .from)) at (c .before .before .window .ensures)
 
 pub tm-sim-window-spec : {M : Type 1} → statement M
-tm-sim-window-spec =
-    tie.close
-    (tie.spec
-    machine-of-requires
-    engine-of-requires
-    window-requires
-    put-checked-requires
-    same-length
-    returns)
+tm-sim-window-spec = tie.close (tie.spec window-requires same-length returns)

@@ -9,11 +9,11 @@ returns c = moved-tape-off _ _ _
 sub-head : tie.Need-sub-head
 sub-head c = search needs
 
-lower-requires : tie.Need-lower-requires
-lower-requires c κs = search needs
+min-requires : tie.Need-min-requires
+min-requires c κs = search needs
 
 returns-2 : tie.Need-returns-2
-returns-2 c = moved-tape-left _ _ (c .before .before .before .if1 .left) (c .before .lower .ensures)
+returns-2 c = moved-tape-left _ _ (c .before .before .before .if1 .left) (c .before .min .ensures)
 
 pub left-spec : {M : Type 1} → statement M
-left-spec = tie.close (tie.spec returns sub-head lower-requires returns-2)
+left-spec = tie.close (tie.spec returns sub-head min-requires returns-2)

@@ -6,11 +6,11 @@ use Rattle.sim_burst_wide.proofs.inner.right.Tie as tie
 add-head : tie.Need-add-head
 add-head c = search needs
 
-upper-requires : tie.Need-upper-requires
-upper-requires c κs = search needs
+max-requires : tie.Need-max-requires
+max-requires c κs = search needs
 
 returns : tie.Need-returns
-returns c = moved-tape-right _ _ (c .before .upper .ensures)
+returns c = moved-tape-right _ _ (c .before .max .ensures)
 
 pub right-spec : {M : Type 1} → statement M
-right-spec = tie.close (tie.spec add-head upper-requires returns)
+right-spec = tie.close (tie.spec add-head max-requires returns)

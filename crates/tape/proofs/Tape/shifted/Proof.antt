@@ -9,8 +9,8 @@ enum-told c = search needs
 sub-head : tie.Need-sub-head
 sub-head c = search not-left
 
-smaller-requires : tie.Need-smaller-requires
-smaller-requires c κs = search needs
+min-requires : tie.Need-min-requires
+min-requires c κs = search needs
 
 enum-told-2 : tie.Need-enum-told-2
 enum-told-2 c = search needs
@@ -18,8 +18,8 @@ enum-told-2 c = search needs
 add-head : tie.Need-add-head
 add-head c = search needs
 
-larger-requires : tie.Need-larger-requires
-larger-requires c κs = search needs
+max-requires : tie.Need-max-requires
+max-requires c κs = search needs
 
 enum-told-3 : tie.Need-enum-told-3
 enum-told-3 c = search needs
@@ -39,10 +39,10 @@ shifted-spec =
     (tie.spec
     enum-told
     sub-head
-    smaller-requires
+    min-requires
     enum-told-2
     add-head
-    larger-requires
+    max-requires
     enum-told-3
     returns
     returns-2

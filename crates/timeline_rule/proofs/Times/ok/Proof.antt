@@ -1,5 +1,6 @@
 use native.Mathlib.Omega.{arith}
 use Rattle.notation.specs.Facts.Tests.{tests, via}
+use Rattle.notation.specs.Limits.{intervalMost}
 use Rattle.timeline_rule.specs.Model.Timeline.{timesOk}
 use Rattle.timeline_rule.specs.Facts.DueCases.{within-low, ok-last}
 use borrow.Author.Needs.{needs}
@@ -32,7 +33,7 @@ unfolding timesOk
 returns-4 c = search (tests, via) depth 9
 
 due-requires : tie.Need-due-requires
-due-requires c κs = (omega arith, within-low _ 1 9223372036854775808 _ (c .before .before .before .before .before .within2 .ensures) (c .before .before .before .before .if2 .left))
+due-requires c κs = (omega arith, within-low _ 1 intervalMost _ (c .before .before .before .before .before .within2 .ensures) (c .before .before .before .before .if2 .left))
 
 returns-5 : tie.Need-returns-5
 unfolding timesOk

@@ -15,15 +15,15 @@ returns-2 c = search reach-one
 ahead-requires : tie.Need-ahead-requires
 ahead-requires c κs = search needs
 
-add-lower : tie.Need-add-lower
-add-lower c = omega (arith, c .before .before .before .before .before .pre .1, c .ahead .ensures, ahead-within (c .before .before .before .before .before .args .cur) (side (c .before .before .before .before .before .args .symbols .now) (c .before .before .before .before .before .args .lengths .now) (c .before .before .before .before .before .args .count)))
+add-min : tie.Need-add-min
+add-min c = omega (arith, c .before .before .before .before .before .pre .1, c .ahead .ensures, ahead-within (c .before .before .before .before .before .args .cur) (side (c .before .before .before .before .before .args .symbols .now) (c .before .before .before .before .before .args .lengths .now) (c .before .before .before .before .before .args .count)))
 
-lower-requires : tie.Need-lower-requires
-lower-requires c κs = search needs
+min-requires : tie.Need-min-requires
+min-requires c κs = search needs
 
 returns-3 : tie.Need-returns-3
-returns-3 c = reach-chain _ _ _ _ _ (c .before .before .before .if1 .left) (c .before .before .if2 .left) _ _ (c .before .ahead .ensures) (c .lower .ensures)
+returns-3 c = reach-chain _ _ _ _ _ (c .before .before .before .if1 .left) (c .before .before .if2 .left) _ _ (c .before .ahead .ensures) (c .min .ensures)
 
 pub reach-spec : {M : Type 1} → statement M
 reach-spec =
-    tie.close (tie.spec returns returns-2 ahead-requires add-lower lower-requires returns-3)
+    tie.close (tie.spec returns returns-2 ahead-requires add-min min-requires returns-3)

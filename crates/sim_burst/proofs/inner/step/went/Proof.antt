@@ -12,8 +12,8 @@ returns c = search step-out
 sub-to-2 : tie.Need-sub-to-2
 sub-to-2 c = search needs
 
-lower-requires : tie.Need-lower-requires
-lower-requires c κs = search needs
+min-requires : tie.Need-min-requires
+min-requires c κs = search needs
 
 returns-2 : tie.Need-returns-2
 returns-2 c = search step-left
@@ -27,8 +27,8 @@ returns-3 c = search step-out
 add-to : tie.Need-add-to
 add-to c = search needs
 
-upper-requires : tie.Need-upper-requires
-upper-requires c κs = search needs
+max-requires : tie.Need-max-requires
+max-requires c κs = search needs
 
 returns-4 : tie.Need-returns-4
 returns-4 c = search step-right
@@ -43,11 +43,11 @@ went-spec =
     sub-to
     returns
     sub-to-2
-    lower-requires
+    min-requires
     returns-2
     add-if4
     returns-3
     add-to
-    upper-requires
+    max-requires
     returns-4
     returns-5)

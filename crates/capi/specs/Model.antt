@@ -1,4 +1,0 @@
-pub mod Calls
-pub mod Chains
-pub mod Timelines
-pub mod ChainTimelines
