@@ -1,4 +1,4 @@
-"""Random listings for fuzz.py: good ones, changed ones, and heaps of parts. Everything is told by the random source given."""
+"""Random listings for fuzz.py: good ones, changed ones, and heaps of parts. The random source given decides everything."""
 
 NAMES = (b"tapes symbols states start", b"state read write move next", b"word", b"call number")
 CALLS = (b"seek", b"forward", b"back")

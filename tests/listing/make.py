@@ -5,7 +5,7 @@ Each input is described here. What must be printed is never taken from the port:
 given here by hand, and reader.py must name the same; rows are the Rust's engine's (expected.py).
 
     python3 make.py            writes the pairs and the list
-    python3 make.py --check    compares with what stands there; status 1 if anything differs
+    python3 make.py --check    compares with what is there; status 1 if anything differs
 """
 import pathlib
 import sys
@@ -80,7 +80,7 @@ TURNS_RIGHT = ["0 0 1 R 1", "1 0 1 R 0"]
 TURNS_LEFT = ["0 0 1 L 1", "1 0 1 L 0"]
 # Writes a one at each end of what it has written, by turns, on a tape of blanks.
 SWEEP = ["0 0 1 R 1", "0 1 1 L 0", "1 0 1 L 0", "1 1 1 R 1"]
-# Adds 1 for ever to a binary number whose lowest digit stands at 0; symbol 1 is the digit zero, 2 the digit one.
+# Adds 1 for ever to a binary number whose lowest digit is at 0; symbol 1 is the digit zero, 2 the digit one.
 COUNTER = ["0 0 2 R 1", "0 1 2 R 1", "0 2 1 L 0", "1 0 0 L 0", "1 1 1 R 1", "1 2 2 R 1"]
 
 
@@ -158,7 +158,7 @@ def machine_line():
     bad(2, "line 2 is empty", with_line(2, ""))
     bad(3, "line 3 is missing", up_to(2))
     bad(3, "line 3 has other names", with_line(3, "state read write next move"))
-    bad(3, "`word` stands at line 3", without(3).replace(b"\n0 0 1 R 1", b"\nword", 1))
+    bad(3, "`word` is line 3", without(3).replace(b"\n0 0 1 R 1", b"\nword", 1))
 
 
 def entry_lines():
@@ -193,7 +193,7 @@ def entry_lines():
 def word_line():
     bad(9, "`word` is the last line: the word line is missing", up_to(8))
     bad(9, "`word` is the last line, without its newline", up_to(8)[:-1])
-    bad(9, "the word line is missing, `call number` stands there", without(9))
+    bad(9, "the word line is missing, `call number` is there", without(9))
     bad(9, "word symbol 2 of 2", with_line(9, "1 0 2"))
     good("word symbols 0 and 1 of 2", with_line(9, "1 0 1"))
     good("a word of one blank", with_line(9, "0"))
@@ -300,7 +300,7 @@ def space():
     calls = [*seeks(1000, 10**5, 10**9), "back 10000", "forward 9999", "forward 2"]
     good("grows on both sides by turns, full in the end", listing("1 2 2 0", SWEEP, "", calls))
     calls = [f"seek {2**62}", "back 2048", f"forward {2**62 - 2031}", "back 2048", f"forward {2**62 - 2030}"]
-    good("after a row `full` the calls go on from where the engine stands", listing("1 2 2 0", TURNS_RIGHT, "", calls))
+    good("after a row `full` the calls go on from the step that the engine has reached", listing("1 2 2 0", TURNS_RIGHT, "", calls))
 
 
 def slot_boundaries():
@@ -366,7 +366,7 @@ The pairs and this list are made by `tests/listing/make.py`, where each input is
   each call (`tests/differential/src/bin/rows.rs`). What the Rust has not, lack of space at 4,096 cells and targets over
   2^62, is document 01's rule, as the differential test has it.
 
-A call list goes on from the step at which the engine stands, also after a row `full`. Every line printed ends in a newline, that
+A call list goes on from the step that the engine has reached, also after a row `full`. Every line printed ends in a newline, that
 of a refused listing too.
 
 | pair | what it shows | expected |

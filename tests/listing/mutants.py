@@ -95,7 +95,7 @@ def module(name, faults):
     """A module from a file's text with a fault in it."""
     text = (expected.HERE / name).read_text()
     for old, new in faults:
-        assert text.count(old) == 1, f"{name}: {old!r} stands {text.count(old)} times"
+        assert text.count(old) == 1, f"{name}: {old!r} occurs {text.count(old)} times"
         text = text.replace(old, new)
     made = types.ModuleType(name)
     sys.modules[name] = made  # dataclasses look there

@@ -31,7 +31,7 @@ use Rattle.rle.specs.Model.Records.{leftAnswer, leftInto, rightAnswer, rightInt
 use Rattle.rle_refines.specs.Meaning.{Stack, empty, configOf, ChainFits, leftEnd, rightEnd, Near, Alike}
 use Rattle.rle_refines.specs.Full.{height, Stacked}
 use Rattle.rle_refines.specs.Facts.Fits.{fits-holds, holds-fits, ends-near}
-use Rattle.demands.specs.Facts.ChainRun.{full-stands, full-there}
+use Rattle.demands.specs.Facts.ChainRun.{full-stays, full-there}
 use Rattle.demands.specs.FirstClaims.{TurnsAway, ofChain, ofAnswer, ofGot, ofExtent, ofCounted, ofListed}
 use Rattle.demands.specs.FirstTests.{chainNewTests, chainRunTests, chainAskTests, chainListTests}
 use Rattle.demands.specs.FirstSpace.{GoesOn, EndsFull, ChainFull}
@@ -115,6 +115,6 @@ chain-operations = record {
   fits = λ m σ. (fits-holds m σ, holds-fits m σ);
   near = ends-near;
   full = chain-full;
-  full-exact = λ m s b rule fuel σ c l v r. (full-there m s b rule fuel σ σ (σ .sim .steps), full-stands m s b fuel σ c rule l v r);
+  full-exact = λ m s b rule fuel σ c l v r. (full-there m s b rule fuel σ σ (σ .sim .steps), full-stays m s b fuel σ c rule l v r);
   full-onward = chain-onward;
 }

@@ -32,7 +32,7 @@ use Rattle.demands.specs.FirstTests.{plainNewTests, plainRunTests, plain
 use Rattle.demands.specs.FirstTimeline.{plainEngineTests}
 use Rattle.demands.specs.FirstSpace.{GoesOn, EndsFull, PlainFull}
 use Rattle.demands.specs.Facts.FirstPlain.{plain-new-turns, plain-engine-turns, plain-step-turns, plain-run-turns, plain-fast-turns, plain-get-turns, plain-extent-turns, plain-count-turns, plain-window-turns, plain-find-turns}
-use Rattle.demands.specs.Facts.FirstPlainSpace.{plain-full, plain-stands, plain-onward, plain-step-full, plain-step-stands}
+use Rattle.demands.specs.Facts.FirstPlainSpace.{plain-full, plain-stays, plain-onward, plain-step-full, plain-step-stays}
 
 pub record PlainOperations : Type 0 where
   -- ---- "A refusal carries its number from document 01 and changes no state, tape, run stack or store."
@@ -105,8 +105,8 @@ plain-operations = record {
   fits = λ m σ. (bare-fits m σ, fits-bare m σ);
   full = plain-full;
   fast-full = λ m s words b rule fuel σ τ n e. plain-full m s b rule fuel σ τ n (fast-done m s words rule fuel σ τ (Full n) e);
-  full-exact = plain-stands;
+  full-exact = plain-stays;
   full-onward = plain-onward;
   step-full = plain-step-full;
-  step-full-exact = plain-step-stands;
+  step-full-exact = plain-step-stays;
 }

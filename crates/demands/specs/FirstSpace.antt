@@ -25,7 +25,7 @@ pub record StopsFull (d : Table) (before after : Config) (t n : ℕ) (NextIsFull
   -- n is the number of steps counted, and `after` is the table machine's configuration after the steps made
   pub counted : n ≡ before .steps + made
   pub steps : after .steps ≡ n
-  pub stands : after ≡ run d made before
+  pub reached : after ≡ run d made before
   -- the next step is full by the engine's rule
   pub next : NextIsFull
 

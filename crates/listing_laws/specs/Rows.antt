@@ -13,8 +13,8 @@ use Rattle.sim_slots.specs.Model.Kind.{plainKind}
 use Rattle.timeline_laws.specs.Statement.{afterOn, heldOn, FreshList}
 use Rattle.sim_timeline_laws.specs.Meaning.{plainEngine}
 use Rattle.listing_reader.specs.Listing.{Sofar, tableIn, listing, asked}
-use Rattle.listing_rows.specs.Rows.{Row, row, rowOf, rowsOf, rowsOn, output}
-use Rattle.listing.specs.Output.{answerTo, blankCells, blankStore}
+use Rattle.listing_rows.specs.Rows.{Row, row, rowOf, rowsOf, output}
+use Rattle.listing.specs.Output.{answerTo}
 use Rattle.listing_laws.specs.Facts.Accepted.{asked-begins}
 
 -- the row of a call that is made on a timeline

@@ -12,7 +12,7 @@ ghost use Rattle.rle.specs.Model.Engine.{conf};
 ghost use Rattle.timeline_rule.specs.Model.Timeline.{recordDue};
 ghost use Rattle.timeline_rule.specs.Model.Kind.{opsOf};
 ghost use Rattle.store_bytes.specs.Model.{slotOf, putSlot};
-ghost use Rattle.timeline_rule.specs.Invariants.{RecOk, LoopOk, strideOf, wayOf, TurnSays, LoopInv};
+ghost use Rattle.timeline_rule.specs.Invariants.{RecOk, LoopOk, strideOf, wayOf, TurnSays};
 ghost use Rattle.rle_slots.specs.Model.Slots.{packOf};
 ghost use Rattle.rle_slots.specs.Model.Kind.{chainKind};
 ghost use Rattle.rle_timeline.specs.Model.{SaveAt, StrideAt, Fits, withLent, tl};

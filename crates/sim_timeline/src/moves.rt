@@ -6,7 +6,6 @@ use outcome::Refusal;
 use sim::Answer;
 use sim_slots::inner as engine;
 use sim_slots::inner::Found;
-use timeline_rule::Times;
 use timeline_rule::inner as sums;
 ghost use mathlib.Core.Path.{_≡_};
 ghost use Rattle.sim.specs.Model.Engine.{conf};

@@ -44,7 +44,7 @@ EntryOf m (Defined a) = ActionOf m a
 pub record LaidOut (m : Machine) (s : List ℕ) (i : ℕ) : Type 0 where
   pub entry : Entry
   pub of-machine : EntryOf m entry
-  pub stands : (j : ℕ) → j < 8 → byteAt s i j ≡ getD (entryBytes entry) j 0
+  pub written : (j : ℕ) → j < 8 → byteAt s i j ≡ getD (entryBytes entry) j 0
 
 -- the conditions on a table, each with the number of the refusal that is given where it fails
 abbrev pub Asked : Machine → List ℕ → ℕ → Type 0

@@ -1,6 +1,8 @@
 -- The table machine in the form that the timeline's proofs use, and its run from a configuration. Definitions only.
 use mathlib.Core.Path.{_≡_}
 use Prim.Native.Nat.{ℕ, zero, suc, _-_}
+use Rattle.outcome.specs.declared.Outcome.{Outcome}
+use Rattle.outcome.specs.Numbers.{outcomeNumber}
 
 -- f applied n times
 unfoldable pub iterate : {A : Type 0} → (A → A) → ℕ → A → A
@@ -37,3 +39,10 @@ run M c n = iterate (M .step) (n - M .steps c) c
 -- t, or the step at which the machine halts where that is less: the step count of the configuration at step t (`reach-runs` and `reach-halts` in Facts/Steps)
 abbrev pub reach : (M : Automaton) → M .Config → ℕ → ℕ
 reach M c t = M .steps (run M c t)
+
+-- the outcomes of runs that are full, and those that are never
+abbrev pub IsFull : Outcome → Type 0
+IsFull o = outcomeNumber o ≡ 4
+
+abbrev pub IsNever : Outcome → Type 0
+IsNever o = outcomeNumber o ≡ 2

@@ -12,7 +12,7 @@ use Rattle.timeline_rule.specs.Model.Timeline.{answered}
 use Rattle.timeline_rule.specs.Model.Kind.{opsFor}
 use Rattle.timeline_laws.specs.Automaton.{iterate}
 use Rattle.timeline_laws.specs.Laws.{Laws}
-use Rattle.timeline_laws.specs.Facts.TableRun.{machine}
+use Rattle.timeline_laws.specs.TableRun.{machine}
 use Rattle.timeline_laws.specs.Meaning.{EngineMeaning}
 
 -- the facts of the engine e

@@ -8,7 +8,7 @@ use Rattle.notation.specs.Choice.{pick}
 use Rattle.outcome.specs.declared.Outcome.{Outcome}
 use Rattle.machine.specs.declared.Machine.{Machine}
 use Rattle.timeline_rule.specs.Model.Engine.{Ops}
-use Rattle.timeline_rule.specs.Model.Timeline.{TimelineWith, TimelineOver, Reply, Call, call}
+use Rattle.timeline_rule.specs.Model.Timeline.{TimelineWith, Reply, Call, call}
 use Rattle.timeline_rule.specs.Model.Kind.{Kind, TimelineOf, opsFor}
 
 -- a store with a note for each slot

@@ -154,7 +154,7 @@ module _ (X : EngineMeaning) (m : Machine) (s : List ℕ) (c : Config) (e : X .k
     pub accepts : target p k ≤ 2 ^ 62 → (o : Outcome) × (r .0 ≡ answered o)
     -- "A call ends for lack of space exactly when a step on its way is full by its engine's rule."
     pub space : target p k ≤ 2 ^ 62 → ((n : ℕ) × (r .0 ≡ answered (Out.Full n))) ↔ ((j : ℕ) × (p ≤ j) × (j < goalIn m s c p k) × FullFrom j)
-    pub stands : (n : ℕ) → r .0 ≡ answered (Out.Full n) → Stuck (r .1) p (goalIn m s c p k) n
+    pub stops : (n : ℕ) → r .0 ≡ answered (Out.Full n) → Stuck (r .1) p (goalIn m s c p k) n
     -- "Each accepted call is answered with the verdict of the configuration that the engine then holds.": where it does not end for lack of space, that is the
     -- configuration after p′ steps, where p′ is the new p by the rule
     pub says : (o : Outcome) → r .0 ≡ answered o → ((n : ℕ) → ¬ (o ≡ Out.Full n))
@@ -174,7 +174,7 @@ module _ (X : EngineMeaning) (m : Machine) (s : List ℕ) (c : Config) (e : X .k
     -- "After the list the engine holds the table machine's configuration after p steps, p read from the list by document 01's rule."
     pub holds : heldOn X m s (afterOn X m s v ks) ≡ afterSteps m s c (placeAfter X m s c v ks)
     -- p is the engine's step count
-    pub stands : X .kind .now (afterOn X m s v ks .engine) ≡ placeAfter X m s c v ks
+    pub step-count : X .kind .now (afterOn X m s v ks .engine) ≡ placeAfter X m s c v ks
     -- the claims about each call of the list
     pub each : (before rest : List Call) (k : Call) → before ++ (k ∷ rest) ≡ ks → ResultAt v before (placeAfter X m s c v before) k
     -- the claims about any call after the list

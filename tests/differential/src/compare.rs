@@ -157,10 +157,10 @@ impl<'a> Pairing<'a> {
             return Ok(true);
         }
         let want = sizes.entry(table, state, read);
-        same!(entry_told(&out)?, want, "entry (by its number)");
+        same!(entry_in(&out)?, want, "entry (by its number)");
         let rust = oracle::lookup(machine.as_ref().expect("an accepted table has its machine"), state, read);
         if read[self.tapes()..].iter().all(|&a| a == 0) {
-            same!(entry_told(&out)?, rust, "entry (the Rust's)");
+            same!(entry_in(&out)?, rust, "entry (the Rust's)");
         } else {
             tally.departures[LACKING_SYMBOL] += u64::from(rust != want);
         }
@@ -239,8 +239,8 @@ impl<'a> Pairing<'a> {
         } else {
             // Some fuel more than the port used: enough to tell, and no endless run.
             let want = oracle::answer(oracle::run(sim, rule, fuel.min(made + 64)));
-            let told = |i: usize| want[i].is_none_or(|w| w == out[i]);
-            if !(0..5).all(told) {
+            let same = |i: usize| want[i].is_none_or(|w| w == out[i]);
+            if !(0..5).all(same) {
                 return Err(format!(
                     "answer [outcome, steps, state, pattern, move]: the port has {:?}, expected {want:?}",
                     &out[..5]
@@ -356,8 +356,8 @@ impl<'a> Pairing<'a> {
     }
 }
 
-/// An entry as `out` tells it: next state, writes, moves; none leaves all but `out[0]` as it was.
-pub fn entry_told(out: &Out) -> Result<Option<[u64; 7]>, Difference> {
+/// An entry as `out` gives it: next state, writes, moves; none leaves all but `out[0]` as it was.
+pub fn entry_in(out: &Out) -> Result<Option<[u64; 7]>, Difference> {
     same!(out[0] > 1, false, "out[0] = {} is 0 or 1", out[0]);
     if out[0] == 0 {
         same!(out[1..], OUT[1..], "out past an undefined entry");

@@ -61,8 +61,8 @@ impl Case {
             let (mut out, want) = (OUT, oracle::symbol_for(&machine, char_of(glyph)));
             same!(port::symbol_for(&self.glyphs, *glyph, &mut out), 0, "symbol_for {glyph}: result");
             same!(out[0] > 1, false, "symbol_for {glyph}: out[0] = {} is 0 or 1", out[0]);
-            let told = if out[0] == 0 { 1 } else { 2 };
-            same!(out[told..], OUT[told..], "symbol_for {glyph}: the rest of out");
+            let used = if out[0] == 0 { 1 } else { 2 };
+            same!(out[used..], OUT[used..], "symbol_for {glyph}: the rest of out");
             same!((out[0] == 1).then_some(out[1]), want.map(u64::from), "symbol_for {glyph}");
             symbols.extend(want);
             tally.questions += 1;

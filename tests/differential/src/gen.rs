@@ -307,7 +307,7 @@ pub fn lookup(rng: &mut Rng, sizes: &Sizes) -> Act {
     Act::Lookup { state, read }
 }
 
-/// So many random calls. `steps` is about where the engine stands.
+/// So many random calls. `steps` is about the step that the engine has reached.
 pub fn acts(rng: &mut Rng, sizes: &Sizes, count: u64, steps: u64) -> Vec<Act> {
     let one = |rng: &mut Rng| {
         let (rule, fuel) = (rule(rng, sizes.states), fuel(rng, steps));

@@ -2,7 +2,7 @@
 //! the port must turn away, and with which number. Nothing here is taken from the Rust (which
 //! refuses nothing) or from `mock.rs`.
 
-/// The four numbers that stand before a table.
+/// The four numbers that come before a table.
 #[derive(Clone, Copy, Debug, PartialEq, Eq)]
 pub struct Sizes {
     pub tapes: u64,

@@ -3,7 +3,7 @@
 extern crate alloc;
 
 // The oracle: eight files of the customer's, unchanged, as modules of this crate. They say
-// `crate::symbol` and so on, so they must stand at the root; their `pub(crate)` fields are then
+// `crate::symbol` and so on, so they must be at the root; their `pub(crate)` fields are then
 // in reach of `oracle.rs`.
 include!(concat!(env!("OUT_DIR"), "/oracle_modules.rs"));
 mod builder;
@@ -12,6 +12,7 @@ pub mod case;
 pub mod chain;
 pub mod compare;
 pub mod damage;
+pub mod document_cases;
 pub mod encoder;
 #[cfg(feature = "mock")]
 pub mod faults;
@@ -33,4 +34,3 @@ pub mod runner;
 pub mod runs;
 pub mod tally;
 pub mod timeline;
-pub mod told;

@@ -107,7 +107,7 @@ impl Machine<'_> {
                 return false;
             }
         }
-        // The moves of lacking tapes are all N: what stands above the present ones is 2 or 2 + 3 * 2.
+        // The moves of lacking tapes are all N: what is above the present ones is 2 or 2 + 3 * 2.
         let lacking = match self.tapes {
             1 => e[6] / 3 == 8,
             2 => e[6] / 9 == 2,
@@ -234,7 +234,7 @@ fn is_input(flags: &[u8], symbol: u8) -> bool {
     }
 }
 
-/// One tape's numbers; the cells stand apart.
+/// One tape's numbers; the cells are kept apart.
 #[derive(Clone, Copy, Default)]
 pub(crate) struct Tape {
     len: usize,
@@ -667,7 +667,7 @@ pub(crate) fn tell(outcome: &Outcome, state: u16, steps: u64, out: &mut [u64; 8]
     out[2..5].copy_from_slice(&parts);
 }
 
-/// What a question is asked of: the tape, its cells and the machine's number of symbols.
+/// What a question is about: the tape, its cells and the machine's number of symbols.
 fn question<'a>(
     sizes: [u64; 4],
     table: &[u8],

@@ -1,5 +1,5 @@
 //! The way into the oracle: fills a `Machine` from the port's table, sets a `Simulator` from an
-//! engine value, and reads everything back. It stands in the oracle's crate for the sake of the
+//! engine value, and reads everything back. It is in the oracle's crate for the sake of the
 //! `pub(crate)` fields.
 
 use std::rc::Rc;

@@ -3,7 +3,7 @@
 use std::fmt;
 
 use crate::case::Trial;
-use crate::compare::entry_told;
+use crate::compare::entry_in;
 use crate::generate::Rng;
 use crate::law::word_of;
 use crate::runner::Runner;
@@ -38,7 +38,7 @@ fn parts(word: u64) -> Result<(), Difference> {
     same!(out[7..], OUT[7..], "the rest of out");
     let mut out = OUT;
     same!(port::packed_entry(word, &mut out), 0, "the entry's result");
-    same!(entry_told(&out)?, (want[0] == 1).then_some(action), "entry [next, writes, moves]");
+    same!(entry_in(&out)?, (want[0] == 1).then_some(action), "entry [next, writes, moves]");
     Ok(())
 }
 

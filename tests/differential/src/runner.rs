@@ -11,14 +11,14 @@ use crate::tally::Tally;
 use crate::timeline::facts;
 use crate::timeline::kind::{OnCells, OnRuns};
 use crate::timeline::runs as timeline;
-use crate::{damage, encoder, large, limits, named, packed, runs, told};
+use crate::{damage, document_cases, encoder, large, limits, named, packed, runs};
 
 /// A kind of run: its name, what it does, and how.
 pub type Kind = (&'static str, &'static str, fn(&mut Runner));
 
 /// All kinds, in the order in which they run.
 pub const KINDS: [Kind; 45] = [
-    ("cases", "document 01's own cases, with the answers written there", told::cases),
+    ("cases", "document 01's own cases, with the answers written there", document_cases::cases),
     ("named", "the smallest input of each named departure, on both sides", named::departures),
     ("packed", "every part of a packed word, on any word; the word of any action, with any stride", packed::words),
     ("lookup", "entries for every state and symbols, also ones that the machine lacks", runs::lookups),

@@ -3,10 +3,10 @@
 use std::rc::Rc;
 
 use crate::case::{Act, Asking, Begin, Case, NO_RULE, Subject, Words};
+use crate::document_cases::Lone;
 use crate::generate::{self, Rng, entry, one_tape};
 use crate::law::{MAX_STEPS, Sizes};
 use crate::runner::Runner;
-use crate::told::Lone;
 
 /// A case of the usual form.
 pub fn case_of(subject: &Rc<Subject>, begin: Begin, acts: Vec<Act>, asking: Asking, dirt: u64) -> Case {

@@ -77,7 +77,7 @@ impl Tally {
     }
 }
 
-/// A difference, told in words.
+/// A difference, in words.
 pub type Difference = String;
 
 /// Fails with a message if the two are not equal.
@@ -121,5 +121,5 @@ pub fn judge(
     Ok(false)
 }
 
-/// What stands in `out` before a call: a number that no answer is.
+/// What `out` holds before a call: a number that no answer is.
 pub const OUT: Out = [7_777_777_777_777_777_777; 8];

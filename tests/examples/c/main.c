@@ -25,7 +25,7 @@ static uint64_t left_lengths[16], right_lengths[16];
 
 static uint64_t out[8];
 
-/* Prints what a call answered: its refusal, or the outcome that stands in `out`. */
+/* Prints what a call answered: its refusal, or the outcome that `out` holds. */
 static void tell(const char *call, uint8_t refusal)
 {
     static const char *const outcomes[] = {"halted", "out of fuel", "never halts, seen", "stopped", "full"};

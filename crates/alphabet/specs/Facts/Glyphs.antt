@@ -8,7 +8,7 @@ use native.Mathlib.Decide.{decLt}
 use native.Mathlib.Omega.{arith}
 use borrow.Author.Tests.{lt-ltb, ltb-true, eqb-true, eqb-false, eq-eqb, ne-eqb, not-true}
 use lib.Dec.{eqb}
-use lib.ListN.{length, getD}
+use lib.ListN.{getD}
 use Rattle.notation.specs.Facts.Tests.{clash, by-test, pick-cases, both-split, both-true}
 use Rattle.symbol.specs.Kinds.{symbolOf}
 use Rattle.outcome.specs.declared.Refusal.the-variants as Why

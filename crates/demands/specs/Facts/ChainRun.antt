@@ -169,9 +169,9 @@ module _ (m : Machine) (s : List ℕ) (bytes : Bytes s) (fuel : ℕ) (σ : Conf)
         by q (P.lacks-place a e u l r h) = sym (run-ends (task m s true rule) fuel σ _ q)
         by q (P.macro-steps a n e u r h x) = absurd (not-full m (tableOf m s) σ (passed .0 .fits) a e h g)
 
-    pub full-stands : ChainFull m s σ → runAnswer m s rule fuel σ ≡ given σ (Ans.Done (Full (σ .sim .steps)))
+    pub full-stays : ChainFull m s σ → runAnswer m s rule fuel σ ≡ given σ (Ans.Done (Full (σ .sim .steps)))
     unfolding runAnswer
-    full-stands g = ap (λ c. runOn c σ (runOf (task m s true rule) fuel σ)) accepted ∙ ap (λ (e : End). given (e .at) (Ans.Done (e .outcome))) (full-ends g)
+    full-stays g = ap (λ c. runOn c σ (runOf (task m s true rule) fuel σ)) accepted ∙ ap (λ (e : End). given (e .at) (Ans.Done (e .outcome))) (full-ends g)
 
   -- ---- without the never test and a stop rule
 

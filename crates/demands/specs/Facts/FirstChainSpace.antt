@@ -25,7 +25,7 @@ use Rattle.rle_refines.specs.Meaning.{configOf, Alike}
 use Rattle.rle_refines.specs.Statement.{Answers, verdict, halted, spent, stopped, full, Refines}
 use Rattle.rle_refines.specs.Operations.{RunHolds}
 use Rattle.rle_refines.specs.Facts.Operations.{run-says, run-holds}
-use Rattle.demands.specs.Facts.ChainRun.{not-full-verdict, full-stands, full-there, cut-same}
+use Rattle.demands.specs.Facts.ChainRun.{not-full-verdict, full-stays, full-there, cut-same}
 use Rattle.demands.specs.FirstSpace.{GoesOn, EndsFull, ChainFull}
 use Rattle.demands.specs.Facts.FirstSpace.{fuel-verdict}
 
@@ -42,14 +42,14 @@ module _ (m : Machine) (s : List ℕ) (bytes : Bytes s) where
     ended q (spent t h e) = absurd (clash refl t)
     ended q (stopped a l h u r) = let z : _≡_ {A = ℕ} 0 1 = cc in absurd (omega arith)
     ended q (full a l h u r g) =
-        let stand : τ .sim .steps ≡ n = cc in
+        let count-is : τ .sim .steps ≡ n = cc in
         record {
           stops = record {
             made = ran .made;
             within = omega (arith, l);
-            counted = sym stand ∙ ran .went .counted;
-            steps = stand;
-            stands = ran .went .holds;
+            counted = sym count-is ∙ ran .went .counted;
+            steps = count-is;
+            reached = ran .went .holds;
             next = full-there m s bytes rule fuel σ τ n done;
           };
           going = u refl;
@@ -96,6 +96,6 @@ module _ (m : Machine) (s : List ℕ) (bytes : Bytes s) where
     pub chain-onward : (ω : Conf) × (runAnswer m s rule (a + b) σ ≡ given ω (Ans.Done (Full n))) × Alike τ ω
     chain-onward =
         let g = going-on refl (held .refines .answers) in
-        let stood : runAnswer m s rule b τ ≡ given τ (Ans.Done (Full (τ .sim .steps))) = full-stands m s bytes b τ again-accepted rule more (g .0) unruled next in
-        let p = cut-same m s bytes rule a b σ τ τ (whole .at) n (Full (τ .sim .steps)) (whole .outcome) done stood whole-is in
+        let stayed : runAnswer m s rule b τ ≡ given τ (Ans.Done (Full (τ .sim .steps))) = full-stays m s bytes b τ again-accepted rule more (g .0) unruled next in
+        let p = cut-same m s bytes rule a b σ τ τ (whole .at) n (Full (τ .sim .steps)) (whole .outcome) done stayed whole-is in
         (whole .at, whole-is ∙ ap (λ (o : Outcome). given (whole .at) (Ans.Done o)) (sym (p .0) ∙ ap Full (g .1)), p .1)

@@ -86,14 +86,14 @@ module _ (m : Machine) (s : List ℕ) (bytes : Bytes s) where
     bare-full q (spent t h e) = absurd (clash refl t)
     bare-full q (stopped j l h) = let z : _≡_ {A = ℕ} 0 1 = cc in absurd (omega arith)
     bare-full q (full a l e u r) =
-        let stand : bareOf m τ .sim .steps ≡ n = cc in
+        let count-is : bareOf m τ .sim .steps ≡ n = cc in
         record {
           stops = record {
             made = ran .refines .made;
             within = omega (arith, l);
-            counted = sym stand ∙ ran .refines .went .counted;
-            steps = stand;
-            stands = ran .refines .went .holds;
+            counted = sym count-is ∙ ran .refines .went .counted;
+            steps = count-is;
+            reached = ran .refines .went .holds;
             next = lacks-room τ (run-says m s fuel σ (run-accepted m s rule fuel σ τ (Full n) done) .0 .table) (bare-fits m τ (ran .back .fits)) a
                 (sym (ap (entry (tableOf m s)) (config-bare m τ)) ∙ e) r;
           };
@@ -117,15 +117,15 @@ module _ (m : Machine) (s : List ℕ) (bytes : Bytes s) where
       (ap (λ (y : Conf). roomyOf y (x .0)) (sym q) ∙ some-lacks m s (accepted-table m s bytes c) σ (subst⁻¹ (EngineFits m) q f) (x .0) h g) fuel
 
   module _ (rule : StopRule) (fuel : ℕ) (σ : Conf) (accepted : runCheck m s fuel σ ≡ Accepted) (more : 0 < fuel) (going : GoesOn m (tableOf m s) (configOf m σ)) where
-    stands-full : PlainFull m s σ → runAnswer m s rule fuel σ ≡ given σ (Ans.Done (Full (σ .sim .steps)))
+    stays-full : PlainFull m s σ → runAnswer m s rule fuel σ ≡ given σ (Ans.Done (Full (σ .sim .steps)))
     unfolding bareSim
-    stands-full g =
+    stays-full g =
         run-is m s rule fuel σ accepted
         ∙ ap (ranBack m σ) (ends-full rule fuel (bareOf m σ) σ (run-says m s fuel σ accepted .0 .table) more (bare-fits m σ (run-says m s fuel σ accepted .0 .fits)) refl (subst (GoesOn m (tableOf m s)) (sym (config-bare m σ)) going) g)
         ∙ ap (λ (x : Conf). given x (Ans.Done (Full (σ .sim .steps)))) (back-bare m σ)
 
-    pub plain-stands : (runAnswer m s rule fuel σ ≡ given σ (Ans.Done (Full (σ .sim .steps)))) ↔ PlainFull m s σ
-    plain-stands = (λ e. plain-full rule fuel σ σ (σ .sim .steps) e .stops .next, stands-full)
+    pub plain-stays : (runAnswer m s rule fuel σ ≡ given σ (Ans.Done (Full (σ .sim .steps)))) ↔ PlainFull m s σ
+    plain-stays = (λ e. plain-full rule fuel σ σ (σ .sim .steps) e .stops .next, stays-full)
 
   -- ---- more fuel does not go past a full step
 
@@ -200,8 +200,8 @@ module _ (m : Machine) (s : List ℕ) (bytes : Bytes s) where
 
   -- the next step is full exactly where the step answers full and leaves the engine and every cell as they were
   module _ (σ : Conf) (accepted : runCheck m s 1 σ ≡ Accepted) where
-    step-stands : PlainFull m s σ → stepAnswer m s σ ≡ stepGiven σ (StepAns.Done Step.Full)
-    step-stands g =
+    step-stays : PlainFull m s σ → stepAnswer m s σ ≡ stepGiven σ (StepAns.Done Step.Full)
+    step-stays g =
         let x = full-act m s σ g in
         let p = run-says m s 1 σ accepted .0 in
         let h : entry (tableOf m s) (configOf m (bareOf m σ)) ≡ Defined (x .0) = ap (entry (tableOf m s)) (config-bare m σ) ∙ x .1 in
@@ -209,5 +209,5 @@ module _ (m : Machine) (s : List ℕ) (bytes : Bytes s) where
         ∙ ap (stepBack m σ) (full-once m s (bareOf m σ) (bare-fits m σ (p .fits)) (x .0) h (some-lacks m s (accepted-table m s bytes (p .table)) σ (bare-fits m σ (p .fits)) (x .0) h g))
         ∙ ap (λ (x : Conf). stepGiven x (StepAns.Done Step.Full)) (back-bare m σ)
 
-    pub plain-step-stands : (stepAnswer m s σ ≡ stepGiven σ (StepAns.Done Step.Full)) ↔ PlainFull m s σ
-    plain-step-stands = (λ e. plain-step-full σ σ e .1, step-stands)
+    pub plain-step-stays : (stepAnswer m s σ ≡ stepGiven σ (StepAns.Done Step.Full)) ↔ PlainFull m s σ
+    plain-step-stays = (λ e. plain-step-full σ σ e .1, step-stays)

@@ -1,16 +1,11 @@
 -- The plain engine's rule of a full step, and the tests of its run and its step. Assumes nothing.
 use mathlib.Core.Path.{_≡_, refl, ap, _∙_, subst, subst⁻¹}
-use mathlib.Core.Bool.{Bool, true, false}
+use mathlib.Core.Bool.{false}
 use mathlib.Core.List.{List}
-use Prim.Native.Nat.{ℕ, suc, _+_, _*_, _≤_, _<_}
+use Prim.Native.Nat.{ℕ, suc}
 use native.Mathlib.Omega.{arith}
-use borrow.Author.Tests.{eqb-true, eq-eqb, leb-true, leb-false, lt-leb, ltb-true, ltb-false, lt-ltb}
-use lib.Dec.{leb}
-use lib.ListN.{length}
-use Rattle.notation.specs.Choice.{pick, both}
-use Rattle.notation.specs.Facts.Tests.{clash, by-test, both-true, pick-cases, pick-true, pick-false}
-use Rattle.symbol.specs.declared.Dir.{Dir}
-use Rattle.symbol.specs.declared.Dir.the-variants.{L, R, N}
+use Rattle.notation.specs.Choice.{pick}
+use Rattle.notation.specs.Facts.Tests.{clash, by-test, pick-cases, pick-false}
 use Rattle.outcome.specs.declared.Outcome.{Outcome}
 use Rattle.outcome.specs.declared.Outcome.the-variants.{OutOfFuel}
 use Rattle.outcome.specs.declared.Status.the-variants as Step
@@ -18,20 +13,16 @@ use Rattle.machine.specs.declared.Machine.{Machine}
 use Rattle.machine.specs.declared.Action.{Action}
 use Rattle.machine.specs.declared.Entry.{Entry}
 use Rattle.machine.specs.declared.Entry.the-variants.{Defined}
-use Rattle.table_laws.specs.WellFormed.{ActionOf}
 use Rattle.table_machine.specs.TableMachine.{Table, Config, entry, outOfFuelAt, Verdict, halts, stays, walks, goes}
 use Rattle.table_machine.specs.Tables.{tableOf, TableOf}
 use Rattle.table_machine.specs.Facts.Run.{not-defined}
 use Rattle.table_machine.specs.Facts.Verdict.{verdict-unique}
-use Rattle.tape.specs.declared.Tape.{Tape}
-use Rattle.tape_cells.specs.Facts.Growth.{extra-none, none-extra}
-use Rattle.tape.specs.Model.Moves.{Held, held, noTape, leaves, roomFor}
 use Rattle.run_rules.specs.declared.StopRule.the-variants as Rule
 use Rattle.run_checks.specs.declared.inner.look.Look.{Look}
 use Rattle.run_checks.specs.declared.inner.look.Look.the-variants.{Halt, Never, Go}
-use Rattle.sim.specs.Model.Engine.{Task, task, Conf, End, onLook, haltedEnd, neverEnd, fullEnd, stoppedEnd, matches, lookWith, roomsOf, roomyOf, stepOf, runWith, runOf, Once, once, onceOf}
-use Rattle.sim.specs.Model.Operations.{bareSim, bareOf}
-use Rattle.sim_refines.specs.Meaning.{has, configOf, FitsIf, EngineFits}
+use Rattle.sim.specs.Model.Engine.{Task, task, Conf, End, onLook, haltedEnd, neverEnd, fullEnd, stoppedEnd, matches, lookWith, roomyOf, stepOf, runWith, runOf, Once, once, onceOf}
+use Rattle.sim.specs.Model.Operations.{bareOf}
+use Rattle.sim_refines.specs.Meaning.{configOf, EngineFits}
 use Rattle.sim_refines.specs.Statement.{tableIn, heldBy, Judged, Sees, no-entry, loops, goes-on}
 use Rattle.sim_refines.specs.Facts.Look.{look-sees}
 use Rattle.sim_timeline_laws.specs.Meaning.{meanOf, NoRoom}

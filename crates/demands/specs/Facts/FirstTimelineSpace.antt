@@ -120,7 +120,7 @@ module _ (X : Kind) (M : Meaning X) (m : Machine) (s : List ℕ) (E : Engine X M
           within = omega (arith, E .now-is e, f .0);
           counted = f .1 ∙ a .counted ∙ ap (λ k. k + a .made) (E .now-is e);
           steps = sym (E .now-is e′) ∙ sym (f .1);
-          stands = a .holds;
+          reached = a .holds;
           next = f .2;
         }
 
@@ -130,7 +130,7 @@ module _ (X : Kind) (M : Meaning X) (m : Machine) (s : List ℕ) (E : Engine X M
       within = omega (arith, b .within, a .counted, E .now-is e, E .now-is e′);
       counted = omega (arith, b .counted, a .counted, E .now-is e, E .now-is e′);
       steps = b .steps;
-      stands = b .stands ∙ ap (run (tableOf m s) (b .made)) (a .holds) ∙ sym (run-add (tableOf m s) (a .made) (b .made) (M .config m e));
+      reached = b .reached ∙ ap (run (tableOf m s) (b .made)) (a .holds) ∙ sym (run-add (tableOf m s) (a .made) (b .made) (M .config m e));
       next = b .next;
     }
 

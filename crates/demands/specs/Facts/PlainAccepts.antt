@@ -132,7 +132,7 @@ module _ (m : Machine) (s : List ℕ) (σ : Conf) (t : PlainTaken m s σ) where
       word-at i h =
           let n : length s ≡ 8 * entryCount m = t .table 5 in
           let l : LaidOut m s i = t .table 6 i h in
-          p .each i (omega (arith, count-is)) l ∙ ap (λ e. packWord e (m .symbols)) (sym (entry-read s i (l .entry) (omega arith) (l .stands)))
+          p .each i (omega (arith, count-is)) l ∙ ap (λ e. packWord e (m .symbols)) (sym (entry-read s i (l .entry) (omega arith) (l .written)))
 
       words-pass : wordsRight m s words ≡ true
       unfolding wordsRight
@@ -195,6 +195,6 @@ module _ (m : Machine) (s : List ℕ) (t : WellFormed m s) (one : m .tapes ≡ 1
     each = λ i h l.
         let n : length s ≡ 8 * entryCount m = t 5 in
         let g : i < entryCount m = omega (arith, entries) in
-        packed-table-holds m s t one out enough i g ∙ ap (λ e. packWord e (m .symbols)) (entry-read s i (l .entry) (omega arith) (l .stands));
+        packed-table-holds m s t one out enough i g ∙ ap (λ e. packWord e (m .symbols)) (entry-read s i (l .entry) (omega arith) (l .written));
     rest = λ i h. packed-table-rest m s t one out enough i (omega (arith, entries));
   }

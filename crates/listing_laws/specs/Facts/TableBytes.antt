@@ -52,7 +52,7 @@ module _ (x : Sofar) (k : Kept x) (j : ℕ) where
       let o : LaidOut (x .machine) (x .table) (j / 8) = k .laid (j / 8) (omega arith) in
       let p : 8 * (j / 8) + j % 8 ≡ j = omega arith in
       let r : j % 8 < 8 = omega arith in
-      let q : getD (tableIn x) j 0 ≡ getD (entryBytes (o .entry)) (j % 8) 0 = getD-take n (x .table) j 0 h ∙ ap (λ i. getD (x .table) i 0) (sym p) ∙ o .stands (j % 8) r in
+      let q : getD (tableIn x) j 0 ≡ getD (entryBytes (o .entry)) (j % 8) 0 = getD-take n (x .table) j 0 h ∙ ap (λ i. getD (x .table) i 0) (sym p) ∙ o .written (j % 8) r in
       subst (λ y. y < 256) (sym q) (entry-small (x .machine) (k .good .few-symbols) (k .good .few-states) (o .entry) (o .of-machine) (j % 8) r)
 
   outside : n ≤ j → getD (tableIn x) j 0 < 256

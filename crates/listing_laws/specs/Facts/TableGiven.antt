@@ -31,7 +31,7 @@ use Rattle.listing_reader.specs.declared.Due.{Due}
 use Rattle.listing_reader.specs.declared.Due.the-variants.{Names, Numbers, Columns, Entries, Word, Heading, Calls}
 use Rattle.listing_reader.specs.Listing.{Sofar, tableIn, nothing, Next, on, bad, line, refused, asked, atEnd, onNext, readFrom, listing}
 use Rattle.listing_reader.specs.Facts.Accepted.{Kept, asked-kept, some-cases}
-use Rattle.listing_laws.specs.EntryLines.{machineText, entryText, Gives, GivesTable}
+use Rattle.listing_laws.specs.EntryLines.{machineText, Gives, GivesTable}
 use Rattle.listing_laws.specs.Facts.Text.{same-is}
 use Rattle.listing_laws.specs.Facts.FilledTable.{entry-text, machine-text, action-is, number-is, Filled, made, left}
 
@@ -218,10 +218,10 @@ module _ (x : Sofar) (k : Kept x) (q a : ℕ) (h : q < x .machine .states) (g : 
 
   pub table-at : (e : Entry) → ((j : ℕ) → j < 8 → byteAt (x .table) at j ≡ getD (entryBytes e) j 0) → tableOf (x .machine) (tableIn x) q a 0 0 ≡ e
   unfolding tableOf
-  table-at e stands =
+  table-at e written =
       ap (entryAt (tableIn x)) number-at
       ∙ entry-read (tableIn x) at e (omega (arith, inside, long))
-      (λ j l. getD-take (8 * (x .machine .states * x .machine .symbols)) (x .table) (8 * at + j) 0 (omega (arith, inside)) ∙ stands j l)
+      (λ j l. getD-take (8 * (x .machine .states * x .machine .symbols)) (x .table) (8 * at + j) 0 (omega (arith, inside)) ∙ written j l)
 
 -- before the first line no entry is defined
 blank-at : (p j : ℕ) → p < 4096 → j < 8 → getD (nothing .table) p 0 ≡ getD (entryBytes Undefined) j 0

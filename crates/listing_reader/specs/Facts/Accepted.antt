@@ -173,7 +173,7 @@ module _ (x : Sofar) (k : Kept x) where
       record {
         entry = old .entry;
         of-machine = old .of-machine;
-        stands = λ j l. getD-take (8 * (x .machine .states * x .machine .symbols)) (x .table) (8 * i + j) 0 (omega arith) ∙ old .stands j l;
+        written = λ j l. getD-take (8 * (x .machine .states * x .machine .symbols)) (x .table) (8 * i + j) 0 (omega arith) ∙ old .written j l;
       }
   kept-formed (suc (suc (suc (suc (suc (suc (suc n))))))) = tt
 

@@ -21,7 +21,7 @@ use Rattle.listing_reader.specs.declared.Turn.{Turn}
 use Rattle.listing_reader.specs.declared.Turn.the-variants as T
 use Rattle.listing_reader.specs.Listing.{Sofar, Next, on, bad, line}
 use Rattle.listing_reader.specs.Contents.{wordLeft, brokenOff, filled, kindOf, sizeOf, numbersOf, placesOf}
-use Rattle.listing_reader.specs.Invariants.{sofar, callPut, TableLeft, CallsLeft, Leaves}
+use Rattle.listing_reader.specs.Invariants.{sofar, callPut, Leaves}
 use Rattle.listing_reader.specs.Facts.Word.{word-whole}
 
 -- ---- arrays

@@ -32,7 +32,7 @@ laid-blank m g i h =
     record {
       entry = Undefined;
       of-machine = tt;
-      stands = λ j l. getD-replicate 4096 (8 * i + j) 0 0 (omega arith) ∙ sym (getD-replicate 8 j 0 0 l);
+      written = λ j l. getD-replicate 4096 (8 * i + j) 0 0 (omega arith) ∙ sym (getD-replicate 8 j 0 0 l);
     }
 
 module _ (m : Machine) (t : List ℕ) (e : Rule) (g : Good m) (o : RuleOk m e) (long : length t ≡ 4096) where
@@ -80,12 +80,12 @@ module _ (m : Machine) (t : List ℕ) (e : Rule) (g : Good m) (o : RuleOk m e) (
           record {
             entry = Defined (actionOf e);
             of-machine = action-ok;
-            stands = λ j q. ap (λ n. byteAt (define m t e) n j) z ∙ define-same j q;
+            written = λ j q. ap (λ n. byteAt (define m t e) n j) z ∙ define-same j q;
           }
       by (no z) =
           let old : LaidOut m t i = h i l in
           record {
             entry = old .entry;
             of-machine = old .of-machine;
-            stands = λ j q. define-other i z j q ∙ old .stands j q;
+            written = λ j q. define-other i z j q ∙ old .written j q;
           }

@@ -14,7 +14,7 @@ pub(crate) struct Places {
     pub answer: usize,
 }
 
-// Reads the question at a place, whose position stands at `position`.
+// Reads the question at a place, whose position is at the place `position`.
 pub(crate) fn read(row: &[u64], at: usize, position: usize) -> Question {
     Question {
         which: rows::number(row, at),

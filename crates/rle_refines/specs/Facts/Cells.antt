@@ -42,13 +42,13 @@ module _ (σ : Conf) where
   abbrev pub head : ℕ
   head = σ .sim .tape .head
 
-  abbrev pub Stands : ℤ → ℕ → Type 0
-  Stands z x = Seen left cur right head z x
+  abbrev pub SeenAt : ℤ → ℕ → Type 0
+  SeenAt z x = Seen left cur right head z x
 
-  pub seen : (z : ℤ) → Stands z (tapeOf σ .cell z)
+  pub seen : (z : ℤ) → SeenAt z (tapeOf σ .cell z)
   seen z = by (distance (head ⊖ 2 ^ 63) z) refl
     where
-      by : (k : ℤ) → distance (head ⊖ 2 ^ 63) z ≡ k → Stands z (look left cur right k)
+      by : (k : ℤ) → distance (head ⊖ 2 ^ 63) z ≡ k → SeenAt z (look left cur right k)
       by (pos zero) e = here (omega (ints, diff-distance (head ⊖ 2 ^ 63) z, diff-⊖ head (2 ^ 63)))
       by (pos (suc d)) e = rightward d (omega (ints, diff-distance (head ⊖ 2 ^ 63) z, diff-⊖ head (2 ^ 63)))
       by (negsuc d) e = leftward d (omega (ints, diff-distance (head ⊖ 2 ^ 63) z, diff-⊖ head (2 ^ 63)))

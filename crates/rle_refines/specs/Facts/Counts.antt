@@ -18,7 +18,7 @@ use Rattle.rle.specs.Model.Engine.{Conf, leftOf, rightOf}
 use Rattle.rle.specs.Model.Questions.{countOf, countOn}
 use Rattle.rle_refines.specs.Meaning.{stackUpto, Stream, stream, tapeOf, ChainFits}
 use Rattle.rle_refines.specs.Facts.SideCells.{prepend-in, prepend-past}
-use Rattle.rle_refines.specs.Facts.Cells.{here, leftward, rightward, left, right, Stands, seen, at-head, at-left, at-right, side-past, left-in}
+use Rattle.rle_refines.specs.Facts.Cells.{here, leftward, rightward, left, right, SeenAt, seen, at-head, at-left, at-right, side-past, left-in}
 
 -- ---- the number of indexes that fail a test
 
@@ -138,12 +138,12 @@ module _ (m : Machine) (σ : Conf) (f : ChainFits m σ) where
     above = λ z b. high z _ b (seen σ z);
   }
     where
-      low : (z : ℤ) (v : ℕ) → z <ℤ (from ⊖ 2 ^ 63) → Stands σ z v → v ≡ 0
+      low : (z : ℤ) (v : ℕ) → z <ℤ (from ⊖ 2 ^ 63) → SeenAt σ z v → v ≡ 0
       low z v b (here e) = absurd (omega (ints, b, diff-⊖ from (2 ^ 63)))
       low z v b (leftward d e) = side-past (leftOf σ) d (omega (ints, b, diff-⊖ from (2 ^ 63), in-reach))
       low z v b (rightward d e) = absurd (omega (ints, b, diff-⊖ from (2 ^ 63)))
 
-      high : (z : ℤ) (v : ℕ) → ((from + (lefts + 1 + rights)) ⊖ 2 ^ 63) ≤ℤ z → Stands σ z v → v ≡ 0
+      high : (z : ℤ) (v : ℕ) → ((from + (lefts + 1 + rights)) ⊖ 2 ^ 63) ≤ℤ z → SeenAt σ z v → v ≡ 0
       high z v b (here e) = absurd (omega (ints, b, diff-⊖ (from + (lefts + 1 + rights)) (2 ^ 63), in-reach))
       high z v b (leftward d e) = absurd (omega (ints, b, diff-⊖ (from + (lefts + 1 + rights)) (2 ^ 63), in-reach))
       high z v b (rightward d e) = side-past (rightOf σ) d (omega (ints, b, diff-⊖ (from + (lefts + 1 + rights)) (2 ^ 63), in-reach))

@@ -20,7 +20,7 @@ use Rattle.rle_refines.specs.Statement.{isFull, Kept}
 use Rattle.rle_refines.specs.Facts.Stack.{take, Reach}
 use Rattle.rle_refines.specs.Facts.Sides.{Carries, carry-holds}
 use Rattle.rle_refines.specs.Facts.Tape.{facing, onward, arrived, read-around}
-use Rattle.rle_refines.specs.Facts.Repeats.{at, walk, stand}
+use Rattle.rle_refines.specs.Facts.Repeats.{at, walk, stay}
 
 -- an entry of one tape, made n times in a row
 abbrev pub macro : Action → (n : ℕ) → Macro
@@ -139,7 +139,7 @@ module _ (m : Machine) (d : Table) (table : TableOf m d) (single : m .tapes ≡ 
       stays n =
           ap (λ x. configOf (macroTo x (macro a (suc k)) σ)) n
           ∙ after-macro-still σ (macro a (suc k))
-          ∙ sym (stand m d table single a (σ .sim .state .0) (σ .sim .tape .cur) reads n (streamOf (leftOf σ)) (streamOf (rightOf σ)) (σ .sim .tape .head) k (σ .sim .steps) (σ .sim .lowest) (σ .sim .highest)
+          ∙ sym (stay m d table single a (σ .sim .state .0) (σ .sim .tape .cur) reads n (streamOf (leftOf σ)) (streamOf (rightOf σ)) (σ .sim .tape .head) k (σ .sim .steps) (σ .sim .lowest) (σ .sim .highest)
           (λ l. (keeps l, subst (λ x. Over x (a .write0 .0) k σ) n way l)))
 
       -- a macro step of k + 1 repeats is k + 1 steps of the table machine

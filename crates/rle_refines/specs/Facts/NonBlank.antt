@@ -19,7 +19,7 @@ use Rattle.rle.specs.Model.Engine.{Conf, leftOf, rightOf}
 use Rattle.rle.specs.Model.Questions.{lowestOf, highestOf, blankTape}
 use Rattle.rle_refines.specs.Meaning.{stackUpto, stream, streamOf, tapeOf, ChainFits}
 use Rattle.rle_refines.specs.Facts.SideCells.{Bounds, side-ends}
-use Rattle.rle_refines.specs.Facts.Cells.{here, leftward, rightward, left, right, cur, head, Stands, seen, at-head, at-left, at-right, left-in}
+use Rattle.rle_refines.specs.Facts.Cells.{here, leftward, rightward, left, right, cur, head, SeenAt, seen, at-head, at-left, at-right, left-in}
 
 -- a is the last cell in direction x that is not blank
 pub record Last (x : Dir) (cell : ℤ → ℕ) (a : ℤ) : Type 0 where
@@ -41,7 +41,7 @@ module _ (m : Machine) (σ : Conf) (f : ChainFits m σ) where
   unfolding blankTape
   all-blank t y = by (seen σ y)
     where
-      by : {x : ℕ} → Stands σ y x → x ≡ 0
+      by : {x : ℕ} → SeenAt σ y x → x ≡ 0
       by (here e) = eqb-true _ _ (both-split t .0)
       by (leftward d e) = no-runs (leftOf σ) (eqb-true _ _ (both-split (both-split t .1) .0)) d
       by (rightward d e) = no-runs (rightOf σ) (eqb-true _ _ (both-split (both-split t .1) .1)) d
@@ -60,7 +60,7 @@ module _ (m : Machine) (σ : Conf) (f : ChainFits m σ) where
 
     -- every cell beyond is blank, by where it lies from the head
     abbrev Off : Dir → Type 0
-    Off x = (y : ℤ) (v : ℕ) → Beyond x place y → Stands σ y v → v ≡ 0
+    Off x = (y : ℤ) (v : ℕ) → Beyond x place y → SeenAt σ y v → v ≡ 0
 
     low-left : Bounds (left σ) (nearOf (leftOf σ)) (cellsOf (leftOf σ)) → p + cellsOf (leftOf σ) ≡ head σ → IsLast L
     low-left x q = record {

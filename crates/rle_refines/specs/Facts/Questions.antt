@@ -28,7 +28,7 @@ use Rattle.rle.specs.Model.Engine.{Conf, rightOf}
 use Rattle.rle.specs.Fits.{engineCheck}
 use Rattle.rle.specs.Model.Questions.{raisedCell, windowCell, windowFrom, windowOn, windowAll, blankTape, spanOf, getAnswer, extentAnswer, countAnswer, windowInto}
 use Rattle.rle_refines.specs.Meaning.{tapeOf, ChainFits}
-use Rattle.rle_refines.specs.Facts.Cells.{here, leftward, rightward, Stands, seen, side-past, cell-is, raised-is}
+use Rattle.rle_refines.specs.Facts.Cells.{here, leftward, rightward, SeenAt, seen, side-past, cell-is, raised-is}
 use Rattle.rle_refines.specs.Facts.NonBlank.{all-blank, lowest-is, highest-is}
 use Rattle.rle_refines.specs.Facts.Counts.{CountedOn, count-within}
 use Rattle.rle_refines.specs.Facts.Operations.{engine-says}
@@ -51,7 +51,7 @@ module _ (m : Machine) (σ : Conf) (f : ChainFits m σ) (z : ℤ) (out : List �
   far-blank : (y : ℤ) → 2 ^ 63 + dn y ≤ up y → tapeOf σ .cell y ≡ 0
   far-blank y h = by (seen σ y)
     where
-      by : {x : ℕ} → Stands σ y x → x ≡ 0
+      by : {x : ℕ} → SeenAt σ y x → x ≡ 0
       by (here e) = absurd (omega (arith, f .head-high, f .high-near, f .steps-in))
       by (leftward d e) = absurd (omega (arith, f .head-high, f .high-near, f .steps-in))
       by (rightward d e) = side-past (rightOf σ) d (omega (arith, f .right-far, f .steps-in))

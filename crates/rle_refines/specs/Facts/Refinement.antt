@@ -40,9 +40,9 @@ kept-both m σ τ e p q = record {
 -- ---- a run that makes no step
 
 module _ (k : Task) (fuel : ℕ) (σ : Conf) where
-  stands : ChainFits (k .machine) σ → Went k 0 σ σ
+  stays-here : ChainFits (k .machine) σ → Went k 0 σ σ
   unfolding run
-  stands f = record {
+  stays-here f = record {
     holds = refl;
     counted = omega arith;
     macros = omega arith;
@@ -61,7 +61,7 @@ module _ (k : Task) (fuel : ℕ) (σ : Conf) where
   answers-here (P.lacks-place a e u l r g) = full a l e u r g
 
   ends-here : (o : Outcome) → ChainFits (k .machine) σ → Plans k fuel σ (Stop o) → Refines k fuel σ (end σ o)
-  ends-here o f p = record { made = 0; within = omega arith; went = stands f; answers = answers-here p }
+  ends-here o f p = record { made = 0; within = omega arith; went = stays-here f; answers = answers-here p }
 
 -- ---- two runs in a row
 

@@ -85,24 +85,24 @@ module _ (m : Machine) (d : Table) (table : TableOf m d) (single : m .tapes ≡ 
         (min-twice (a .dir0) k h lo w l i) (max-twice (a .dir0) k h hi w r i)))
 
     module _ (still : a .dir0 ≡ N) (l r : Stream) (h : ℕ) where
-      stand-one : (s lo hi : ℕ) → step d (at q s (tapeAround l c r h lo hi)) ≡ at (a .next .0) (suc s) (tapeAround l (a .write0 .0) r h (min lo h) (max hi h))
-      stand-one s lo hi =
+      stay-one : (s lo hi : ℕ) → step d (at q s (tapeAround l c r h lo hi)) ≡ at (a .next .0) (suc s) (tapeAround l (a .write0 .0) r h (min lo h) (max hi h))
+      stay-one s lo hi =
           step-one q s _ (ap (λ x. d q x 0 0) (read-around l r c h lo hi) ∙ reads)
           ∙ ap (λ x. at (a .next .0) (suc s) (update (tapeAround l c r h lo hi) (a .write0 .0) x)) still
           ∙ ap (at (a .next .0) (suc s)) (update-still l r c (a .write0 .0) h lo hi)
 
       -- k + 1 steps of an entry that stays; for more than one step it must keep the state and rewrite what it read
-      pub stand : (k s lo hi : ℕ) → (1 ≤ k → (a .next .0 ≡ q) × (a .write0 .0 ≡ c))
+      pub stay : (k s lo hi : ℕ) → (1 ≤ k → (a .next .0 ≡ q) × (a .write0 .0 ≡ c))
           → run d (suc k) (at q s (tapeAround l c r h lo hi)) ≡ at (a .next .0) (s + suc k) (tapeAround l (a .write0 .0) r h (min lo h) (max hi h))
       unfolding run
-      stand zero s lo hi keeps =
+      stay zero s lo hi keeps =
           let z : suc s ≡ s + 1 = omega arith in
-          stand-one s lo hi ∙ ap (λ j. at (a .next .0) j (tapeAround l (a .write0 .0) r h (min lo h) (max hi h))) z
-      stand (suc k) s lo hi keeps =
+          stay-one s lo hi ∙ ap (λ j. at (a .next .0) j (tapeAround l (a .write0 .0) r h (min lo h) (max hi h))) z
+      stay (suc k) s lo hi keeps =
           let z : suc s + suc k ≡ s + suc (suc k) = omega arith in
           let e : min (min lo h) h ≡ min lo h = omega arith in
           let g : max (max hi h) h ≡ max hi h = omega arith in
           let x = keeps (omega arith) in
-          ap (run d (suc k)) (stand-one s lo hi ∙ (λ i. at (x .0 i) (suc s) (tapeAround l (x .1 i) r h (min lo h) (max hi h))))
-          ∙ stand k (suc s) (min lo h) (max hi h) (λ _. x)
+          ap (run d (suc k)) (stay-one s lo hi ∙ (λ i. at (x .0 i) (suc s) (tapeAround l (x .1 i) r h (min lo h) (max hi h))))
+          ∙ stay k (suc s) (min lo h) (max hi h) (λ _. x)
           ∙ (λ i. at (a .next .0) (z i) (tapeAround l (a .write0 .0) r h (e i) (g i)))

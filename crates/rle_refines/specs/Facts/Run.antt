@@ -72,13 +72,13 @@ module _ (m : Machine) (s : List ℕ) (bytes : Bytes s) (accepted : tableCheck m
   refined : Refines (task m s proves rule) fuel σ (runOf (task m s proves rule) fuel σ)
   refined = chain-refines m s bytes accepted single proves rule fuel σ fits small
 
-  abbrev stands : Conf
-  stands = runOf (task m s proves rule) fuel σ .at
+  abbrev ended : Conf
+  ended = runOf (task m s proves rule) fuel σ .at
 
   -- from where the run ended, the table machine halts at no step
-  pub never-onward : (j : ℕ) → ¬ (Halted (tableOf m s) (run (tableOf m s) j (configOf stands)))
-  never-onward = never-sound-bare m (tableOf m s) (accepted-table m s bytes accepted) (configOf stands) (bare-config (m .tapes) stands) n p
-      (never-verdict (subst (Answers (task m s proves rule) fuel (refined .made) stands) says (refined .answers)))
+  pub never-onward : (j : ℕ) → ¬ (Halted (tableOf m s) (run (tableOf m s) j (configOf ended)))
+  never-onward = never-sound-bare m (tableOf m s) (accepted-table m s bytes accepted) (configOf ended) (bare-config (m .tapes) ended) n p
+      (never-verdict (subst (Answers (task m s proves rule) fuel (refined .made) ended) says (refined .answers)))
 
   -- nor from where the run began
   pub never-halts : (j : ℕ) → ¬ (Halted (tableOf m s) (run (tableOf m s) j (configOf σ)))

@@ -4,7 +4,7 @@ use mathlib.Core.List.{List}
 use Prim.Native.Nat.{ℕ, zero, suc, _+_, _*_, _/_, _≤_, _<_}
 use native.Mathlib.Decide.{decLt}
 use native.Mathlib.Omega.{arith}
-use lib.ListN.{length, take, drop, getD, length-drop}
+use lib.ListN.{length, drop, getD, length-drop}
 use lib.Seq.{paste, getD-take, getD-drop, length-take-le}
 use Rattle.store_bytes.specs.Bytes.{get16, get32, get64, put64, Agree}
 use Rattle.store_bytes.specs.Facts.Bytes.{agree-then, length-put64, put64-agree, get64-agree, get-put64}

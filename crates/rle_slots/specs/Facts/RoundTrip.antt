@@ -6,7 +6,7 @@ use mathlib.Core.Option.{Option, none, some}
 use Prim.Native.Nat.{ℕ, _*_, _≤_, _<_}
 use native.Mathlib.Omega.{arith}
 use borrow.Author.Tests.{eq-eqb}
-use lib.ListN.{length, take, getD}
+use lib.ListN.{length, take}
 use lib.Seq.{getD-take, length-take-le, ext-getD}
 use Rattle.notation.specs.Choice.{pick}
 use Rattle.notation.specs.Facts.Tests.{both-true, pick-true}
@@ -22,7 +22,7 @@ use Rattle.rle_refines.specs.Facts.Operations.{Passed, engine-says}
 use Rattle.rle_slots.specs.Model.Slots.{leftsOf, rightsOf, bytesFor, slotSize, packed, packOf, part, heldIn, Lent, lent, liveIn, valueIn, holdsOne, unpacked, unpackOf, leftLengths, rightSymbols, rightLengths, numbersIn}
 use Rattle.rle_slots.specs.Facts.Numbers.{length-part, length-in}
 use Rattle.rle_slots.specs.Facts.LiveRuns.{SameTo, SameLive, live-then, live-fits, accepted-again, placed-live, placed-sizes, placed-fits}
-use Rattle.rle_slots.specs.Facts.Pack.{packed-is, long5, value-is, shown, shown-live}
+use Rattle.rle_slots.specs.Facts.Pack.{packed-is, long5, value-is, shown-live}
 
 -- ---- writing keeps the slot's length
 

@@ -1,13 +1,12 @@
 -- For any bytes in a slot, an engine that is read is accepted and is of the given step. Assumes nothing.
 use mathlib.Core.Path.{_≡_, _∙_, subst}
-use mathlib.Core.Bool.{true, false}
+use mathlib.Core.Bool.{true}
 use mathlib.Core.List.{List}
 use mathlib.Core.Option.{none, some}
 use Prim.Native.Nat.{ℕ, _≤_}
 use native.Mathlib.Omega.{arith}
 use borrow.Author.Tests.{eqb-true}
-use lib.ListN.{length, drop, length-take}
-use Rattle.notation.specs.Choice.{pick}
+use lib.ListN.{drop, length-take}
 use Rattle.notation.specs.Facts.Tests.{both-split, by-test, pick-true, pick-false}
 use Rattle.machine.specs.declared.Machine.{Machine}
 use Rattle.machine.specs.declared.Checked.the-variants.{Accepted}

@@ -22,10 +22,10 @@ use Rattle.rle_refines.specs.Facts.Refinement.{run-refines}
 use Rattle.rle_refines.specs.Facts.Run.{no-fuel-verdict}
 use Rattle.rle_refines.specs.Facts.Space.{Ends, lacks-space, goes-through, run-ends-so}
 use Rattle.timeline_rule.specs.Model.Kind.{verdictOr}
-use Rattle.timeline_laws.specs.Automaton.{iterate}
+use Rattle.timeline_laws.specs.Automaton.{iterate, IsFull}
 use Rattle.timeline_laws.specs.Laws as Law
 use Rattle.timeline_laws.specs.Laws.{Advance}
-use Rattle.timeline_laws.specs.Facts.TableRun.{IsFull, machine}
+use Rattle.timeline_laws.specs.TableRun.{machine}
 use Rattle.rle_slots.specs.Model.Advance.{ranFrom, tested, advanceOf}
 use Rattle.rle_slots.specs.Model.Slots.{leftsOf, rightsOf}
 use Rattle.rle_timeline_laws.specs.Meaning.{Meant, meant, meanOf, nextOf, NoRoom}

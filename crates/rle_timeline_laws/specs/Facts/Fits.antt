@@ -12,7 +12,7 @@ use Rattle.rle.specs.Fits.{placesFit, engineCheck}
 use Rattle.rle_refines.specs.Statement.{Kept}
 use Rattle.rle_refines.specs.Facts.Operations.{Passed, engine-says, engine-passes}
 use Rattle.timeline_laws.specs.Laws.{Advance}
-use Rattle.timeline_laws.specs.Facts.TableRun.{machine}
+use Rattle.timeline_laws.specs.TableRun.{machine}
 use Rattle.rle_slots.specs.Model.Advance.{advanceOf}
 use Rattle.rle_slots.specs.Model.Slots.{leftsOf, rightsOf}
 use Rattle.rle_timeline_laws.specs.Meaning.{Meant, meanOf, nextOf, NoRoom}

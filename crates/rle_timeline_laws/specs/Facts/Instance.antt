@@ -1,5 +1,5 @@
 -- Every run-length engine that the check accepts meets what the third demand requires, and a fresh one holds the word's configuration. Assumes nothing.
-use mathlib.Core.Path.{_≡_, refl, sym, _∙_, subst}
+use mathlib.Core.Path.{_≡_, refl, sym, subst}
 use mathlib.Core.List.{List}
 use Prim.Native.Nat.{ℕ}
 use native.Mathlib.Omega.{arith}

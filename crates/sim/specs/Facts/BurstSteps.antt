@@ -17,7 +17,7 @@ use Rattle.tape.specs.declared.Tape.{Tape}
 use Rattle.tape.specs.Model.Moves.{held, leaves, roomFor, shiftOf}
 use Rattle.tape.specs.Facts.MoveCases.{act-none, act-inside, shift-left, shift-right, shift-none}
 use Rattle.sim_burst.specs.declared.inner.step.BurstState.{BurstState}
-use Rattle.sim_burst.specs.Model.Burst.{Says, Ordinary, unasked, goes-on, rewrites, reads-one, sees-left, sees-right, Moved, went-left, went-right, stood, movedTo, Step, Walk, here, more}
+use Rattle.sim_burst.specs.Model.Burst.{Says, Ordinary, unasked, goes-on, rewrites, reads-one, sees-left, sees-right, Moved, went-left, went-right, stayed, movedTo, Step, Walk, here, more}
 use Rattle.run_checks.specs.declared.inner.look.Look.the-variants.{Go}
 use Rattle.run_checks.specs.Facts.LookCases.{judge-off, look-judged}
 use Rattle.sim.specs.declared.Simulator.{Simulator}
@@ -77,7 +77,7 @@ module _ (Known : List ℕ → Type 0) (m : Machine) (s : List ℕ) (known : Kno
           inside = rw i (ne-eqb (x .head + 1) (v .t0 .len) (λ z. omega (arith, st .inside)));
           tape-is = tape-by (x .head + 1) (x .low) _ g (omega (arith, st .ok .low-in)) (omega arith) ∙ shift-right (eng .t0) (a .dir0) (max (x .high) (x .head + 1)) i refl;
         }
-    goes-of (stood e f g) =
+    goes-of (stayed e f g) =
         let i : a .dir0 ≡ N = number-none (a .dir0) (λ z. e (sym (says .moves) ∙ z)) (λ z. f (sym (says .moves) ∙ z)) in
         record {
           inside = rw i refl;
@@ -100,7 +100,7 @@ module _ (Known : List ℕ → Type 0) (m : Machine) (s : List ℕ) (known : Kno
         moving : Moved (st .dir) (x .head) to → staysAll a read 0 0 ≡ false
         moving (went-left f g) = moves-left a _ _ _ (number-left (a .dir0) (says .moves ∙ f))
         moving (went-right f g) = moves-right a _ _ _ (number-right (a .dir0) (says .moves ∙ f))
-        moving (stood f g i) = absurd (e (omega (arith, says .moves, number-small (a .dir0))))
+        moving (stayed f g i) = absurd (e (omega (arith, says .moves, number-small (a .dir0))))
     judged (sees-left j e l h) =
         let i : a .dir0 ≡ L = number-left (a .dir0) (says .moves ∙ e) in
         go-sees _ _ _ a _ _ _ _ (moves-left a _ _ _ i) (rw i (not-blank-left (eng .t0) c j h l))

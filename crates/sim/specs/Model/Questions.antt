@@ -6,7 +6,6 @@ use lib.IntN.{ℤ}
 use Rattle.notation.specs.Choice.{pick}
 use Rattle.symbol.specs.Kinds.{symbolOf}
 use Rattle.symbol.specs.declared.Dir.{Dir}
-use Rattle.outcome.specs.declared.Refusal.{Refusal}
 use Rattle.outcome.specs.declared.Refusal.the-variants as Why
 use Rattle.machine.specs.declared.Machine.{Machine}
 use Rattle.machine.specs.declared.Checked.{Checked}

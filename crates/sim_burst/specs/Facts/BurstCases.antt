@@ -17,7 +17,7 @@ use Rattle.machine.specs.declared.Entry.the-variants.{Defined}
 use Rattle.machine.specs.Layout.{flagAt, byteAt, actionAt, entryAt}
 use Rattle.sim_burst.specs.declared.inner.step.BurstState.{BurstState}
 use Rattle.sim_burst.specs.declared.inner.step.Decoded.{Decoded}
-use Rattle.sim_burst.specs.Model.Burst.{unasked, goes-on, rewrites, reads-one, sees-left, sees-right, went-left, went-right, stood, movedTo, LeftSeen, RightSeen, OrdinaryIf, OrdinaryByEntry, WentIf, Says, Decodes, Is}
+use Rattle.sim_burst.specs.Model.Burst.{unasked, goes-on, rewrites, reads-one, sees-left, sees-right, went-left, went-right, stayed, movedTo, LeftSeen, RightSeen, OrdinaryIf, OrdinaryByEntry, WentIf, Says, Decodes, Is}
 
 -- ---- a cell that is not blank
 
@@ -96,7 +96,7 @@ module _ (d len : ℕ) (x : BurstState) (next : ℕ) where
       → WentIf true d len x next (record { head = x .head; low = x .low; high = x .high; state = next; left = x .left - 1 })
   step-none a b i lo hi =
       record {
-        moved = λ _. stood a b refl;
+        moved = λ _. stayed a b refl;
         inside = λ _. i;
         is = λ _. moved-is x (x .head) next (x .low) (x .high) (omega arith) (omega arith);
       }

@@ -39,7 +39,7 @@ pub data Ordinary (proves : Bool) (c : List ℕ) (len head read w d next q : ℕ
 pub data Moved (d head to : ℕ) : Type 0 where
   went-left : d ≡ 0 → to + 1 ≡ head → Moved d head to
   went-right : d ≡ 1 → to ≡ head + 1 → Moved d head to
-  stood : (d ≡ 0 → ⊥) → (d ≡ 1 → ⊥) → to ≡ head → Moved d head to
+  stayed : (d ≡ 0 → ⊥) → (d ≡ 1 → ⊥) → to ≡ head → Moved d head to
 
 -- the burst's numbers after the step
 abbrev pub movedTo : BurstState → (to next : ℕ) → BurstState

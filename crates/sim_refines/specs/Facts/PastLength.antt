@@ -100,8 +100,8 @@ record Goes (σ τ : Conf) : Type 0 where
   acts1 : Acts (tape1 σ) (tape1 τ)
   acts2 : Acts (tape2 σ) (tape2 τ)
 
-stands : (σ : Conf) → Goes σ σ
-stands σ = let at : (h : Held) → Acts h h = λ h. record { on = still h; none = λ e. e } in record { acts0 = at (tape0 σ); acts1 = at (tape1 σ); acts2 = at (tape2 σ) }
+stays : (σ : Conf) → Goes σ σ
+stays σ = let at : (h : Held) → Acts h h = λ h. record { on = still h; none = λ e. e } in record { acts0 = at (tape0 σ); acts1 = at (tape1 σ); acts2 = at (tape2 σ) }
 
 then-acts : (f g h : Held) → Acts f g → Acts g h → Acts f h
 then-acts f g h p q = record { on = then-on f g h (p .on) (q .on); none = λ e. q .none (p .none e) }
@@ -122,9 +122,9 @@ unfolding runOf runWith
 run-goes k zero σ = by (lookOf k σ)
   where
     by : (x : Look) → Goes σ (onLook x (haltedEnd σ) (neverEnd σ) (λ a. fuelEnd σ) .at)
-    by Halt = stands σ
-    by (Never p) = stands σ
-    by (Go a) = stands σ
+    by Halt = stays σ
+    by (Never p) = stays σ
+    by (Go a) = stays σ
 run-goes k (suc f) σ = by (λ a. run-goes k f (stepOf σ a)) (lookOf k σ)
   where
     on : Look → End
@@ -132,22 +132,22 @@ run-goes k (suc f) σ = by (λ a. run-goes k f (stepOf σ a)) (lookOf k σ)
         (λ a. pick (roomyOf σ a) (pick (matches (k .rule) (σ .sim .state)) (stoppedEnd (stepOf σ a)) (runOf k f (stepOf σ a))) (fullEnd σ))
 
     by : ((a : Action) → Goes (stepOf σ a) (runOf k f (stepOf σ a) .at)) → (x : Look) → Goes σ (on x .at)
-    by rest Halt = stands σ
-    by rest (Never p) = stands σ
+    by rest Halt = stays σ
+    by rest (Never p) = stays σ
     by rest (Go a) = pick-cases (roomyOf σ a) _ _ (λ (e : End). Goes σ (e .at))
         (λ r. pick-cases (matches (k .rule) (σ .sim .state)) _ _ (λ (e : End). Goes σ (e .at))
         (λ t. step-goes σ a)
         (λ t. then-goes σ (stepOf σ a) _ (step-goes σ a) (rest a)))
-        (λ r. stands σ)
+        (λ r. stays σ)
 
 once-goes : (m : Machine) (s : List ℕ) (σ : Conf) → Goes σ (onceOf m s σ .at)
 unfolding onceOf
 once-goes m s σ = by (lookWith m s false σ)
   where
     by : (x : Look) → Goes σ (onLook x (once σ Step.Halted) (λ p. once σ Step.Halted) (λ a. pick (roomyOf σ a) (once (stepOf σ a) Step.Running) (once σ Step.Full)) .at)
-    by Halt = stands σ
-    by (Never p) = stands σ
-    by (Go a) = pick-cases (roomyOf σ a) _ _ (λ (e : Once). Goes σ (e .at)) (λ r. step-goes σ a) (λ r. stands σ)
+    by Halt = stays σ
+    by (Never p) = stays σ
+    by (Go a) = pick-cases (roomyOf σ a) _ _ (λ (e : Once). Goes σ (e .at)) (λ r. step-goes σ a) (λ r. stays σ)
 
 -- ---- the operations
 

@@ -46,9 +46,9 @@ kept-both m σ τ e p q = record {
 
 -- ---- a run that makes no step
 
-stands : (k : Task) (σ : Conf) → EngineFits (k .machine) σ → Went k 0 σ σ
+stays : (k : Task) (σ : Conf) → EngineFits (k .machine) σ → Went k 0 σ σ
 unfolding run
-stands k σ f = record {
+stays k σ f = record {
   holds = refl;
   counted = omega arith;
   kept = kept-none (k .machine) σ f;
@@ -59,7 +59,7 @@ stands k σ f = record {
 
 module _ (k : Task) (fuel : ℕ) (σ : Conf) (f : EngineFits (k .machine) σ) where
   ends-here : {o : Outcome} → Answers k fuel 0 σ σ o → Refines k fuel σ (end σ o)
-  ends-here a = record { made = 0; within = omega arith; went = stands k σ f; answers = a; stops = λ j h. absurd (omega arith) }
+  ends-here a = record { made = 0; within = omega arith; went = stays k σ f; answers = a; stops = λ j h. absurd (omega arith) }
 
   halts-here : Halted (tableIn k) (heldBy k σ) → Refines k fuel σ (haltedEnd σ)
   halts-here h = ends-here (by-test (k .proves)
@@ -114,7 +114,7 @@ module _ (k : Task) (σ : Conf) (f : EngineFits (k .machine) σ) (table : TableO
   stops-there fuel t = record {
     made = 1;
     within = omega arith;
-    went = goes-there 0 (stepOf σ a) (λ l. absurd (omega arith)) (stands k (stepOf σ a) (step-kept .fits));
+    went = goes-there 0 (stepOf σ a) (λ l. absurd (omega arith)) (stays k (stepOf σ a) (step-kept .fits));
     answers = stopped 0 refl t;
     stops = λ j h l. refl;
   }

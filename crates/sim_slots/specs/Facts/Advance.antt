@@ -121,9 +121,9 @@ module _ (m : Machine) (s : List ℕ) (n : ℕ) (σ : Conf) (checked : engineChe
 
 -- ---- a run without fuel leaves the engine as it is
 
-stands-at : (k : Task) (σ : Conf) → runOf k 0 σ .at ≡ σ
+stays-at : (k : Task) (σ : Conf) → runOf k 0 σ .at ≡ σ
 unfolding runOf runWith
-stands-at k σ = by (lookOf k σ)
+stays-at k σ = by (lookOf k σ)
   where
     by : (x : Look) → onLook x (haltedEnd σ) (neverEnd σ) (λ a. fuelEnd σ) .at ≡ σ
     by Halt = refl
@@ -145,7 +145,7 @@ back-bare m σ = λ i. conf (record {
 
 pub no-fuel-at : (m : Machine) (s : List ℕ) (proves : Bool) (σ : Conf) → ranFrom m s proves 0 σ .at ≡ σ
 unfolding ranFrom
-no-fuel-at m s proves σ = ap (backOf m σ) (stands-at (task m s proves Rule.Never) (bareOf m σ)) ∙ back-bare m σ
+no-fuel-at m s proves σ = ap (backOf m σ) (stays-at (task m s proves Rule.Never) (bareOf m σ)) ∙ back-bare m σ
 
 -- ---- a run's check, from the engine's check and the step limit
 

@@ -96,8 +96,8 @@ pub record Goes (m : Machine) (n : ℕ) (σ e : Conf) : Type 0 where
   pub left1 : has1 m ≡ false → e .c1 ≡ σ .c1
   pub left2 : has2 m ≡ false → e .c2 ≡ σ .c2
 
-stands : (m : Machine) (n : ℕ) (σ : Conf) → Keeps m σ → Goes m n σ σ
-stands m n σ k = record {
+stays : (m : Machine) (n : ℕ) (σ : Conf) → Keeps m σ → Goes m n σ σ
+stays m n σ k = record {
   keeps = k;
   climbs = omega arith;
   within = omega arith;
@@ -165,9 +165,9 @@ module _ (k : Task) (accepted : tableCheck (k .machine) (k .table) ≡ Accepted)
   run-goes zero σ s = by (lookOf k σ)
     where
       by : (x : Look) → Here 0 σ (onLook x (haltedEnd σ) (neverEnd σ) (λ a. fuelEnd σ))
-      by Halt = stands (k .machine) 0 σ s
-      by (Never p) = stands (k .machine) 0 σ s
-      by (Go a) = stands (k .machine) 0 σ s
+      by Halt = stays (k .machine) 0 σ s
+      by (Never p) = stays (k .machine) 0 σ s
+      by (Go a) = stays (k .machine) 0 σ s
   run-goes (suc f) σ s = by (λ a. run-goes f (stepOf σ a)) (lookOf k σ) refl
     where
       on : Look → End
@@ -175,15 +175,15 @@ module _ (k : Task) (accepted : tableCheck (k .machine) (k .table) ≡ Accepted)
           (λ a. pick (roomyOf σ a) (pick (matches (k .rule) (σ .sim .state)) (stoppedEnd (stepOf σ a)) (runOf k f (stepOf σ a))) (fullEnd σ))
 
       by : ((a : Action) → Keeps (k .machine) (stepOf σ a) → Here f (stepOf σ a) (runOf k f (stepOf σ a))) → (x : Look) → lookOf k σ ≡ x → Here (suc f) σ (on x)
-      by rest Halt e = stands (k .machine) (suc f) σ s
-      by rest (Never p) e = stands (k .machine) (suc f) σ s
+      by rest Halt e = stays (k .machine) (suc f) σ s
+      by rest (Never p) e = stays (k .machine) (suc f) σ s
       by rest (Go a) e = pick-cases (roomyOf σ a) _ _ (Here (suc f) σ)
           (λ r.
           let g : Goes (k .machine) 1 σ (stepOf σ a) = step-goes (k .machine) σ a (go-lawful σ a e) s r in
           pick-cases (matches (k .rule) (σ .sim .state)) _ _ (Here (suc f) σ)
-          (λ t. later a g (stands (k .machine) f (stepOf σ a) (g .keeps)))
+          (λ t. later a g (stays (k .machine) f (stepOf σ a) (g .keeps)))
           (λ t. later a g (rest a (g .keeps))))
-          (λ r. stands (k .machine) (suc f) σ s)
+          (λ r. stays (k .machine) (suc f) σ s)
         where
           later : (a : Action) {e : Conf} → Goes (k .machine) 1 σ (stepOf σ a) → Goes (k .machine) f (stepOf σ a) e → Goes (k .machine) (suc f) σ e
           later a {e} p q = let n : 1 + f ≡ suc f = omega arith in rw n at (then-goes (k .machine) 1 f σ (stepOf σ a) e p q)

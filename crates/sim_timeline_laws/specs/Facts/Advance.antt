@@ -26,7 +26,7 @@ use Rattle.sim_refines.specs.Facts.Run.{verdict-exact}
 use Rattle.sim_refines.specs.Facts.MissingTapes.{bare-fits, bare-back}
 use Rattle.timeline_laws.specs.Laws.{Advance}
 use Rattle.timeline_laws.specs.Facts.Advance.{Steps, steps-none, steps-one, steps-halted, advance-after, advance-done, advance-full}
-use Rattle.timeline_laws.specs.Facts.TableRun.{machine}
+use Rattle.timeline_laws.specs.TableRun.{machine}
 use Rattle.timeline_rule.specs.Model.Kind.{verdictOr}
 use Rattle.sim_slots.specs.Model.Advance.{ranFrom, advanceOf}
 use Rattle.sim_timeline_laws.specs.Meaning.{Mean, meanOf, nextOf, NoRoom}

@@ -1,9 +1,9 @@
 -- One tape of the engine as it lies in its buffer: a step moves it by the rule, and has room exactly where the rule says. Assumes nothing.
 use mathlib.Core.Path.{_≡_, refl, sym, ap, _∙_}
 use mathlib.Core.Bool.{Bool, true, false}
-use Prim.Native.Nat.{ℕ, _+_, _≤_, _<_}
+use Prim.Native.Nat.{ℕ, _+_}
 use native.Mathlib.Omega.{arith}
-use borrow.Author.Tests.{ltb-false, ltb-true, leb-true, leb-false}
+use borrow.Author.Tests.{ltb-false, ltb-true}
 use lib.Dec.{leb, ltb}
 use lib.ListN.{length, length-set}
 use Rattle.notation.specs.Choice.{pick, both}

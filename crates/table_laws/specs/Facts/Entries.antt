@@ -82,7 +82,7 @@ module _ (m : Machine) (s : List ℕ) (i : ℕ) where
     -- a defined entry that passed the check holds the bytes of the action that is read there
     defined-laid : flagAt s i ≡ 1 → PassedEntry m s i → LaidOut m s i
     unfolding actionAt
-    defined-laid f p = record { entry = Defined (actionAt s i); of-machine = of-machine; stands = stands }
+    defined-laid f p = record { entry = Defined (actionAt s i); of-machine = of-machine; written = written }
       where
         of-machine : ActionOf m (actionAt s i)
         of-machine = record {
@@ -94,22 +94,22 @@ module _ (m : Machine) (s : List ℕ) (i : ℕ) where
           lacks2 = λ l. p .lacks2 (le-ltb 2 (m .tapes) (omega arith));
         }
 
-        stands : (j : ℕ) → j < 8 → byteAt s i j ≡ getD (entryBytes (Defined (actionAt s i))) j 0
-        stands zero h = flag-is s i ∙ f
-        stands (suc zero) h = omega (arith, bytes (8 * i + 1))
-        stands (suc (suc zero)) h = omega (arith, bytes (8 * i + 1))
-        stands (suc (suc (suc zero))) h = refl
-        stands (suc (suc (suc (suc zero)))) h = refl
-        stands (suc (suc (suc (suc (suc zero))))) h = refl
-        stands (suc (suc (suc (suc (suc (suc zero)))))) h = moves-are (p .moves-in)
-        stands (suc (suc (suc (suc (suc (suc (suc zero))))))) h = p .last
-        stands (suc (suc (suc (suc (suc (suc (suc (suc j)))))))) h = absurd (omega arith)
+        written : (j : ℕ) → j < 8 → byteAt s i j ≡ getD (entryBytes (Defined (actionAt s i))) j 0
+        written zero h = flag-is s i ∙ f
+        written (suc zero) h = omega (arith, bytes (8 * i + 1))
+        written (suc (suc zero)) h = omega (arith, bytes (8 * i + 1))
+        written (suc (suc (suc zero))) h = refl
+        written (suc (suc (suc (suc zero)))) h = refl
+        written (suc (suc (suc (suc (suc zero))))) h = refl
+        written (suc (suc (suc (suc (suc (suc zero)))))) h = moves-are (p .moves-in)
+        written (suc (suc (suc (suc (suc (suc (suc zero))))))) h = p .last
+        written (suc (suc (suc (suc (suc (suc (suc (suc j)))))))) h = absurd (omega arith)
 
     undefined-laid : allIn (zeroAt s i) 8 0 ≡ true → LaidOut m s i
     undefined-laid z = record {
       entry = Undefined;
       of-machine = tt;
-      stands = λ j h. eqb-true _ _ (all-says (zeroAt s i) 8 0 z j (omega arith) (omega arith)) ∙ sym (eight-zeros j h);
+      written = λ j h. eqb-true _ _ (all-says (zeroAt s i) 8 0 z j (omega arith) (omega arith)) ∙ sym (eight-zeros j h);
     }
 
     pub entry-laid : entryOk m s i ≡ true → LaidOut m s i
@@ -134,15 +134,15 @@ module _ (m : Machine) (s : List ℕ) (i : ℕ) where
 
   laid-defined : (a : Action) → ActionOf m a → ((j : ℕ) → j < 8 → byteAt s i j ≡ getD (entryBytes (Defined a)) j 0) → entryOk m s i ≡ true
   unfolding entryOk
-  laid-defined a o stands =
-      let b0 : flagAt s i ≡ 1 = sym (flag-is s i) ∙ stands 0 (omega arith) in
-      let b1 : byteAt s i 1 ≡ a .next .0 % 256 = stands 1 (omega arith) in
-      let b2 : byteAt s i 2 ≡ a .next .0 / 256 = stands 2 (omega arith) in
-      let b3 : byteAt s i 3 ≡ a .write0 .0 = stands 3 (omega arith) in
-      let b4 : byteAt s i 4 ≡ a .write1 .0 = stands 4 (omega arith) in
-      let b5 : byteAt s i 5 ≡ a .write2 .0 = stands 5 (omega arith) in
-      let b6 : byteAt s i 6 ≡ dirNumber (a .dir0) + 3 * dirNumber (a .dir1) + 9 * dirNumber (a .dir2) = stands 6 (omega arith) in
-      let b7 : byteAt s i 7 ≡ 0 = stands 7 (omega arith) in
+  laid-defined a o written =
+      let b0 : flagAt s i ≡ 1 = sym (flag-is s i) ∙ written 0 (omega arith) in
+      let b1 : byteAt s i 1 ≡ a .next .0 % 256 = written 1 (omega arith) in
+      let b2 : byteAt s i 2 ≡ a .next .0 / 256 = written 2 (omega arith) in
+      let b3 : byteAt s i 3 ≡ a .write0 .0 = written 3 (omega arith) in
+      let b4 : byteAt s i 4 ≡ a .write1 .0 = written 4 (omega arith) in
+      let b5 : byteAt s i 5 ≡ a .write2 .0 = written 5 (omega arith) in
+      let b6 : byteAt s i 6 ≡ dirNumber (a .dir0) + 3 * dirNumber (a .dir1) + 9 * dirNumber (a .dir2) = written 6 (omega arith) in
+      let b7 : byteAt s i 7 ≡ 0 = written 7 (omega arith) in
       let d0 = number-small (a .dir0) in
       let d1 = number-small (a .dir1) in
       let d2 = number-small (a .dir2) in
@@ -162,12 +162,12 @@ module _ (m : Machine) (s : List ℕ) (i : ℕ) where
 
   laid-undefined : ((j : ℕ) → j < 8 → byteAt s i j ≡ getD (entryBytes Undefined) j 0) → entryOk m s i ≡ true
   unfolding entryOk
-  laid-undefined stands =
-      pick-true _ _ _ (eq-eqb _ _ (sym (flag-is s i) ∙ stands 0 (omega arith)))
-      ∙ all-holds (zeroAt s i) 8 0 (λ j a b. eq-eqb _ _ (stands j (omega arith) ∙ eight-zeros j (omega arith)))
+  laid-undefined written =
+      pick-true _ _ _ (eq-eqb _ _ (sym (flag-is s i) ∙ written 0 (omega arith)))
+      ∙ all-holds (zeroAt s i) 8 0 (λ j a b. eq-eqb _ _ (written j (omega arith) ∙ eight-zeros j (omega arith)))
 
   pub laid-entry : LaidOut m s i → entryOk m s i ≡ true
-  laid-entry l = by (l .entry) (l .of-machine) (l .stands)
+  laid-entry l = by (l .entry) (l .of-machine) (l .written)
     where
       by : (e : Entry) → EntryOf m e → ((j : ℕ) → j < 8 → byteAt s i j ≡ getD (entryBytes e) j 0) → entryOk m s i ≡ true
       by Undefined o f = laid-undefined f

@@ -20,20 +20,20 @@ use Rattle.table_laws.specs.WellFormed.{entryBytes, EntryOf, LaidOut, We
 use Rattle.table_laws.specs.Facts.Entries.{flag-is, number-move, moves-apart}
 
 module _ (s : List ℕ) (i : ℕ) where
-  action-stands : (a : Action) → ((j : ℕ) → j < 8 → byteAt s i j ≡ getD (entryBytes (Defined a)) j 0) → actionAt s i ≡ a
+  action-written : (a : Action) → ((j : ℕ) → j < 8 → byteAt s i j ≡ getD (entryBytes (Defined a)) j 0) → actionAt s i ≡ a
   unfolding actionAt
-  action-stands a stands =
-      let b1 : byteAt s i 1 ≡ a .next .0 % 256 = stands 1 (omega arith) in
-      let b2 : byteAt s i 2 ≡ a .next .0 / 256 = stands 2 (omega arith) in
-      let b6 : byteAt s i 6 ≡ dirNumber (a .dir0) + 3 * dirNumber (a .dir1) + 9 * dirNumber (a .dir2) = stands 6 (omega arith) in
+  action-written a written =
+      let b1 : byteAt s i 1 ≡ a .next .0 % 256 = written 1 (omega arith) in
+      let b2 : byteAt s i 2 ≡ a .next .0 / 256 = written 2 (omega arith) in
+      let b6 : byteAt s i 6 ≡ dirNumber (a .dir0) + 3 * dirNumber (a .dir1) + 9 * dirNumber (a .dir2) = written 6 (omega arith) in
       let q : byteAt s i 1 + 256 * byteAt s i 2 ≡ a .next .0 = omega (arith, div-add-mod (a .next .0) 256) in
       let p = moves-apart _ (a .dir0) (a .dir1) (a .dir2) b6 in
       let e0 = ap dirOf (p .0) ∙ number-move (a .dir0) in
       let e1 = ap dirOf (p .1) ∙ number-move (a .dir1) in
       let e2 = ap dirOf (p .2) ∙ number-move (a .dir2) in
-      let w0 = stands 3 (omega arith) in
-      let w1 = stands 4 (omega arith) in
-      let w2 = stands 5 (omega arith) in
+      let w0 = written 3 (omega arith) in
+      let w1 = written 4 (omega arith) in
+      let w2 = written 5 (omega arith) in
       λ t. record {
         next = stateOf (q t);
         write0 = symbolOf (w0 t);
@@ -47,12 +47,12 @@ module _ (s : List ℕ) (i : ℕ) where
   -- the entry read is the one whose bytes lie there
   pub entry-read : (e : Entry) → i < length s / 8 → ((j : ℕ) → j < 8 → byteAt s i j ≡ getD (entryBytes e) j 0) → entryAt s i ≡ e
   unfolding entryAt both
-  entry-read Undefined h stands =
-      let b : flagAt s i ≡ 0 = sym (flag-is s i) ∙ stands 0 (omega arith) in
+  entry-read Undefined h written =
+      let b : flagAt s i ≡ 0 = sym (flag-is s i) ∙ written 0 (omega arith) in
       pick-false _ _ _ (rw (lt-ltb _ _ h, b) refl)
-  entry-read (Defined a) h stands =
-      let b : flagAt s i ≡ 1 = sym (flag-is s i) ∙ stands 0 (omega arith) in
-      pick-true _ _ _ (both-true (lt-ltb _ _ h) (eq-eqb _ _ b)) ∙ ap Defined (action-stands a stands)
+  entry-read (Defined a) h written =
+      let b : flagAt s i ≡ 1 = sym (flag-is s i) ∙ written 0 (omega arith) in
+      pick-true _ _ _ (both-true (lt-ltb _ _ h) (eq-eqb _ _ b)) ∙ ap Defined (action-written a written)
 
 -- every entry that is read, in the table or past its end, is an entry of the machine
 pub entry-of-machine : (m : Machine) (s : List ℕ) → WellFormed m s → (i : ℕ) → EntryOf m (entryAt s i)
@@ -62,4 +62,4 @@ entry-of-machine m s w i = by-test (ltb i (length s / 8)) (λ t. inside (ltb-tru
     inside h =
         let n : length s ≡ 8 * entryCount m = w 5 in
         let l : LaidOut m s i = w 6 i (omega arith) in
-        rw (entry-read s i (l .entry) h (l .stands)) (l .of-machine)
+        rw (entry-read s i (l .entry) h (l .written)) (l .of-machine)

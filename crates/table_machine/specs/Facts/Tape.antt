@@ -1,7 +1,7 @@
 -- The tapes of a configuration: a cell after a write, equal tapes, and the tapes that the machine lacks, which stay blank. Assumes nothing.
 use mathlib.Core.Path.{_≡_, refl, sym, _∙_}
 use mathlib.Core.List.{List, []}
-use Prim.Native.Nat.{ℕ, zero, suc, _<_}
+use Prim.Native.Nat.{ℕ, zero, suc}
 use lib.IntN.{ℤ, pos, negsuc}
 use Rattle.notation.specs.Choice.{pick}
 use Rattle.notation.specs.Position.{eqZ}

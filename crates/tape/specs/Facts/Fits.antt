@@ -2,10 +2,9 @@
 use mathlib.Core.Path.{_≡_, sym, _∙_}
 use mathlib.Core.Bool.{Bool, true}
 use mathlib.Core.List.{List}
-use Prim.Native.Nat.{ℕ, _≤_, _<_}
+use Prim.Native.Nat.{ℕ, _≤_}
 use native.Mathlib.Omega.{arith}
 use borrow.Author.Tests.{leb-true, ltb-true, le-leb, lt-ltb}
-use lib.ListN.{length, getD}
 use Rattle.notation.specs.Facts.Scan.{all-says, all-holds}
 use Rattle.notation.specs.Facts.Tests.{both-split, both-true}
 use Rattle.notation.specs.Limits.{cellsMost}

@@ -1,5 +1,5 @@
 -- One call on a timeline that meets the invariant: its checks, its answer, and how it ends. Assumes nothing.
-use Prim.Native.Nat.{ℕ, _+_, _-_, _*_, _/_, _≤_, _<_, max}
+use Prim.Native.Nat.{ℕ, _+_, _-_, _/_, _≤_, _<_, max}
 use mathlib.Core.Path.{_≡_, refl, sym, _∙_, ap, subst}
 use mathlib.Core.Bool.{true}
 use mathlib.Core.Option.{some}
@@ -37,13 +37,13 @@ module _ {M : Automaton} {O : Ops (M .Out)} (E : Laws M O) (x : E .Mean) (good :
       both-true (within-is 1 512 (w .times .most) (omega arith) (omega arith))
       (both-true (within-is 1 intervalMost (w .times .every) (omega arith) (omega arith))
       (both-true (within-is 1 (w .times .most) (w .times .count) (omega arith) (omega arith))
-      (within-is (w .times .first) (due (w .times)) p (omega (arith, i .tidy .first-is, i .stands .low)) (i .behind))))
+      (within-is (w .times .first) (due (w .times)) p (omega (arith, i .tidy .first-is, i .engine-at .low)) (i .behind))))
 
   -- a call never gets refusals 1 to 12, 14 and 15
   pub call-is : (w : TimelineOver O) (p : ℕ) (c : Call) → Inv E x good w p
       → call O w c ≡ onCheck O (demand (leb (target p c) stepsMost) Why.StepLimit Accepted) w (goTo O (max (target p c) (base E x)) w)
   unfolding call callCheck pick
-  call-is w p c i = rw (E .fits-check (w .engine) (i .stands .fits), now-at E x good (w .engine) p (i .stands), times-ok w p i, enough, upto)
+  call-is w p c i = rw (E .fits-check (w .engine) (i .engine-at .fits), now-at E x good (w .engine) p (i .engine-at), times-ok w p i, enough, upto)
     where
       enough : ltb (w .times .most) (O .slots (w .store)) ≡ true
       enough = lt-ltb (w .times .most) (O .slots (w .store)) (i .tidy .room-for)
@@ -53,16 +53,16 @@ module _ {M : Automaton} {O : Ops (M .Out)} (E : Laws M O) (x : E .Mean) (good :
 
   stays : (w : TimelineOver O) (p : ℕ) → Inv E x good w p → Taken p (stay O w)
   unfolding stay
-  stays w p i = record { out = O .advance 0 (w .engine) .0; says = refl; way = cases (E .advances 0 (w .engine) (i .stands .fits) small) }
+  stays w p i = record { out = O .advance 0 (w .engine) .0; says = refl; way = cases (E .advances 0 (w .engine) (i .engine-at .fits) small) }
     where
       small : O .now (w .engine) + 0 ≤ stepsMost
-      small = omega (arith, now-at E x good (w .engine) p (i .stands), i .stands .small)
+      small = omega (arith, now-at E x good (w .engine) p (i .engine-at), i .engine-at .small)
 
       cases : Advance M (E .Mean) (E .config) (E .next) (E .NoRoom) 0 (E .mean (w .engine)) (O .advance 0 (w .engine) .0) (E .mean (O .advance 0 (w .engine) .1))
           → Way E x good p (O .advance 0 (w .engine) .0) (withEngine O w (O .advance 0 (w .engine) .1))
-      cases (went r y z) = there (i .stands .room)
-          (gone E x good w p i (O .advance 0 (w .engine) .1) p (E .advance-fits 0 (w .engine) (i .stands .fits) small) (i .stands .low)
-          (y ∙ (from-at E x good 0 p (E .mean (w .engine)) (i .stands .low) (i .stands .here) ∙ ap (at E x) (zero-add p))) (i .stands .room) (i .stands .small) (i .behind)) z
+      cases (went r y z) = there (i .engine-at .room)
+          (gone E x good w p i (O .advance 0 (w .engine) .1) p (E .advance-fits 0 (w .engine) (i .engine-at .fits) small) (i .engine-at .low)
+          (y ∙ (from-at E x good 0 p (E .mean (w .engine)) (i .engine-at .low) (i .engine-at .here) ∙ ap (at E x) (zero-add p))) (i .engine-at .room) (i .engine-at .small) (i .behind)) z
       cases (full j g r z y f d) = absurd (omega arith)
 
   goes-on : (w : TimelineOver O) (p t : ℕ) → Inv E x good w p → p ≤ t → t ≤ stepsMost → Taken t (goOn O t w)
@@ -70,7 +70,7 @@ module _ {M : Automaton} {O : Ops (M .Out)} (E : Laws M O) (x : E .Mean) (good :
   goes-on w p t i l h = record {
     out = advanceTo O (gasFor O t w) t w .0;
     says = refl;
-    way = go-on E x good (gasFor O t w) t w p i l h (omega (arith, now-at E x good (w .engine) p (i .stands)));
+    way = go-on E x good (gasFor O t w) t w p i l h (omega (arith, now-at E x good (w .engine) p (i .engine-at)));
   }
 
   -- the slot to go back to is not past the target
@@ -82,7 +82,7 @@ module _ {M : Automaton} {O : Ops (M .Out)} (E : Laws M O) (x : E .Mean) (good :
 
   goes-back : (w : TimelineOver O) (p t : ℕ) → Inv E x good w p → base E x ≤ t → t < p → Taken t (goBack O t w)
   unfolding goBack
-  goes-back w p t i b l = go (E .restores n (w .engine) (w .store) (slot .engine) (i .stands .fits) (omega (arith, i .count-high, i .tidy .count-low, i .tidy .room-for)) (slot .kept))
+  goes-back w p t i b l = go (E .restores n (w .engine) (w .store) (slot .engine) (i .engine-at .fits) (omega (arith, i .count-high, i .tidy .count-low, i .tidy .room-for)) (slot .kept))
     where
       n : ℕ
       n = slotFor t (w .times)
@@ -92,7 +92,7 @@ module _ {M : Automaton} {O : Ops (M .Out)} (E : Laws M O) (x : E .Mean) (good :
 
       go : (s : O .State) × (O .restore n (O .now (slot .engine)) (w .engine) (w .store) ≡ some s) × E .Same s (slot .engine) × (E .mean s ≡ E .mean (slot .engine)) × E .Fits s
           → Taken t (fromSlot O t w (O .restore n (slotStep t (w .times)) (w .engine) (w .store)))
-      go r = rw is (goes-on (withEngine O w (r .0)) (slotStep t (w .times)) t inv low (omega (arith, i .stands .small)))
+      go r = rw is (goes-on (withEngine O w (r .0)) (slotStep t (w .times)) t inv low (omega (arith, i .engine-at .small)))
         where
           low : slotStep t (w .times) ≤ t
           low = slot-low w p t i b
@@ -102,13 +102,13 @@ module _ {M : Automaton} {O : Ops (M .Out)} (E : Laws M O) (x : E .Mean) (good :
 
           inv : Inv E x good (withEngine O w (r .0)) (slotStep t (w .times))
           inv = record {
-            stands = record {
+            engine-at = record {
               fits = r .4;
               low = omega (arith, i .tidy .first-is);
               here = r .3 ∙ slot .means;
               exactly = slot .step;
-              room = λ j a h. i .stands .room j a (omega (arith, low));
-              small = omega (arith, low, i .stands .small);
+              room = λ j a h. i .engine-at .room j a (omega (arith, low));
+              small = omega (arith, low, i .engine-at .small);
             };
             tidy = i .tidy;
             count-high = i .count-high;
@@ -127,4 +127,4 @@ module _ {M : Automaton} {O : Ops (M .Out)} (E : Laws M O) (x : E .Mean) (good :
       (λ r. goes-on w p t i (omega (arith, ltb-false t (O .now (w .engine)) r, now)) l))
     where
       now : O .now (w .engine) ≡ p
-      now = now-at E x good (w .engine) p (i .stands)
+      now = now-at E x good (w .engine) p (i .engine-at)

@@ -24,7 +24,7 @@ use Rattle.timeline_laws.specs.Facts.Call.{Taken, call-is, taken}
 module _ {M : Automaton} {O : Ops (M .Out)} (E : Laws M O) (x : E .Mean) (good : E .Good x) where
   -- by the invariant, the engine holds the configuration at step p
   pub inv-held : (w : TimelineOver O) (p : ℕ) → Inv E x good w p → E .config (E .mean (w .engine)) ≡ run M (E .config x) p
-  inv-held w p i = ap (E .config) (i .stands .here) ∙ config-at E x good p (i .stands .low) (i .stands .room)
+  inv-held w p i = ap (E .config) (i .engine-at .here) ∙ config-at E x good p (i .engine-at .low) (i .engine-at .room)
 
   -- the target of a call at p, or the start where that is more
   abbrev pub aim : ℕ → Call → ℕ
@@ -50,12 +50,12 @@ module _ {M : Automaton} {O : Ops (M .Out)} (E : Laws M O) (x : E .Mean) (good :
 
       took : leb (target p c) stepsMost ≡ true → Taken E x good (aim p c) (call O w c)
       took q = subst (Taken E x good (aim p c)) (sym (checks Accepted (pick-true (leb (target p c) stepsMost) Accepted (Refused Why.StepLimit) q)))
-          (taken E x good w p (aim p c) i (omega arith) (omega (arith, leb-true (target p c) stepsMost q, i .stands .low, i .stands .small)))
+          (taken E x good w p (aim p c) i (omega arith) (omega (arith, leb-true (target p c) stepsMost q, i .engine-at .low, i .engine-at .small)))
 
       -- the full step is not before p, because all steps before p had room
       late : (j : ℕ) → base E x ≤ j → E .NoRoom (at E x j) → Dec (p ≤ j) → p ≤ j
       late j a k (yes h) = h
-      late j a k (no h) = absurd (i .stands .room j a (omega arith) k)
+      late j a k (no h) = absurd (i .engine-at .room j a (omega arith) k)
 
       low : leb (target p c) stepsMost ≡ true → Ends w p c
       low q = by (took q .way)
@@ -63,4 +63,4 @@ module _ {M : Automaton} {O : Ops (M .Out)} (E : Laws M O) (x : E .Mean) (good :
           by : Way E x good (aim p c) (took q .out) (call O w c .1) → Ends w p c
           by (there r j v) = reached (leb-true (target p c) stepsMost q) (took q .out) (took q .says) r
               (subst (Inv E x good (call O w c .1)) (pos-is E x (aim p c) ∙ ap (M .steps) (config-at E x good (aim p c) (omega arith) r)) j) v
-          by (stuck j h k v f d) = stopped (leb-true (target p c) stepsMost q) (took q .out) (took q .says) j (late j (v .stands .low) k (decLe p j)) h k v f d
+          by (stuck j h k v f d) = stopped (leb-true (target p c) stepsMost q) (took q .out) (took q .says) j (late j (v .engine-at .low) k (decLe p j)) h k v f d

@@ -67,7 +67,7 @@ module _ {M : Automaton} {O : Ops (M .Out)} (E : Laws M O) (x : E .Mean) (good :
     pub slot : (i : ℕ) → i < v .count → Slot t v i
 
   -- the engine is at step p
-  pub record Stands (s : O .State) (p : ℕ) : Type 0 where
+  pub record EngineAt (s : O .State) (p : ℕ) : Type 0 where
     pub fits : E .Fits s
     pub low : base E x ≤ p
     pub here : E .mean s ≡ at E x p
@@ -76,12 +76,12 @@ module _ {M : Automaton} {O : Ops (M .Out)} (E : Laws M O) (x : E .Mean) (good :
     pub small : p ≤ stepsMost
 
   pub record Inv (w : TimelineOver O) (p : ℕ) : Type 0 where
-    pub stands : Stands (w .engine) p
+    pub engine-at : EngineAt (w .engine) p
     pub tidy : Tidy (w .store) (w .times)
     pub count-high : w .times .count ≤ w .times .most
     pub behind : p ≤ due (w .times)
 
-  pub now-at : (s : O .State) (p : ℕ) → Stands s p → O .now s ≡ p
+  pub now-at : (s : O .State) (p : ℕ) → EngineAt s p → O .now s ≡ p
   unfolding pos
   now-at s p i = E .now-is s ∙ (ap (λ y. M .steps (E .config y)) (i .here) ∙ i .exactly)
 
@@ -92,7 +92,7 @@ module _ {M : Automaton} {O : Ops (M .Out)} (E : Laws M O) (x : E .Mean) (good :
 
   -- an engine whose meaning is that at step k, where all steps before k had room
   pub arrive : (s : O .State) (k : ℕ) → E .Fits s → base E x ≤ k → E .mean s ≡ at E x k → Room E x k → k ≤ stepsMost
-      → Stands s (pos E x k)
+      → EngineAt s (pos E x k)
   arrive s k f b h r l =
       let q : Settled E x good k = settle E x good k b r in
       record {
@@ -109,7 +109,7 @@ module _ {M : Automaton} {O : Ops (M .Out)} (E : Laws M O) (x : E .Mean) (good :
     pub inv : Inv v p
     pub later : p < due (v .times)
 
-  slot-saved : (s : O .State) (t : O .Store) (v : Times) (p : ℕ) → Stands s p → Tidy t v → v .count ≤ v .most → p ≡ due v
+  slot-saved : (s : O .State) (t : O .Store) (v : Times) (p : ℕ) → EngineAt s p → Tidy t v → v .count ≤ v .most → p ≡ due v
       → (i : ℕ) → i < v .count + 1 → Slot (O .save (v .count) s t) (oneMore v) i
   slot-saved s t v p a b c q i l = go (ℕ-discrete i (v .count))
     where
@@ -129,7 +129,7 @@ module _ {M : Automaton} {O : Ops (M .Out)} (E : Laws M O) (x : E .Mean) (good :
             step = old .step;
           }
 
-  saved : (s : O .State) (t : O .Store) (v : Times) (p : ℕ) → Stands s p → Tidy t v → v .count ≤ v .most → p ≡ due v
+  saved : (s : O .State) (t : O .Store) (v : Times) (p : ℕ) → EngineAt s p → Tidy t v → v .count ≤ v .most → p ≡ due v
       → Tidy (O .save (v .count) s t) (oneMore v)
   saved s t v p a b c q = record {
     most-low = b .most-low;
@@ -187,13 +187,13 @@ module _ {M : Automaton} {O : Ops (M .Out)} (E : Laws M O) (x : E .Mean) (good :
       doubled = omega arith
 
       b′ : Tidy t′ (oneMore (w .times))
-      b′ = saved (w .engine) (w .store) (w .times) p (i .stands) (i .tidy) (i .count-high) q
+      b′ = saved (w .engine) (w .store) (w .times) p (i .engine-at) (i .tidy) (i .count-high) q
 
       thins-too : ltb (w .times .most) (w .times .count + 1) ≡ true → Recorded (timelineWith O (w .engine) (thin O ((w .times .count + 1 - 1) / 2) t′) (halved (oneMore (w .times)))) p
       thins-too r = record {
         inv = record {
-          stands = i .stands;
-          tidy = thins t′ (oneMore (w .times)) p b′ (omega (arith, ltb-true)) (omega arith) (i .stands .small);
+          engine-at = i .engine-at;
+          tidy = thins t′ (oneMore (w .times)) p b′ (omega (arith, ltb-true)) (omega arith) (i .engine-at .small);
           count-high = omega (arith, ltb-true, i .tidy .most-low);
           behind = omega (arith, mul-le-mul-right (w .times .every) doubled);
         };
@@ -202,7 +202,7 @@ module _ {M : Automaton} {O : Ops (M .Out)} (E : Laws M O) (x : E .Mean) (good :
 
       only-more : ltb (w .times .most) (w .times .count + 1) ≡ false → Recorded (timelineWith O (w .engine) t′ (oneMore (w .times))) p
       only-more r = record {
-        inv = record { stands = i .stands; tidy = b′; count-high = omega (arith, ltb-false); behind = omega arith };
+        inv = record { engine-at = i .engine-at; tidy = b′; count-high = omega (arith, ltb-false); behind = omega arith };
         later = omega (arith, i .tidy .every-low);
       }
 
@@ -211,7 +211,7 @@ module _ {M : Automaton} {O : Ops (M .Out)} (E : Laws M O) (x : E .Mean) (good :
   record-due w p i = pick-cases (eqb (O .now (w .engine)) (due (w .times))) (recorded O w) w (λ v. Recorded v p) at-once not-yet
     where
       at-once : eqb (O .now (w .engine)) (due (w .times)) ≡ true → Recorded (recorded O w) p
-      at-once q = record-now w p i (sym (now-at (w .engine) p (i .stands)) ∙ eqb-true (O .now (w .engine)) (due (w .times)) q)
+      at-once q = record-now w p i (sym (now-at (w .engine) p (i .engine-at)) ∙ eqb-true (O .now (w .engine)) (due (w .times)) q)
 
       not-yet : eqb (O .now (w .engine)) (due (w .times)) ≡ false → Recorded w p
       not-yet q = record { inv = i; later = later }
@@ -220,4 +220,4 @@ module _ {M : Automaton} {O : Ops (M .Out)} (E : Laws M O) (x : E .Mean) (good :
           ne = eqb-false (O .now (w .engine)) (due (w .times)) q
 
           later : p < due (w .times)
-          later = omega (arith, ne, now-at (w .engine) p (i .stands), i .behind)
+          later = omega (arith, ne, now-at (w .engine) p (i .engine-at), i .behind)

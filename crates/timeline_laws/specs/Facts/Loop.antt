@@ -45,7 +45,7 @@ module _ {M : Automaton} {O : Ops (M .Out)} (E : Laws M O) (x : E .Mean) (good :
   pub gone : (v : TimelineOver O) (p : ℕ) → Inv E x good v p → (s : O .State) (k : ℕ) → E .Fits s → base E x ≤ k → E .mean s ≡ at E x k → Room E x k → k ≤ stepsMost
       → k ≤ due (v .times) → Inv E x good (withEngine O v s) (pos E x k)
   gone v p i s k f b h r l d = record {
-    stands = arrive E x good s k f b h r l;
+    engine-at = arrive E x good s k f b h r l;
     tidy = i .tidy;
     count-high = i .count-high;
     behind = omega (arith, settle E x good k b r .high);
@@ -56,29 +56,29 @@ module _ {M : Automaton} {O : Ops (M .Out)} (E : Laws M O) (x : E .Mean) (good :
   one-advance t v p i d l h = go (stopAt O t v - O .now (v .engine)) now (omega (arith, now)) (omega (arith, now)) (λ l. omega (arith, now))
     where
       now : O .now (v .engine) ≡ p
-      now = now-at E x good (v .engine) p (i .stands)
+      now = now-at E x good (v .engine) p (i .engine-at)
 
       here : E .mean (v .engine) ≡ at E x p
-      here = i .stands .here
+      here = i .engine-at .here
 
       low : base E x ≤ p
-      low = i .stands .low
+      low = i .engine-at .low
 
       go : (n : ℕ) → O .now (v .engine) ≡ p → n + p ≤ t → n + p ≤ due (v .times) → (p < t → 0 < n)
           → OneAdvance t p (O .advance n (v .engine) .0) (withEngine O v (O .advance n (v .engine) .1))
-      go n q a b c = cases (E .advances n (v .engine) (i .stands .fits) (omega arith))
+      go n q a b c = cases (E .advances n (v .engine) (i .engine-at .fits) (omega arith))
         where
           fits : E .Fits (O .advance n (v .engine) .1)
-          fits = E .advance-fits n (v .engine) (i .stands .fits) (omega arith)
+          fits = E .advance-fits n (v .engine) (i .engine-at .fits) (omega arith)
 
           cases : Advance M (E .Mean) (E .config) (E .next) (E .NoRoom) n (E .mean (v .engine)) (O .advance n (v .engine) .0) (E .mean (O .advance n (v .engine) .1))
               → OneAdvance t p (O .advance n (v .engine) .0) (withEngine O v (O .advance n (v .engine) .1))
           cases (went r y z) =
-              let room : Room E x (n + p) = room-more p n (E .mean (v .engine)) low here (i .stands .room) r in
+              let room : Room E x (n + p) = room-more p n (E .mean (v .engine)) low here (i .engine-at .room) r in
               on (n + p) (omega arith) a (λ l. omega (arith, c l)) room
               (gone v p i (O .advance n (v .engine) .1) (n + p) fits (omega (arith, low)) (y ∙ from-at n p (E .mean (v .engine)) low here) room (omega arith) b) z
           cases (full j g r z y f d) =
-              let room : Room E x (j + p) = room-more p j (E .mean (v .engine)) low here (i .stands .room) r in
+              let room : Room E x (j + p) = room-more p j (E .mean (v .engine)) low here (i .engine-at .room) r in
               let from : base E x ≤ j + p = omega (arith, low) in
               let nr : E .NoRoom (at E x (j + p)) = subst (E .NoRoom) (from-at j p (E .mean (v .engine)) low here) z in
               let there : E .mean (O .advance n (v .engine) .1) ≡ at E x (j + p) = y ∙ from-at j p (E .mean (v .engine)) low here in
@@ -97,7 +97,7 @@ module _ {M : Automaton} {O : Ops (M .Out)} (E : Laws M O) (x : E .Mean) (good :
       low = omega arith
 
       now : O .now (w .engine) ≡ pos E x k
-      now = now-at E x good (w .engine) (pos E x k) (i .stands)
+      now = now-at E x good (w .engine) (pos E x k) (i .engine-at)
 
       halt : ¬ (k ≡ t) → (t ≤ O .now (w .engine)) ⊎ (O .now (w .engine) ≡ p) → (pos E x k ≡ k) ⊎ M .Halted (E .config (at E x k)) → M .Halted (E .config (at E x k))
       halt q c (inr y) = y
@@ -116,10 +116,10 @@ module _ {M : Automaton} {O : Ops (M .Out)} (E : Laws M O) (x : E .Mean) (good :
       → (O .now (w .engine) < t) × ¬ (O .now (w .engine) ≡ p)
       → ((q : ℕ) → Inv E x good w q → q ≤ t → p < q → Way t (r .0) (r .1)) → Way t (r .0) (r .1)
   goes t p o w r e m (off k a b n i f d) c ih =
-      ih k i (omega arith) (omega (arith, c .1, now-at E x good (w .engine) k (i .stands)))
+      ih k i (omega arith) (omega (arith, c .1, now-at E x good (w .engine) k (i .engine-at)))
   goes t p o w r e m (on k a b g y i z) c ih =
-      ih (pos E x k) i (omega (arith, c .0, now-at E x good (w .engine) (pos E x k) (i .stands)))
-      (omega (arith, c .1, now-at E x good (w .engine) (pos E x k) (i .stands), climb-to E x good p k e a y))
+      ih (pos E x k) i (omega (arith, c .0, now-at E x good (w .engine) (pos E x k) (i .engine-at)))
+      (omega (arith, c .1, now-at E x good (w .engine) (pos E x k) (i .engine-at), climb-to E x good p k e a y))
 
   turn : (t p n : ℕ) (o : M .Out) (w : TimelineOver O) (r : M .Out × TimelineOver O) → n ≡ p → base E x ≤ p → p ≤ t → pos E x p ≡ p → OneAdvance t p o w
       → ((q : ℕ) → Inv E x good w q → q ≤ t → p < q → Way t (r .0) (r .1))
@@ -136,6 +136,6 @@ module _ {M : Automaton} {O : Ops (M .Out)} (E : Laws M O) (x : E .Mean) (good :
   go-on (suc gas) t w p i l h g =
       turn t p (O .now (w .engine)) (stride O t (recordDue O w) .0) (turned O t w)
       (advanceTo O gas t (turned O t w))
-      (now-at E x good (w .engine) p (i .stands)) (i .stands .low) l (i .stands .exactly)
+      (now-at E x good (w .engine) p (i .engine-at)) (i .engine-at .low) l (i .engine-at .exactly)
       (one-advance t (recordDue O w) p (record-due E x good w p i .inv) (record-due E x good w p i .later) l h)
       (λ q j a b. go-on gas t (turned O t w) q j a h (omega arith))

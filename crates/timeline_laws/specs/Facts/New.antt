@@ -16,7 +16,7 @@ use Rattle.timeline_rule.specs.Model.Engine.{Ops}
 use Rattle.timeline_rule.specs.Model.Timeline.{TimelineOver, answered, newOk, newCheck, born, onNew, new}
 use Rattle.timeline_laws.specs.Automaton.{Automaton}
 use Rattle.timeline_laws.specs.Laws.{Laws}
-use Rattle.timeline_laws.specs.Facts.Steps.{base, at, at-low, pos, pos-base}
+use Rattle.timeline_laws.specs.Facts.Steps.{base, at-low, pos, pos-base}
 use Rattle.timeline_laws.specs.Facts.Invariant.{Slot, Inv}
 
 -- ---- what the checks imply for a new timeline that is made
@@ -66,7 +66,7 @@ module _ {M : Automaton} {O : Ops (M .Out)} (E : Laws M O) where
   pub born-inv : (m k : ℕ) (s : O .State) (t : O .Store) (f : E .Fits s) → Settings m k → m < O .slots t
       → Inv E (E .mean s) (E .fits-good s f) (born O m k s t) (base E (E .mean s))
   born-inv m k s t f c l = record {
-    stands = record {
+    engine-at = record {
       fits = f;
       low = omega arith;
       here = sym (at-low E (E .mean s) (base E (E .mean s)) (omega arith));

@@ -12,7 +12,7 @@ use Rattle.table_machine.specs.Tables.{tableOf, TableOf}
 use Rattle.timeline_rule.specs.Model.Kind.{opsOf}
 use Rattle.timeline_laws.specs.Laws.{Advance, Laws}
 use Rattle.timeline_laws.specs.Meaning.{EngineMeaning}
-use Rattle.timeline_laws.specs.Facts.TableRun.{machine}
+use Rattle.timeline_laws.specs.TableRun.{machine}
 use Rattle.timeline_laws.specs.Facts.Slots.{Layout, HoldsIn, saves-slots, saves-same, saves-other, moves-slots, moves-same, moves-other, restores-from}
 
 -- for one table, and buffers that give slots of that size; the fields are those of Laws, which has comments on them

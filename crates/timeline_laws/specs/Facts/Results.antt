@@ -20,12 +20,13 @@ use Rattle.table_machine.specs.Tables.{tableOf, Bare}
 use Rattle.timeline_rule.specs.Model.Engine.{Ops}
 use Rattle.timeline_rule.specs.Model.Timeline.{Reply, refused, answered, call, Call, target}
 use Rattle.timeline_rule.specs.Model.Kind.{opsOf, opsFor, TimelineOf, callOn}
-use Rattle.timeline_laws.specs.Automaton.{Automaton, iterate, run as runs, reach}
+use Rattle.timeline_laws.specs.Automaton.{Automaton, iterate, run as runs, reach, IsFull, IsNever}
 use Rattle.timeline_laws.specs.Laws.{Laws}
 use Rattle.timeline_laws.specs.Facts.Steps.{base, at, run-real, never-any}
 use Rattle.timeline_laws.specs.Facts.Invariant.{Inv, now-at}
 use Rattle.timeline_laws.specs.Facts.Ends.{inv-held, aim, Ends, over, reached, stopped, ends}
-use Rattle.timeline_laws.specs.Facts.TableRun.{IsFull, IsNever, machine, iterate-run}
+use Rattle.timeline_laws.specs.TableRun.{machine}
+use Rattle.timeline_laws.specs.Facts.TableRun.{iterate-run}
 use Rattle.timeline_laws.specs.Meaning.{EngineMeaning}
 use Rattle.timeline_laws.specs.Statement.{afterSteps, reachIn, goalIn, movedIn, Numbers, stepsIf, stoppedAt, heldOn, FullFrom, Stuck, Result}
 use Rattle.timeline_laws.specs.Instance.{Instance}
@@ -68,8 +69,8 @@ module _ (X : EngineMeaning) (m : Machine) (s : List ℕ) (e : X .kind .State) (
   c = X .config m e
 
   -- the timeline is at step p, and has the invariant between calls
-  abbrev pub StandsAt : TimelineOf (X .kind) → ℕ → Type 0
-  StandsAt = Inv E (E .mean e) (E .fits-good e (I .fits))
+  abbrev pub TimelineAt : TimelineOf (X .kind) → ℕ → Type 0
+  TimelineAt = Inv E (E .mean e) (E .fits-good e (I .fits))
 
   -- ---- the run and the rule for p
 
@@ -103,18 +104,18 @@ module _ (X : EngineMeaning) (m : Machine) (s : List ℕ) (e : X .kind .State) (
 
   -- ---- the engine's step and configuration
 
-  module _ (u : TimelineOf (X .kind)) (p : ℕ) (i : StandsAt u p) where
-    pub stands-now : X .kind .now (u .engine) ≡ p
-    stands-now = now-at E (E .mean e) (E .fits-good e (I .fits)) (u .engine) p (i .stands)
+  module _ (u : TimelineOf (X .kind)) (p : ℕ) (i : TimelineAt u p) where
+    pub timeline-now : X .kind .now (u .engine) ≡ p
+    timeline-now = now-at E (E .mean e) (E .fits-good e (I .fits)) (u .engine) p (i .engine-at)
 
-    pub stands-low : c .steps ≤ p
-    stands-low = omega (arith, base-is, i .stands .low)
+    pub timeline-low : c .steps ≤ p
+    timeline-low = omega (arith, base-is, i .engine-at .low)
 
     mean-held : E .config (E .mean (u .engine)) ≡ afterSteps m s c p
     mean-held = inv-held E (E .mean e) (E .fits-good e (I .fits)) u p i ∙ runs-is p
 
-    pub stands-held : heldOn X m s u ≡ afterSteps m s c p
-    stands-held = sym (I .same-config (u .engine)) ∙ mean-held
+    pub timeline-held : heldOn X m s u ≡ afterSteps m s c p
+    timeline-held = sym (I .same-config (u .engine)) ∙ mean-held
 
   -- the buffers keep their sizes, so the call uses slots of the first engine's size
   agrees : (u : TimelineOf (X .kind)) (k : Call) → E .Fits (u .engine) → callOn (X .kind) m s u k ≡ call ops u k
@@ -138,7 +139,7 @@ module _ (X : EngineMeaning) (m : Machine) (s : List ℕ) (e : X .kind .State) (
       refuses = λ h. (Why.StepLimit, refl, q);
       accepts = λ h. absurd (omega arith);
       space = λ h. absurd (omega arith);
-      stands = λ n a. absurd (no (Out.Full n) a);
+      stops = λ n a. absurd (no (Out.Full n) a);
       says = λ o a h. absurd (no o a);
       numbers = λ o a. absurd (no o a);
       never = λ n f a. absurd (no (Out.NeverHalts n f) a);
@@ -151,17 +152,17 @@ module _ (X : EngineMeaning) (m : Machine) (s : List ℕ) (e : X .kind .State) (
       is : (z : Outcome) → r .0 ≡ answered z → o ≡ z
       is z a = one-answer (r .0) o z says a
 
-      reached-result : StandsAt u p → ((j : ℕ) → base E (E .mean e) ≤ j → j < t → ¬ E .NoRoom (at E (E .mean e) j)) → StandsAt (call ops u k .1) (reachIn m s c (goalIn m s c p k))
+      reached-result : TimelineAt u p → ((j : ℕ) → base E (E .mean e) ≤ j → j < t → ¬ E .NoRoom (at E (E .mean e) j)) → TimelineAt (call ops u k .1) (reachIn m s c (goalIn m s c p k))
           → Verdict (m .tapes) (tableOf m s) (E .config (E .mean (call ops u k .1 .engine))) o → Claimed
       reached-result now room i v = record {
         refuses = λ h. absurd (omega arith);
         accepts = λ h. (o, says);
-        space = λ h. (λ f. absurd (not-full (f .0) (f .1)), λ j. absurd (room (j .0) (omega (arith, now .stands .low, j .1)) (j .2) (full-is (j .0) .1 (j .3))));
-        stands = λ n a. absurd (not-full n a);
+        space = λ h. (λ f. absurd (not-full (f .0) (f .1)), λ j. absurd (room (j .0) (omega (arith, now .engine-at .low, j .1)) (j .2) (full-is (j .0) .1 (j .3))));
+        stops = λ n a. absurd (not-full n a);
         says = λ z a h. (held, subst (Verdict (m .tapes) (tableOf m s) (afterSteps m s c (reachIn m s c t))) (is z a) there);
         numbers = λ z a. subst (λ y. Numbers y (heldOn X m s (r .1))) (is z a) (verdict-numbers _ _ _ o (subst (λ y. Verdict (m .tapes) (tableOf m s) y o) (sym held) there));
         never = λ n f a j. subst (λ y. ¬ Halted (tableOf m s) y) (runs-is j)
-            (never-any M (E .config (E .mean e)) (reachIn m s c t) (i .stands .low)
+            (never-any M (E .config (E .mean e)) (reachIn m s c t) (i .engine-at .low)
             (M .never-halts (runs M (E .config (E .mean e)) (reachIn m s c t)) o (run-real M (E .config (E .mean e)) real (reachIn m s c t))
             (subst (λ y. Verdict (m .tapes) (tableOf m s) y o) (sym (runs-is (reachIn m s c t))) there) (subst IsNever (sym (is _ a)) refl)) j);
       }
@@ -173,17 +174,17 @@ module _ (X : EngineMeaning) (m : Machine) (s : List ℕ) (e : X .kind .State) (
           real = subst (Bare (m .tapes)) (sym (I .same-config e)) (I .bare)
 
           held : heldOn X m s (r .1) ≡ afterSteps m s c (reachIn m s c t)
-          held = stands-held (r .1) (reachIn m s c t) i
+          held = timeline-held (r .1) (reachIn m s c t) i
 
           there : Verdict (m .tapes) (tableOf m s) (afterSteps m s c (reachIn m s c t)) o
           there = subst (λ y. Verdict (m .tapes) (tableOf m s) y o) (mean-held (r .1) (reachIn m s c t) i) v
 
-      stopped-result : (j : ℕ) → p ≤ j → j < t → E .NoRoom (at E (E .mean e) j) → StandsAt (call ops u k .1) j → IsFull o → stepsOf o ≡ j → Claimed
+      stopped-result : (j : ℕ) → p ≤ j → j < t → E .NoRoom (at E (E .mean e) j) → TimelineAt (call ops u k .1) j → IsFull o → stepsOf o ≡ j → Claimed
       stopped-result j b h y i f d = record {
         refuses = λ h. absurd (omega arith);
         accepts = λ h. (o, says);
         space = λ _. (λ f. (j, b, h, full-is j .0 y), λ f. (j, full-there));
-        stands = λ n a. subst (Stuck X m s c e (r .1) p t) (step n a) stuck;
+        stops = λ n a. subst (Stuck X m s c e (r .1) p t) (step n a) stuck;
         says = λ z a g. absurd (g j (sym (is z a) ∙ is-full));
         numbers = λ z a. subst (λ y. Numbers y (heldOn X m s (r .1))) (sym is-full ∙ is z a) counts;
         never = λ n g a. absurd (omega (arith, subst IsFull (is _ a) f));
@@ -199,46 +200,46 @@ module _ (X : EngineMeaning) (m : Machine) (s : List ℕ) (e : X .kind .State) (
           step n a = ap stepsOf (sym is-full ∙ is _ a)
 
           counts : j ≡ heldOn X m s (r .1) .steps
-          counts = sym (stands-now (r .1) j i) ∙ (E .now-is (r .1 .engine) ∙ ap (λ (y : Config). y .steps) (I .same-config (r .1 .engine)))
+          counts = sym (timeline-now (r .1) j i) ∙ (E .now-is (r .1 .engine) ∙ ap (λ (y : Config). y .steps) (I .same-config (r .1 .engine)))
 
           stuck : Stuck X m s c e (r .1) p t j
           stuck = record {
-            holds = stands-held (r .1) j i;
+            holds = timeline-held (r .1) j i;
             from = b;
             short = h;
             full = full-is j .0 y;
-            first = λ n a l z. i .stands .room n (omega (arith, base-is)) l (full-is n .1 z);
+            first = λ n a l z. i .engine-at .room n (omega (arith, base-is)) l (full-is n .1 z);
           }
 
     abbrev Ended : Type 0
     Ended = Ends E (E .mean e) (E .fits-good e (I .fits)) u p k
 
-    ended : StandsAt u p → Ended
+    ended : TimelineAt u p → Ended
     ended i = ends E (E .mean e) (E .fits-good e (I .fits)) u p k i
 
     -- p after a call that reached its target
     reach-aim : reach M (E .config (E .mean e)) (aim E (E .mean e) (E .fits-good e (I .fits)) p k) ≡ reachIn m s c t
     reach-aim = reach-in (aim E (E .mean e) (E .fits-good e (I .fits)) p k) ∙ ap (reachIn m s c) (aim-is p k)
 
-    claimed : StandsAt u p → Ended → Claimed
+    claimed : TimelineAt u p → Ended → Claimed
     claimed n (over l q) = refused-result l q
-    claimed n (reached l o a room i v) = reached-result l o a n (λ j b h. room j b (omega (arith, aim-is p k))) (subst (StandsAt (call ops u k .1)) reach-aim i) v
+    claimed n (reached l o a room i v) = reached-result l o a n (λ j b h. room j b (omega (arith, aim-is p k))) (subst (TimelineAt (call ops u k .1)) reach-aim i) v
     claimed n (stopped l o a j b h y i f d) = stopped-result l o a j b (omega (arith, aim-is p k)) y i f d
 
-    pub result : StandsAt u p → Result X m s c e u p k (callOn (X .kind) m s u k)
-    result i = subst (Result X m s c e u p k) (sym (agrees u k (i .stands .fits))) (claimed i (ended i))
+    pub result : TimelineAt u p → Result X m s c e u p k (callOn (X .kind) m s u k)
+    result i = subst (Result X m s c e u p k) (sym (agrees u k (i .engine-at .fits))) (claimed i (ended i))
 
     -- ---- p after the call
 
     abbrev Next : Reply Outcome × TimelineOf (X .kind) → Type 0
-    Next z = StandsAt (z .1) (stoppedAt (z .0) (movedIn m s c p k))
+    Next z = TimelineAt (z .1) (stoppedAt (z .0) (movedIn m s c p k))
 
-    goes-to : StandsAt u p → Ended → Next (call ops u k)
-    goes-to i (over l q) = subst Next (sym q) (subst (StandsAt u) (sym (moved-over p k l)) i)
-    goes-to i (reached l o a room j v) = subst (λ z. StandsAt (r .1) (stoppedAt z (movedIn m s c p k))) (sym a)
-        (subst (StandsAt (r .1)) (reach-aim ∙ (sym (moved-under p k l) ∙ verdict-goes _ _ _ o _ v)) j)
-    goes-to i (stopped l o a j b h y z f d) = subst (λ z. StandsAt (r .1) (stoppedAt z (movedIn m s c p k))) (sym a)
-        (subst (StandsAt (r .1)) (sym d ∙ full-stops o _ f) z)
+    goes-to : TimelineAt u p → Ended → Next (call ops u k)
+    goes-to i (over l q) = subst Next (sym q) (subst (TimelineAt u) (sym (moved-over p k l)) i)
+    goes-to i (reached l o a room j v) = subst (λ z. TimelineAt (r .1) (stoppedAt z (movedIn m s c p k))) (sym a)
+        (subst (TimelineAt (r .1)) (reach-aim ∙ (sym (moved-under p k l) ∙ verdict-goes _ _ _ o _ v)) j)
+    goes-to i (stopped l o a j b h y z f d) = subst (λ z. TimelineAt (r .1) (stoppedAt z (movedIn m s c p k))) (sym a)
+        (subst (TimelineAt (r .1)) (sym d ∙ full-stops o _ f) z)
 
-    pub next-stands : StandsAt u p → StandsAt (callOn (X .kind) m s u k .1) (stoppedAt (callOn (X .kind) m s u k .0) (movedIn m s c p k))
-    next-stands i = subst Next (sym (agrees u k (i .stands .fits))) (goes-to i (ended i))
+    pub next-at : TimelineAt u p → TimelineAt (callOn (X .kind) m s u k .1) (stoppedAt (callOn (X .kind) m s u k .0) (movedIn m s c p k))
+    next-at i = subst Next (sym (agrees u k (i .engine-at .fits))) (goes-to i (ended i))

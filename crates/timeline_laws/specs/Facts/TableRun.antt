@@ -1,4 +1,4 @@
--- The table machine of document 01 as the timeline's abstract machine. Assumes nothing.
+-- The laws of the table machine of document 01 as an automaton. Assumes nothing.
 use Prim.Native.Nat.{ℕ, zero, suc}
 use mathlib.Core.Path.{_≡_, refl, sym, ap, _∙_, subst}
 use mathlib.Core.List.{List}
@@ -6,21 +6,14 @@ use native.Mathlib.Omega.{arith}
 use Rattle.outcome.specs.declared.Outcome.{Outcome}
 use Rattle.outcome.specs.declared.Outcome.the-variants as Out
 use Rattle.outcome.specs.declared.NonHaltProof.{NonHaltProof}
-use Rattle.outcome.specs.Numbers.{outcomeNumber, stepsOf}
+use Rattle.outcome.specs.Numbers.{stepsOf}
 use Rattle.outcome.specs.Facts.Numbers.{never-of}
 use Rattle.machine.specs.declared.Machine.{Machine}
 use Rattle.table_machine.specs.TableMachine.{Table, Config, step, run, Halted, Verdict, halts, stays, walks, goes}
 use Rattle.table_machine.specs.Tables.{tableOf, TableOf, Bare}
-use Rattle.table_machine.specs.Facts.Run.{run-suc, step-halted, step-steps, dec-halted}
-use Rattle.table_machine.specs.Facts.Tape.{bare-step}
+use Rattle.table_machine.specs.Facts.Run.{run-suc}
 use Rattle.table_machine.specs.Facts.Never.{never-sound-bare}
-use Rattle.timeline_laws.specs.Automaton.{Automaton, iterate}
-
-abbrev pub IsFull : Outcome → Type 0
-IsFull o = outcomeNumber o ≡ 4
-
-abbrev pub IsNever : Outcome → Type 0
-IsNever o = outcomeNumber o ≡ 2
+use Rattle.timeline_laws.specs.Automaton.{iterate, IsFull, IsNever}
 
 pub verdict-not-full : (t : ℕ) (d : Table) (c : Config) (o : Outcome) → Verdict t d c o → ¬ IsFull o
 verdict-not-full t d c o (halts h) = λ f. omega (arith, f)
@@ -39,23 +32,3 @@ module _ (m : Machine) (s : List ℕ) (table : TableOf m (tableOf m s)) where
     where
       by : (p : NonHaltProof) × (o ≡ Out.NeverHalts (stepsOf o) p) → ¬ Halted (tableOf m s) (run (tableOf m s) n c)
       by q = never-sound-bare m (tableOf m s) table c b (stepsOf o) (q .0) (subst (Verdict (m .tapes) (tableOf m s) c) (q .1) v) n
-
-  abbrev pub machine : Automaton
-  machine = record {
-    Config = Config;
-    Out = Outcome;
-    steps = λ c. c .steps;
-    step = step (tableOf m s);
-    Halted = Halted (tableOf m s);
-    Verdict = Verdict (m .tapes) (tableOf m s);
-    Full = IsFull;
-    Never = IsNever;
-    counted = stepsOf;
-    Real = Bare (m .tapes);
-    real-step = bare-step m (tableOf m s) table;
-    halted? = dec-halted (tableOf m s);
-    stays = step-halted (tableOf m s);
-    adds = step-steps (tableOf m s);
-    verdict-not-full = verdict-not-full (m .tapes) (tableOf m s);
-    never-halts = never-on;
-  }

@@ -20,19 +20,19 @@ use Rattle.table_machine.specs.Tables.{tableOf}
 use Rattle.store_bytes.specs.Model.{slotOf}
 use Rattle.timeline_rule.specs.Model.Timeline.{Reply, refused, answered, Call, forward, target, call}
 use Rattle.timeline_rule.specs.Model.Kind.{opsOf, opsFor, TimelineOf, newOn, callOn}
-use Rattle.timeline_laws.specs.Automaton.{Automaton, run as runs}
+use Rattle.timeline_laws.specs.Automaton.{Automaton, run as runs, IsFull}
 use Rattle.timeline_laws.specs.Laws.{Laws, Advance, went, full}
 use Rattle.timeline_laws.specs.Facts.Steps.{base, reach-runs, reach-halts}
 use Rattle.timeline_laws.specs.Facts.Invariant.{Slot, Inv, slot-now}
 use Rattle.timeline_laws.specs.Facts.Ends.{Ends, over, reached, stopped, ends}
 use Rattle.timeline_laws.specs.Facts.New.{Begun, begun, born-inv}
-use Rattle.timeline_laws.specs.Facts.TableRun.{IsFull, machine}
+use Rattle.timeline_laws.specs.TableRun.{machine}
 use Rattle.timeline_laws.specs.Meaning.{EngineMeaning}
 use Rattle.timeline_laws.specs.Notes.{noting, bare, NotedOf, newNoted, callNoted, afterNoted}
 use Rattle.timeline_laws.specs.Facts.Notes.{call-bare, noted}
 use Rattle.timeline_laws.specs.Statement.{orHalt, placeBy, HaltedAt, HaltsIn, reachIn, goalIn, movedIn, placeIn, stepsIf, stoppedAt, afterOn, placeOn, placeAfter, RoomFor, Roomy, Twice, FullFrom, SlotGives, WholeList, DemandFrom, Demand}
 use Rattle.timeline_laws.specs.Instance.{Instance, Instances, Beginnings}
-use Rattle.timeline_laws.specs.Facts.Results.{StandsAt, runs-is, reach-in, base-is, stands-now, stands-low, stands-held, result, next-stands}
+use Rattle.timeline_laws.specs.Facts.Results.{TimelineAt, runs-is, reach-in, base-is, timeline-now, timeline-low, timeline-held, result, next-at}
 use Rattle.timeline_laws.specs.Facts.Twice.{twice-is}
 
 -- after an answer other than full, the rule gives p
@@ -95,27 +95,27 @@ module _ (X : EngineMeaning) (m : Machine) (s : List ℕ) (e : X .kind .State) (
 
   -- ---- lists
 
-  stands-after : (u : TimelineOf (X .kind)) (p : ℕ) (ks : List Call) → StandsAt X m s e I u p → StandsAt X m s e I (afterOn X m s u ks) (placeOn X m s c u p ks)
-  stands-after u p [] i = i
-  stands-after u p (k ∷ ks) i =
-      stands-after (callOn (X .kind) m s u k .1) (stoppedAt (callOn (X .kind) m s u k .0) (movedIn m s c p k)) ks (next-stands X m s e I u p k i)
+  at-after : (u : TimelineOf (X .kind)) (p : ℕ) (ks : List Call) → TimelineAt X m s e I u p → TimelineAt X m s e I (afterOn X m s u ks) (placeOn X m s c u p ks)
+  at-after u p [] i = i
+  at-after u p (k ∷ ks) i =
+      at-after (callOn (X .kind) m s u k .1) (stoppedAt (callOn (X .kind) m s u k .0) (movedIn m s c p k)) ks (next-at X m s e I u p k i)
 
-  twice-from : (u : TimelineOf (X .kind)) (p : ℕ) → StandsAt X m s e I u p → (a b : ℕ) → p + a + b ≤ stepsMost
+  twice-from : (u : TimelineOf (X .kind)) (p : ℕ) → TimelineAt X m s e I u p → (a b : ℕ) → p + a + b ≤ stepsMost
       → RoomFor X m s u (forward a) → RoomFor X m s (callOn (X .kind) m s u (forward a) .1) (forward b) → Twice X m s u a b
   twice-from u p i a b l f g = twice-is X m s e I u p a b under l f g
       (result X m s e I u p (forward a) i) (result X m s e I (callOn (X .kind) m s u (forward a) .1) (reachIn m s c (p + a)) (forward b) next) (result X m s e I u p (forward (a + b)) i)
     where
       under : c .steps ≤ p
-      under = stands-low X m s e I u p i
+      under = timeline-low X m s e I u p i
 
       there : goalIn m s c p (forward a) ≡ p + a
       there = omega (arith, under)
 
-      next : StandsAt X m s e I (callOn (X .kind) m s u (forward a) .1) (reachIn m s c (p + a))
-      next = subst (StandsAt X m s e I (callOn (X .kind) m s u (forward a) .1))
+      next : TimelineAt X m s e I (callOn (X .kind) m s u (forward a) .1) (reachIn m s c (p + a))
+      next = subst (TimelineAt X m s e I (callOn (X .kind) m s u (forward a) .1))
           (not-stopped (callOn (X .kind) m s u (forward a) .0) (movedIn m s c p (forward a)) f
           ∙ (pick-true (leb (p + a) stepsMost) (reachIn m s c (goalIn m s c p (forward a))) p (le-leb (p + a) stepsMost (omega arith)) ∙ ap (reachIn m s c) there))
-          (next-stands X m s e I u p (forward a) i)
+          (next-at X m s e I u p (forward a) i)
 
   -- ---- notes
 
@@ -128,7 +128,7 @@ module _ (X : EngineMeaning) (m : Machine) (s : List ℕ) (e : X .kind .State) (
   agrees u k f = ap (λ z. call (noting (opsOf (X .kind) m s z)) u k) (I .same-size (u .engine) f)
 
   noted-next : (u : NotedOf (X .kind)) (p : ℕ) (k : Call) → NotedAt u p → (q : ℕ) × NotedAt (callNoted (X .kind) m s u k .1) q
-  noted-next u p k i = subst (λ (z : Reply Outcome × NotedOf (X .kind)). (q : ℕ) × NotedAt (z .1) q) (sym (agrees u k (i .stands .fits)))
+  noted-next u p k i = subst (λ (z : Reply Outcome × NotedOf (X .kind)). (q : ℕ) × NotedAt (z .1) q) (sym (agrees u k (i .engine-at .fits)))
       (by (ends (noted E) (E .mean e) (E .fits-good e (I .fits)) u p k i))
     where
       by : Ends (noted E) (E .mean e) (E .fits-good e (I .fits)) u p k → (q : ℕ) × NotedAt (call (noting (opsFor (X .kind) m s e)) u k .1) q
@@ -147,7 +147,7 @@ module _ (X : EngineMeaning) (m : Machine) (s : List ℕ) (e : X .kind .State) (
       ∙ ap (λ (z : Reply Outcome × TimelineOf (X .kind)). afterOn X m s (z .1) ks) (call-bare (opsFor (X .kind) m s (u .engine)) u k)
 
   slot-gives : (u : NotedOf (X .kind)) (p : ℕ) → NotedAt u p → (i : ℕ) → i < u .times .count → SlotGives X m s c u i
-  slot-gives u p n i l = by (noted E .restores i (u .engine) (u .store) (slot .engine) (n .stands .fits) (omega (arith, n .count-high, n .tidy .room-for)) (slot .kept))
+  slot-gives u p n i l = by (noted E .restores i (u .engine) (u .store) (slot .engine) (n .engine-at .fits) (omega (arith, n .count-high, n .tidy .room-for)) (slot .kept))
     where
       slot : Slot (noted E) (E .mean e) (E .fits-good e (I .fits)) (u .store) (u .times) i
       slot = n .tidy .slot i l
@@ -162,15 +162,15 @@ module _ (X : EngineMeaning) (m : Machine) (s : List ℕ) (e : X .kind .State) (
         noted = slot .kept .1;
         step = step;
         read = r .0;
-        reads = (λ j. X .kind .unpack m (slotOf (I .same-size (u .engine) (n .stands .fits) j) i (u .store .bytes)) (sym step j) (u .engine)) ∙ r .1;
+        reads = (λ j. X .kind .unpack m (slotOf (I .same-size (u .engine) (n .engine-at .fits) j) i (u .store .bytes)) (sym step j) (u .engine)) ∙ r .1;
         same = I .same-engine (r .0) (slot .engine) (r .2);
       }
 
   -- ---- the whole
 
   module _ (most every : ℕ) (store : List ℕ) (v : TimelineOf (X .kind)) (n : Begun (opsFor (X .kind) m s e) most every e store v) where
-    new-stands : StandsAt X m s e I v (c .steps)
-    new-stands = subst (StandsAt X m s e I v) (sym first-is)
+    new-at : TimelineAt X m s e I v (c .steps)
+    new-at = subst (TimelineAt X m s e I v) (sym first-is)
         (subst (λ z. Inv E (E .mean e) (E .fits-good e (I .fits)) z (base E (E .mean e))) (n .is) (born-inv E most every e store (I .fits) (n .settings-in) (n .slots-in)))
 
     -- a new timeline with notes has the invariant
@@ -178,23 +178,23 @@ module _ (X : EngineMeaning) (m : Machine) (s : List ℕ) (e : X .kind .State) (
     new-noted = subst (λ z. NotedAt (newNoted (X .kind) z) (base E (E .mean e))) (n .is)
         (born-inv (noted E) most every e (record { bytes = store; note = λ j. none }) (I .fits) (n .settings-in) (n .slots-in))
 
-    after-stands : (ks : List Call) → StandsAt X m s e I (afterOn X m s v ks) (placeAfter X m s c v ks)
-    after-stands ks = stands-after v (c .steps) ks new-stands
+    after-at : (ks : List Call) → TimelineAt X m s e I (afterOn X m s v ks) (placeAfter X m s c v ks)
+    after-at ks = at-after v (c .steps) ks new-at
 
     after-noted : (ks : List Call) → (q : ℕ) × NotedAt (afterNoted (X .kind) m s (newNoted (X .kind) v) ks) q
     after-noted ks = noted-after (newNoted (X .kind) v) (base E (E .mean e)) ks new-noted
 
     whole : (ks : List Call) → WholeList X m s c e v ks
     whole ks = record {
-      holds = stands-held X m s e I (afterOn X m s v ks) (placeAfter X m s c v ks) (after-stands ks);
-      stands = stands-now X m s e I (afterOn X m s v ks) (placeAfter X m s c v ks) (after-stands ks);
-      each = λ before rest k q. result X m s e I (afterOn X m s v before) (placeAfter X m s c v before) k (after-stands before);
-      onward = λ k. result X m s e I (afterOn X m s v ks) (placeAfter X m s c v ks) k (after-stands ks);
+      holds = timeline-held X m s e I (afterOn X m s v ks) (placeAfter X m s c v ks) (after-at ks);
+      step-count = timeline-now X m s e I (afterOn X m s v ks) (placeAfter X m s c v ks) (after-at ks);
+      each = λ before rest k q. result X m s e I (afterOn X m s v before) (placeAfter X m s c v before) k (after-at before);
+      onward = λ k. result X m s e I (afterOn X m s v ks) (placeAfter X m s c v ks) k (after-at ks);
       place = roomy-place v (c .steps) ks;
       paper = λ h q. (place-by h q (c .steps) ks, reach-by h q);
-      twice = twice-from (afterOn X m s v ks) (placeAfter X m s c v ks) (after-stands ks);
+      twice = twice-from (afterOn X m s v ks) (placeAfter X m s c v ks) (after-at ks);
       rule = λ i l. full-rule i (X .kind .advance m s i e .0) (E .mean (X .kind .advance m s i e .1)) (E .advances i e (I .fits) (omega (arith, now-first)));
-      begins = after-stands ks .tidy .first-is ∙ sym first-is;
+      begins = after-at ks .tidy .first-is ∙ sym first-is;
       notes = notes-aside (newNoted (X .kind) v) ks;
       slots = λ i l. slot-gives (afterNoted (X .kind) m s (newNoted (X .kind) v) ks) (after-noted ks .0) (after-noted ks .1) i
           (subst (λ (z : TimelineOf (X .kind)). i < z .times .count) (sym (notes-aside (newNoted (X .kind) v) ks)) l);

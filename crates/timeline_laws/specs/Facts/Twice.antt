@@ -15,7 +15,7 @@ use Rattle.timeline_rule.specs.Model.Timeline.{answered, forward}
 use Rattle.timeline_rule.specs.Model.Kind.{TimelineOf, callOn}
 use Rattle.timeline_laws.specs.Automaton.{Automaton, reach}
 use Rattle.timeline_laws.specs.Facts.Steps.{run-reach, run-on}
-use Rattle.timeline_laws.specs.Facts.TableRun.{machine}
+use Rattle.timeline_laws.specs.TableRun.{machine}
 use Rattle.timeline_laws.specs.Meaning.{EngineMeaning}
 use Rattle.timeline_laws.specs.Statement.{afterSteps, reachIn, goalIn, heldOn, RoomFor, Twice, Stuck, Result}
 use Rattle.timeline_laws.specs.Instance.{Instance}
@@ -74,7 +74,7 @@ module _ (X : EngineMeaning) (m : Machine) (s : List ℕ) (e : X .kind .State) (
 
     -- a full step on the way of forward a + b would be on the way of forward a or of forward b
     whole-free : RoomFor X m s u (forward (a + b))
-    whole-free n z = by (once .stands n z) (decLt n (p + a)) (decLt n (q + b))
+    whole-free n z = by (once .stops n z) (decLt n (p + a)) (decLt n (q + b))
       where
         by : Stuck X m s c e (callOn (X .kind) m s u (forward (a + b)) .1) p (goalIn m s c p (forward (a + b))) n → Dec (n < p + a) → Dec (n < q + b) → ⊥
         by k (yes l) h = let f = first .space (omega arith) .1 (n, k .from, omega (arith, forward-goal p a under), k .full) in free (f .0) (f .1)

@@ -1,7 +1,7 @@
 -- Refusals 14, 15 and 13 in their order, and the bounds on the numbers of a value that passes 14. Assumes nothing.
 use mathlib.Core.Path.{_≡_, sym, _∙_}
 use mathlib.Core.Bool.{Bool, true, false}
-use Prim.Native.Nat.{ℕ, _-_, _≤_, _<_}
+use Prim.Native.Nat.{ℕ, _≤_, _<_}
 use native.Mathlib.Omega.{arith}
 use borrow.Author.Tests.{le-leb, lt-leb, lt-ltb, le-ltb}
 use Rattle.notation.specs.Facts.Tests.{both-split, pick-true, pick-false}

@@ -14,8 +14,8 @@ use Rattle.machine.specs.Model.Check.{within}
 use Rattle.machine.specs.Facts.Check.{within-passed}
 use Rattle.store_bytes.specs.Model.{moveSlot, thinBy}
 use Rattle.timeline_rule.specs.declared.Times.{Times}
-use Rattle.timeline_rule.specs.Model.Timeline.{due, oneMore, halved}
-use Rattle.timeline_rule.specs.Model.Due.{dueOf, safeDue, thinTimes, thinStore, Thinned, TimesFit, ThinOk, RecordOk}
+use Rattle.timeline_rule.specs.Model.Timeline.{due, halved}
+use Rattle.timeline_rule.specs.Model.Due.{dueOf, safeDue, thinTimes, thinStore, Thinned, TimesFit}
 
 pub safe-due : (v : Times) → v .first ≤ stepsMost → 1 ≤ v .every → (safeDue v ≡ due v) ⊎ ((stepsMost < due v) × (safeDue v ≡ stepsMost + 1))
 unfolding dueOf

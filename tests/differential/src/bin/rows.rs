@@ -67,11 +67,11 @@ impl Case {
         Some(rows)
     }
 
-    /// A run from the start to the target: its row, and the step at which the engine then stands.
+    /// A run from the start to the target: its row, and the step that the engine has then reached.
     fn go(&self, machine: &Rc<Machine>, target: u64, limit: u64) -> Option<(String, u64)> {
         let mut sim = oracle::fresh(machine, &self.word);
-        let told = OnCells::advance(&mut sim, ROOM, target.min(limit));
-        let answer = ["halted", "fuel", "never", "stopped", "full"][told[0].unwrap_or(3) as usize];
+        let result = OnCells::advance(&mut sim, ROOM, target.min(limit));
+        let answer = ["halted", "fuel", "never", "stopped", "full"][result[0].unwrap_or(3) as usize];
         let cut = sim.steps() == limit && limit < target && answer != "halted" && answer != "full";
         (!cut).then(|| (row(answer, &sim), sim.steps()))
     }

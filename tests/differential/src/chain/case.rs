@@ -56,7 +56,7 @@ pub struct Case {
     pub begin: Begin,
     pub acts: Vec<Act>,
     pub asking: Asking,
-    /// Whether the plain engine of the port runs beside it, and must stand at the same configuration.
+    /// Whether the plain engine of the port runs beside it, and must hold the same configuration.
     pub plain: bool,
     /// The seed of the dirt and of the choice of questions.
     pub dirt: u64,

@@ -153,7 +153,7 @@ impl<'a> Pairing<'a> {
         }
     }
 
-    /// The plain engine, after as many steps more, stands at the same configuration. Says whether there
+    /// The plain engine, after as many steps more, holds the same configuration. Says whether there
     /// is one.
     fn beside(&mut self, made: u64, out: &Out) -> Result<bool, Difference> {
         let Some(mut plain) = self.plain.take() else {
@@ -213,9 +213,9 @@ impl<'a> Pairing<'a> {
         if accepted {
             let sim = self.sim.as_ref().expect("an accepted engine has its oracle");
             let want = if right { sim.tape().right() } else { sim.tape().left() };
-            let told: Vec<(u8, u64)> = runs.part()[..written].iter().map(|run| (run.symbol, run.len)).collect();
+            let listed: Vec<(u8, u64)> = runs.part()[..written].iter().map(|run| (run.symbol, run.len)).collect();
             same!(out[0], want.len() as u64, "number of runs");
-            same!(told, oracle::runs(want), "runs, topmost last");
+            same!(listed, oracle::runs(want), "runs, topmost last");
         }
         Ok(())
     }
@@ -290,17 +290,17 @@ impl Plain {
 
     /// Makes as many steps; `out` is the run-length engine's answer. No more is said once it is full.
     fn follow(&mut self, subject: &Subject, made: u64, out: &Out) -> Result<bool, Difference> {
-        let mut told = OUT;
+        let mut plain = OUT;
         let cells: port::CellsMut = [&mut self.cells, &mut [], &mut []];
         let (s, t) = (subject.sizes, &subject.table);
-        let result = port::run(s, t, cells, &mut self.state, &mut self.engine, (NO_RULE, made), &mut told);
+        let result = port::run(s, t, cells, &mut self.state, &mut self.engine, (NO_RULE, made), &mut plain);
         same!(result, 0, "the plain engine's result");
-        if told[0] == 4 {
+        if plain[0] == 4 {
             return Ok(false);
         }
         match out[0] {
-            3 | 4 => same!(told[..2], [1, out[1]], "the plain engine's answer where the other stopped or was full"),
-            _ => same!(told[..5], out[..5], "answers of the plain and of the run-length engine"),
+            3 | 4 => same!(plain[..2], [1, out[1]], "the plain engine's answer where the other stopped or was full"),
+            _ => same!(plain[..5], out[..5], "answers of the plain and of the run-length engine"),
         }
         Ok(true)
     }

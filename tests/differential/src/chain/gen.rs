@@ -51,7 +51,7 @@ pub fn long(rng: &mut Rng, sizes: &Sizes) -> Begin {
     fresh(rng, word)
 }
 
-/// So many random calls. `steps` is about where the engine stands.
+/// So many random calls. `steps` is about the step that the engine has reached.
 pub fn acts(rng: &mut Rng, sizes: &Sizes, count: u64, steps: u64) -> Vec<Act> {
     (0..count).map(|_| Act::Run { rule: rule(rng, sizes.states), fuel: fuel(rng, steps) }).collect()
 }

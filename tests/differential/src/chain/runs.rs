@@ -64,15 +64,15 @@ impl<'a> Lone<'a> {
 
 /// A case of document 01: what is run with which rule and fuel, and the first numbers of the answer (none for
 /// refusal 13).
-type Told<'a> = (&'a str, &'a Rc<Subject>, u64, u64, &'a [u64]);
+type DocumentCase<'a> = (&'a str, &'a Rc<Subject>, u64, u64, &'a [u64]);
 
-/// Document 01's own cases; the answers stand here.
+/// Document 01's own cases; the answers are written here.
 pub fn cases(r: &mut Runner) {
     let walk = one_tape(2, 1, &[(0, 0, 1, R, 0)]);
     let stay = one_tape(2, 1, &[(0, 0, 0, N, 0)]);
     let once = one_tape(2, 1, &[(0, 0, 1, N, 0)]);
     let listing = listing();
-    let told: [Told; 8] = [
+    let cases: [DocumentCase; 8] = [
         ("the listing's table, fuel 5: out of fuel at 5", &listing, NO_RULE, 5, &[1, 5]),
         ("the listing's table, fuel 6: halted at 6", &listing, NO_RULE, 6, &[0, 6, 2]),
         ("the listing's table, stop on state 1, fuel 5: stopped at 1", &listing, 1, 5, &[3, 1]),
@@ -82,7 +82,7 @@ pub fn cases(r: &mut Runner) {
         ("blank rewritten, N, same state: stay loop at 0", &stay, NO_RULE, 9, &[2, 0, 0, 0]),
         ("blank to 1, N, 1 undefined: halted at 1", &once, NO_RULE, 9, &[0, 1, 0]),
     ];
-    for (fact, subject, rule, fuel, want) in told {
+    for (fact, subject, rule, fuel, want) in cases {
         let mut lone = Lone::new(subject, &[], 8);
         lone.run(rule, fuel);
         let refused = if want.is_empty() { 13 } else { 0 };
@@ -90,10 +90,10 @@ pub fn cases(r: &mut Runner) {
         r.fact(holds, &format!("{fact}: result {}, out {:?}", lone.result, lone.out));
         r.case(&case_of(subject, fresh(&[], 8, 8), vec![Act::Run { rule, fuel }; 3], Asking::All, 1));
     }
-    told_words(r);
+    document_words(r);
 }
 
-fn told_words(r: &mut Runner) {
+fn document_words(r: &mut Runner) {
     let along = one_tape(2, 1, &[(0, 1, 1, R, 0)]);
     let lone = Lone::new(&along, &[1, 1, 0], 4);
     r.fact(lone.runs(1) == [(1, 1)] && lone.value.cur == 1, "word 1 1 0: right stack one run, symbol 1, length 1");
@@ -311,7 +311,7 @@ fn clauses(steps: u64) -> Vec<(&'static str, Begin)> {
 /// The clauses about one side's stack.
 fn broken_stacks(steps: u64, on_right: bool) -> Vec<(&'static str, Begin)> {
     let far = steps + SLACK;
-    // Where the head must stand so that only the sum, or only the distance, is too large.
+    // Where the head must be so that only the sum, or only the distance, is too large.
     let (home, edge) = if on_right { (ZERO - steps, ZERO + steps) } else { (ZERO + steps, ZERO - steps) };
     let middle = ZERO + 1;
     let broken: [(&str, [u8; 2], [u64; 2], u64); 9] = [

@@ -127,19 +127,19 @@ fn put(line: &mut Line, question: &Question) {
 }
 
 /// None where the Rust's index sum overflows, or the window is long.
-fn answer(told: &mut Line, sim: &Sim, question: &Question) -> Option<()> {
+fn answer(line: &mut Line, sim: &Sim, question: &Question) -> Option<()> {
     match *question {
-        Question::Get { tape, at } => told.put(oracle::get(sim, tape as usize, at)),
+        Question::Get { tape, at } => line.put(oracle::get(sim, tape as usize, at)),
         Question::NonBlank { tape } => match oracle::non_blank(sim, tape as usize) {
-            None => told.put(0),
-            Some((from, to)) => told.puts([1, from, to]),
+            None => line.put(0),
+            Some((from, to)) => line.puts([1, from, to]),
         },
-        Question::Count { tape } => told.put(oracle::count(sim, tape as usize)),
+        Question::Count { tape } => line.put(oracle::count(sim, tape as usize)),
         Question::Window { len, .. } if len > 60 => return None,
-        Question::Window { tape, from, len } => told.puts(oracle::window(sim, tape as usize, from, len)),
+        Question::Window { tape, from, len } => line.puts(oracle::window(sim, tape as usize, from, len)),
         Question::Find { tape, from, dir } => match oracle::find(sim, tape as usize, from, dir).ok()? {
-            None => told.put(0),
-            Some(at) => told.puts([1, at]),
+            None => line.put(0),
+            Some(at) => line.puts([1, at]),
         },
     }
     Some(())

@@ -37,8 +37,8 @@ fn made<K: Kind>(
     if target.saturating_sub(here) > REACH && !(far && K::ends_soon(rust.current(), room, target - here)) {
         return None;
     }
-    let told = model.go_to(target.max(model.first()), room);
-    (told[0] != Some(4)).then(|| match call {
+    let result = model.go_to(target.max(model.first()), room);
+    (result[0] != Some(4)).then(|| match call {
         Call::Seek(n) => rust.seek(n),
         Call::Forward(n) => rust.forward(n),
         Call::Back(n) => rust.back(n),

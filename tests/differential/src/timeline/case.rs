@@ -38,7 +38,7 @@ pub struct Case<K: Kind> {
     pub set: (u64, u64),
     /// Bytes of the store beyond m + 1 slots; fewer, if negative.
     pub more: isize,
-    /// What stands in the timeline's value before it is made; calls are made with it if it is not.
+    /// What the timeline's value holds before it is made; calls are made with it if it is not.
     pub times: Times,
     pub acts: Vec<Act>,
     /// Whether each call is held against a run of the Rust's engine from the start.

@@ -214,12 +214,12 @@ impl<'a, K: Kind> Pairing<'a, K> {
         let room = K::room(&self.port.held);
         let model = self.model.as_mut().expect("an engine that fits has its model");
         let (from, interval) = (K::work(&model.here), model.times[EVERY]);
-        let told = model.go_to(target, room);
-        same_answer(out, told, "the model's")?;
+        let expected = model.go_to(target, room);
+        same_answer(out, expected, "the model's")?;
         K::compare(&self.port.held, &model.here, true)?;
         same!(self.port.times, model.times, "the timeline's value [most, first, count, every]");
         same!(self.port.store_kept(), true, "the store past m + 1 slots is as it was");
-        let (end, full) = (model.here.steps(), told[0] == Some(4));
+        let (end, full) = (model.here.steps(), expected[0] == Some(4));
         tally.timeline[THINNED] += u64::from(model.times[EVERY].ilog2() - interval.ilog2());
         tally.outcomes[out[0] as usize] += 1;
         tally.departures[FULL] += u64::from(full);

@@ -5,7 +5,7 @@
 //! - A slice is a pointer and a number of elements, an array reference is one pointer. The machine's
 //!   four numbers, the table, the cells buffers or run places, the state, the symbol under the head
 //!   and the engine's numbers are those of `tm_sim_run` and `tm_chain_run`, in the same order. The
-//!   store stands after the buffers.
+//!   store comes after the buffers.
 //! - `times` is the timeline's own value: most (m), first (the starting step), count (slots
 //!   recorded), every (the interval).
 //! - `.._timeline_new` makes a timeline on the engine at hand: it reads engine and buffers, writes
@@ -17,7 +17,7 @@
 //!   move. Refusals 1 to 6, 8, 11, 12, 14, 15, 13, 16, in that order.
 //! - A slot has 128 bytes more than the cells buffers of the machine's tapes together, or than 9
 //!   times the run places of both sides (a side's places are the shorter of its two slices). Slot i
-//!   stands at i times that. Only the first m + 1 slots are ever written.
+//!   begins at i times that. Only the first m + 1 slots are ever written.
 //! - The result is 0, or the refusal's number, its place in `out[0]` for refusal 6. A refusal
 //!   changes nothing else.
 

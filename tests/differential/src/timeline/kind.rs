@@ -52,7 +52,7 @@ pub trait Kind: Clone + 'static {
     fn slot(sizes: &Sizes, held: &Self::Held) -> usize;
     /// The Rust's engine with the same value, which must fit.
     fn set(machine: &Rc<Machine>, held: &Self::Held) -> Self::Sim;
-    /// Changes a number of the value, or what stands in a buffer.
+    /// Changes a number of the value, or what a buffer holds.
     fn spoil(held: &mut Self::Held, place: usize, to: u64);
 
     /// The Rust's advance, but full where the port is.

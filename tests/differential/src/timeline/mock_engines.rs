@@ -20,7 +20,7 @@ pub(super) struct OnCells<'a> {
 }
 
 impl OnCells<'_> {
-    /// Where each tape's cells stand in a slot.
+    /// Where each tape's cells begin in a slot.
     fn parts(&self) -> [std::ops::Range<usize>; 3] {
         let mut at = 128;
         [0, 1, 2].map(|i| {

@@ -1,5 +1,5 @@
 //! The timeline of document 01 over the Rust's engines, for any settings and with lack of space,
-//! written down on its own: what a call answers, where the engine then stands, what is recorded.
+//! written down on its own: what a call answers, which step the engine has then reached, what is recorded.
 
 use super::kind::{Kind, Told};
 use super::law::{COUNT, EVERY, FIRST, MOST, Times, due};
@@ -21,7 +21,7 @@ impl<K: Kind> Model<K> {
         Self { times: [most, here.steps(), 1, every], here, slots }
     }
 
-    /// The slot that a call to `target` restores, and the step at which its engine must stand; none
+    /// The slot that a call to `target` restores, and the step that its engine must have; none
     /// where it goes on or stays.
     pub fn restores(&self, target: u64) -> Option<(usize, u64)> {
         let [_, first, count, every] = self.times;
@@ -55,10 +55,10 @@ impl<K: Kind> Model<K> {
                 self.record();
             }
             let fuel = (due(&self.times).min(u128::from(target)) as u64).max(now) - now;
-            let told = K::advance(&mut self.here, room, fuel);
+            let result = K::advance(&mut self.here, room, fuel);
             let reached = self.here.steps();
             if reached == target || reached == now {
-                return told;
+                return result;
             }
         }
     }

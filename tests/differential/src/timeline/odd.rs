@@ -19,7 +19,7 @@ pub enum Odd {
     Short(usize),
     /// A slot is changed: by its index, or the one that the call restores.
     Slot(Option<usize>, How),
-    /// A number of the engine's value, or what stands in a buffer, is another.
+    /// A number of the engine's value, or what a buffer holds, is another.
     Value(usize, u64),
     /// The table is another.
     Table(Rc<Subject>),
@@ -66,7 +66,7 @@ pub struct Ready<'s, 'a, K: Kind> {
     pub slot: usize,
     /// The slot that the call restores, if it does.
     pub restores: Option<usize>,
-    /// Whether what the store holds cannot be told any more.
+    /// Whether what the store holds is no longer known.
     pub uncertain: &'a mut bool,
 }
 

@@ -2,8 +2,6 @@ use mathlib.Core.Path.{refl}
 use borrow.Author.Needs.{needs}
 use Rattle.capi_numbers.proofs.answers.put_place.Statement.{statement}
 use Rattle.capi_numbers.proofs.answers.put_place.Tie as tie
-use Rattle.capi_numbers.proofs.answers.put_place.Reads as reads
-use Rattle.capi_numbers.proofs.answers.put_place.Lts as lts
 
 enum-known-place : tie.Need-enum-known-place
 enum-known-place c = search needs

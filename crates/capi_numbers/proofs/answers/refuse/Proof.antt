@@ -1,11 +1,6 @@
 use borrow.Author.Needs.{needs}
 use Rattle.capi_numbers.proofs.answers.refuse.Statement.{statement}
 use Rattle.capi_numbers.proofs.answers.refuse.Tie as tie
-use Rattle.capi_numbers.proofs.answers.refuse.Reads as reads
-use Rattle.capi_numbers.proofs.answers.refuse.Lts as lts
-use Rattle.capi_numbers.proofs.answers.put_place.Reads as put-place-reads
-use Rattle.outcome.proofs.Refusal.number.Reads as number-reads
-use Rattle.outcome.proofs.Refusal.place.Reads as place-reads
 
 place-requires : tie.Need-place-requires
 place-requires c κs = search needs

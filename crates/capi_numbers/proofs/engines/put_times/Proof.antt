@@ -3,8 +3,6 @@ use Rattle.capi_numbers.specs.Model.Engines.{withTimes}
 use borrow.Author.Needs.{needs}
 use Rattle.capi_numbers.proofs.engines.put_times.Statement.{statement}
 use Rattle.capi_numbers.proofs.engines.put_times.Tie as tie
-use Rattle.capi_numbers.proofs.engines.put_times.Reads as reads
-use Rattle.capi_numbers.proofs.engines.put_times.Lts as lts
 
 element-write-xs : tie.Need-element-write-xs
 element-write-xs c = search needs

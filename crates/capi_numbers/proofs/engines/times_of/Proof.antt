@@ -3,8 +3,6 @@ use Rattle.capi_numbers.specs.Model.Engines.{timesFrom}
 use borrow.Author.Needs.{needs}
 use Rattle.capi_numbers.proofs.engines.times_of.Statement.{statement}
 use Rattle.capi_numbers.proofs.engines.times_of.Tie as tie
-use Rattle.capi_numbers.proofs.engines.times_of.Reads as reads
-use Rattle.capi_numbers.proofs.engines.times_of.Lts as lts
 
 element-copy-out-t4 : tie.Need-element-copy-out-t4
 element-copy-out-t4 c = search needs

@@ -1,4 +1,3 @@
-use mathlib.Core.Path.{refl}
 use borrow.Author.Needs.{needs}
 use Rattle.capi_numbers.proofs.parts.put_looked.Statement.{statement}
 use Rattle.capi_numbers.proofs.parts.put_looked.Tie as tie

@@ -41,7 +41,7 @@ impl<'a> Lone<'a> {
 }
 
 /// A case of document 01: what is run, and the first numbers of the answer (none for refusal 13).
-struct Told<'a> {
+struct DocumentCase<'a> {
     fact: &'a str,
     subject: &'a Rc<Subject>,
     word: &'a [u8],
@@ -51,7 +51,7 @@ struct Told<'a> {
     want: &'a [u64],
 }
 
-/// Document 01's own cases, as far as they concern the plain engine; the answers stand here.
+/// Document 01's own cases, as far as they concern the plain engine; the answers are written here.
 pub fn cases(r: &mut Runner) {
     let walk = one_tape(2, 1, &[(0, 0, 1, R, 0)]);
     let stay = one_tape(2, 1, &[(0, 0, 0, N, 0)]);
@@ -59,27 +59,27 @@ pub fn cases(r: &mut Runner) {
     let two = walkers(&[R, R], 1);
     let along = one_tape(2, 1, &[(0, 1, 1, R, 0)]);
     let (listing, alternating) = (listing(), alternating(R));
-    let told = |fact, subject, rule, fuel, want| Told { fact, subject, word: &[], room: 64, rule, fuel, want };
+    let case = |fact, subject, rule, fuel, want| DocumentCase { fact, subject, word: &[], room: 64, rule, fuel, want };
     let none = NO_RULE;
     let mut all = vec![
-        told("the listing's table, fuel 5: out of fuel at 5", &listing, none, 5, &[1, 5][..]),
-        told("the listing's table, fuel 6: halted at 6", &listing, none, 6, &[0, 6, 2]),
-        told("the listing's table, stop on state 1, fuel 5: stopped at 2", &listing, 1, 5, &[3, 2]),
-        told("0 writes 1, moves R, stays, fuel 0: never at 0", &walk, none, 0, &[2, 0, 0, 1, 1]),
-        told("0 writes 1, moves R, stays, fuel 2^62: never at 0", &walk, none, MAX_STEPS, &[2, 0, 0, 1, 1]),
-        told("0 writes 1, moves R, stays, fuel 2^62 + 1: refused 13", &walk, none, MAX_STEPS + 1, &[]),
-        told("blank rewritten, N, same state: stay loop at 0", &stay, none, 9, &[2, 0, 0, 0]),
-        told("blank to 1, N, 1 undefined: halted at 1", &once, none, 9, &[0, 1, 0]),
-        told("two tapes both moving R, same state: out of fuel at 10", &two, none, 10, &[1, 10]),
-        told("two states alternating R: 64 cells go on", &alternating, none, 40, &[1, 40]),
+        case("the listing's table, fuel 5: out of fuel at 5", &listing, none, 5, &[1, 5][..]),
+        case("the listing's table, fuel 6: halted at 6", &listing, none, 6, &[0, 6, 2]),
+        case("the listing's table, stop on state 1, fuel 5: stopped at 2", &listing, 1, 5, &[3, 2]),
+        case("0 writes 1, moves R, stays, fuel 0: never at 0", &walk, none, 0, &[2, 0, 0, 1, 1]),
+        case("0 writes 1, moves R, stays, fuel 2^62: never at 0", &walk, none, MAX_STEPS, &[2, 0, 0, 1, 1]),
+        case("0 writes 1, moves R, stays, fuel 2^62 + 1: refused 13", &walk, none, MAX_STEPS + 1, &[]),
+        case("blank rewritten, N, same state: stay loop at 0", &stay, none, 9, &[2, 0, 0, 0]),
+        case("blank to 1, N, 1 undefined: halted at 1", &once, none, 9, &[0, 1, 0]),
+        case("two tapes both moving R, same state: out of fuel at 10", &two, none, 10, &[1, 10]),
+        case("two states alternating R: 64 cells go on", &alternating, none, 40, &[1, 40]),
     ];
     let word = &[1, 1, 1, 1];
-    all.push(Told { word, ..told("word 1 1 1 1, 1 kept moving R: halted at 4", &along, none, 9, &[0, 4, 0]) });
+    all.push(DocumentCase { word, ..case("word 1 1 1 1, 1 kept moving R: halted at 4", &along, none, 9, &[0, 4, 0]) });
     for room in 32..64 {
         let fact = "two states alternating R: full at 15 with 32 to 63 cells";
-        all.push(Told { room, ..told(fact, &alternating, none, 1000, &[4, 15]) });
+        all.push(DocumentCase { room, ..case(fact, &alternating, none, 1000, &[4, 15]) });
     }
-    for Told { fact, subject, word, room, rule, fuel, want } in all {
+    for DocumentCase { fact, subject, word, room, rule, fuel, want } in all {
         let holds = |r: &mut Runner, lone: Lone, act: Act| {
             let got = if lone.result == 0 { &lone.out[..want.len()] } else { &[] };
             let refused = if want.is_empty() { 13 } else { 0 };
