@@ -1,12 +1,16 @@
 // The encoder, which turns a word of glyphs into tape symbols.
 use machine::Checked;
+use notation::index;
 use outcome::Refusal;
 use symbol::Symbol;
 ghost use mathlib.Core.Path.{_≡_};
-ghost use Prim.Native.Nat.{_≤_, min};
+ghost use Prim.Native.Nat.{_≤_};
 ghost use lib.ListN.{length};
 ghost use Rattle.notation.specs.Fill.{fillFrom};
 ghost use Rattle.alphabet.specs.Model.{symbolFor, isInput, allowedOn, byteOn, byteAt, glyphsCheck, encodeCheck, encodeInto};
+
+// The number of possible symbols: no more glyphs are searched.
+const MOST_SYMBOLS: usize = 256;
 
 // The symbol of a glyph, if it has one.
 pub enum Named {
@@ -18,7 +22,7 @@ pub enum Named {
 pub fn symbol_for(glyphs: &[u32], glyph: u32) -> Named
     ensures { λ r. ⌜ r ≡ symbolFor (now (glyphs .entry)) glyph ⌝ }
 {
-    let most = looked_at(glyphs.len());
+    let most = index::min(glyphs.len(), MOST_SYMBOLS);
     let mut at: usize = 0;
     while at < most {
         if glyphs[at] == glyph {
@@ -27,16 +31,6 @@ pub fn symbol_for(glyphs: &[u32], glyph: u32) -> Named
         at += 1;
     }
     Named::Missing
-}
-
-// The number of glyphs that are searched: at most 256, the number of possible symbols.
-fn looked_at(count: usize) -> usize
-    ensures { λ r. ⌜ r ≡ min count 256 ⌝ }
-{
-    if count < 256 {
-        return count;
-    }
-    256
 }
 
 // Whether a symbol is flagged input; a flag that is missing counts as unset.

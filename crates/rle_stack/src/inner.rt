@@ -1,4 +1,5 @@
 // The operations of one side. They require that its live runs have places.
+use notation::index;
 ghost use mathlib.Core.Path.{_≡_};
 ghost use mathlib.Core.Bool.{false};
 ghost use mathlib.Core.List.{List};
@@ -92,10 +93,7 @@ pub fn take(lengths: &mut [u64], count: usize, n: u64) -> usize
 pub fn places(symbols: &[u8], lengths: &[u64]) -> usize
     ensures { λ r. ⌜ r ≡ placesOf (now (symbols .entry)) (now (lengths .entry)) ⌝ }
 {
-    if symbols.len() < lengths.len() {
-        return symbols.len();
-    }
-    lengths.len()
+    index::min(symbols.len(), lengths.len())
 }
 
 // Whether run i has a cell, a symbol below k, and another symbol than the run under it.

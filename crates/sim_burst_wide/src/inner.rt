@@ -4,7 +4,7 @@ use notation::index;
 use tape::Tape;
 ghost use mathlib.Core.Path.{_≡_};
 ghost use mathlib.Core.Bool.{true, false};
-ghost use Prim.Native.Nat.{_+_, _*_, _≤_, _<_, min, max};
+ghost use Prim.Native.Nat.{_+_, _*_, _≤_, _<_};
 ghost use Rattle.notation.specs.Choice.{both};
 ghost use Rattle.notation.specs.Limits.{cellsMost};
 ghost use Rattle.machine.specs.Layout.{entryNumber, entryAt};

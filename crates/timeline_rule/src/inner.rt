@@ -33,10 +33,7 @@ pub(crate) fn within(low: u64, high: u64, x: u64) -> bool
 fn capped(step: u64) -> u64
     ensures { λ r. ⌜ r ≡ min step (stepsMost + 1) ⌝ }
 {
-    if step <= limits::STEPS {
-        return step;
-    }
-    UNREACHED
+    number::min(step, UNREACHED)
 }
 
 // The step at which the next slot is due, or 2^62 + 1 where that is over 2^62.
@@ -212,12 +209,7 @@ pub fn slot_for(t: Times, target: u64) -> u64
     requires { ⌜ 1 ≤ t .count ⌝ }
     ensures { λ r. ⌜ r ≡ slotFor target t ⌝ }
 {
-    let i = (target - t.first) / t.every;
-    let last = t.count - 1;
-    if i < last {
-        return i;
-    }
-    last
+    number::min((target - t.first) / t.every, t.count - 1)
 }
 
 // Counts one slot more, after a save into the next slot, and thins if there are more than `most`.

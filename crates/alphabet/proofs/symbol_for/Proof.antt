@@ -17,11 +17,11 @@ Inv-loop glyphs glyph most at₀ at =
 abbrev μ-loop : tie.MeasureT-loop
 μ-loop glyphs glyph most at₀ at = most - at
 
-looked-at-requires : tie.Need-looked-at-requires Inv-loop μ-loop
-looked-at-requires c κs = search needs
+min-requires : tie.Need-min-requires Inv-loop μ-loop
+min-requires c κs = search needs
 
 loop-holds : tie.Need-loop-holds Inv-loop μ-loop
-loop-holds c = (c .looked-at .ensures, rw (sub-zero, c .looked-at .ensures))
+loop-holds c = (c .min .ensures, rw (sub-zero, c .min .ensures))
 
 mul-if1 : tie.Need-mul-if1 Inv-loop μ-loop
 mul-if1 c = search needs
@@ -53,7 +53,7 @@ symbol-for-spec =
     (tie.spec
     Inv-loop
     μ-loop
-    looked-at-requires
+    min-requires
     loop-holds
     mul-if1
     shared-slice-read-if1

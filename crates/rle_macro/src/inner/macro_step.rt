@@ -7,7 +7,7 @@ use symbol::Dir;
 use symbol::State;
 ghost use mathlib.Core.Path.{_≡_};
 ghost use mathlib.Core.Bool.{false};
-ghost use Prim.Native.Nat.{_+_, _-_, _≤_, _<_, min};
+ghost use Prim.Native.Nat.{_+_, _-_, _≤_, _<_};
 ghost use lib.ListN.{length};
 ghost use Rattle.notation.specs.Choice.{pick};
 ghost use Rattle.notation.specs.Limits.{raisedZero};

@@ -2,7 +2,7 @@
 // head.
 use notation::index;
 ghost use mathlib.Core.Path.{_≡_};
-ghost use Prim.Native.Nat.{_*_, _≤_, _<_, min, max};
+ghost use Prim.Native.Nat.{_*_, _≤_, _<_};
 ghost use lib.ListN.{length};
 ghost use Rattle.notation.specs.Limits.{cellsMost};
 ghost use Rattle.sim_burst.specs.Model.Burst.{LeftSeen, RightSeen, OrdinaryIf, OrdinaryByEntry, WentIf};
