@@ -6,41 +6,47 @@ use Rattle.outcome.specs.declared.Outcome.{Outcome}
 use Rattle.machine.specs.declared.Machine.{Machine}
 use Rattle.tape.specs.Model.Moves.{held}
 use Rattle.tape.specs.Model.Questions.{countOf}
+use Rattle.sim.specs.Model.Engine.{Conf}
 use Rattle.sim_refines.specs.Counts.{Counts}
 use Rattle.timeline_rule.specs.Model.Timeline.{answered, Call}
-use Rattle.timeline_rule.specs.Model.Kind.{TimelineOf, callOn}
-use Rattle.sim_slots.specs.Model.Kind.{plainKind}
+use Rattle.timeline_rule.specs.Model.Kind.{TimelineOf, newOn, callOn}
+use Rattle.sim_slots.specs.Model.Kind.{createOf, plainKind}
 use Rattle.timeline_laws.specs.Statement.{afterOn, heldOn, FreshList}
 use Rattle.sim_timeline_laws.specs.Meaning.{plainEngine}
-use Rattle.listing_reader.specs.Listing.{Sofar, tableIn, listing, asked}
+use Rattle.listing_reader.specs.Listing.{Sofar, tableIn}
 use Rattle.listing_rows.specs.Rows.{Row, row, rowOf, rowsOf, output}
-use Rattle.listing.specs.Output.{answerTo}
-use Rattle.listing_laws.specs.Facts.Accepted.{asked-begins}
+use Rattle.listing.specs.Output.{answerTo, blankCells, blankStore}
 
 -- the row of a call that is made on a timeline
 abbrev pub rowAt : Machine → (table : List ℕ) → TimelineOf plainKind → Call → Row
 rowAt m s v c = rowOf (callOn plainKind m s v c .0) (callOn plainKind m s v c .1 .engine .sim) (callOn plainKind m s v c .1 .engine .c0)
 
-module _ (s : List ℕ) (x : Sofar) (e : listing s ≡ asked x) where
+-- "runs the plain engine: 4,096 cells a tape, m 8, interval 16": the fresh engine on the listing's word, and the new timeline over it. Neither is refused.
+pub record Begins (m : Machine) (table word : List ℕ) : Type 0 where
+  pub engine : Conf
+  pub timeline : TimelineOf plainKind
+  pub created : createOf m table word blankCells ≡ answered engine
+  pub begun : newOn plainKind m table 8 16 engine blankStore ≡ answered timeline
+
+module _ (s : List ℕ) (x : Sofar) where
   abbrev m : Machine
   m = x .machine
 
   abbrev t : List ℕ
   t = tableIn x
 
-  abbrev v : TimelineOf plainKind
-  v = asked-begins s x e .timeline
-
-  -- for a listing without a bad line
+  -- for a listing s without a bad line, of which x is what its lines say
   pub record RowsSay : Type 0 where
+    pub begins : Begins m t (x .word)
     -- the output is the names line, and a row for each call
-    pub rows : answerTo s ≡ output (rowsOf m t v (x .calls))
+    pub rows : answerTo s ≡ output (rowsOf m t (begins .timeline) (x .calls))
     -- the third demand for these calls on this timeline: where the engine is, the answer of each call, which calls are refused, and never
-    pub third : FreshList plainEngine m t (x .word) (asked-begins s x e .engine) v (x .calls)
+    pub third : FreshList plainEngine m t (x .word) (begins .engine) (begins .timeline) (x .calls)
     -- the row of each call's result is in the call's place
     pub each : (before rest : List Call) (c : Call) → before ++ (c ∷ rest) ≡ x .calls
-        → rowsOf m t v (x .calls)
-        ≡ rowsOf m t v before ++ (rowAt m t (afterOn plainEngine m t v before) c ∷ rowsOf m t (callOn plainKind m t (afterOn plainEngine m t v before) c .1) rest)
+        → rowsOf m t (begins .timeline) (x .calls)
+        ≡ rowsOf m t (begins .timeline) before
+        ++ (rowAt m t (afterOn plainEngine m t (begins .timeline) before) c ∷ rowsOf m t (callOn plainKind m t (afterOn plainEngine m t (begins .timeline) before) c .1) rest)
     -- a row contains the numbers of the configuration that the engine then has
     pub holds : (u : TimelineOf plainKind) (o : Outcome)
         → rowOf (answered o) (u .engine .sim) (u .engine .c0)

@@ -28,6 +28,7 @@ use Rattle.listing_reader.specs.Listing.{Sofar, tableIn, listing, asked}
 use Rattle.listing_reader.specs.Facts.Accepted.{Kept, asked-kept, asked-good, asked-word}
 use Rattle.listing_rows.specs.Rows.{rowsOf, output}
 use Rattle.listing.specs.Output.{blankCells, blankStore, onReply, turned, answerOn, answerWith, answerOf, answerFor, answerTo}
+use Rattle.listing_laws.specs.Rows.{Begins}
 
 -- ---- 4,096 cells, and a store of 9 slots
 
@@ -94,12 +95,6 @@ module _ (m : Machine) (s w : List ℕ) (one : m .tapes ≡ 1) (short : length w
   begins = ap (λ c. onNew (opsFor plainKind m s engine) c timeline) accepts
 
 -- ---- the theorem: the names line and the rows of the calls, on a timeline over the fresh engine
-
-pub record Begins (m : Machine) (table word : List ℕ) : Type 0 where
-  pub engine : Conf
-  pub timeline : TimelineOf plainKind
-  pub created : createOf m table word blankCells ≡ answered engine
-  pub begun : newOn plainKind m table 8 16 engine blankStore ≡ answered timeline
 
 module _ (s : List ℕ) (x : Sofar) (e : listing s ≡ asked x) where
   abbrev table : List ℕ

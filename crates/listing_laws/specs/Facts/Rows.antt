@@ -38,9 +38,10 @@ module _ (s : List ℕ) (x : Sofar) (e : listing s ≡ asked x) where
   abbrev v : TimelineOf plainKind
   v = asked-begins s x e .timeline
 
-  pub listing-rows : RowsSay s x e
+  pub listing-rows : RowsSay s x
   unfolding rowOf
   listing-rows = record {
+    begins = asked-begins s x e;
     rows = asked-rows s x e;
     third = demand plainEngine plain-instances plain-begins m t (x .word) (kept-bytes x (asked-kept s x e)) blankCells (asked-begins s x e .engine) (asked-begins s x e .created) 8 16 blankStore v (asked-begins s x e .begun) (x .calls);
     each = λ before rest c q. subst (λ cs. rowsOf m t v cs ≡ rowsOf m t v before ++ (rowAt m t (afterOn plainEngine m t v before) c ∷ rowsOf m t (callOn plainKind m t (afterOn plainEngine m t v before) c .1) rest)) q (rows-at m t v before rest c);
