@@ -11,7 +11,7 @@ use Rattle.outcome.specs.declared.Status.the-variants as Step
 use Rattle.machine.specs.declared.Machine.{Machine}
 use Rattle.machine.specs.declared.Checked.{Checked}
 use Rattle.machine.specs.declared.Checked.the-variants.{Accepted, Refused}
-use Rattle.table_laws.specs.WellFormed.{Bytes}
+use Rattle.table_laws.specs.WellFormed.{Bytes, WellFormed}
 use Rattle.table_machine.specs.Tables.{tableOf}
 use Rattle.run_rules.specs.declared.StopRule.{StopRule}
 use Rattle.run_rules.specs.declared.Answer.the-variants as Ans
@@ -22,7 +22,7 @@ use Rattle.run_rules.specs.declared.questions.Extent.the-variants as Extent
 use Rattle.run_rules.specs.declared.questions.Counted.the-variants as Counted
 use Rattle.run_rules.specs.declared.questions.Located.the-variants as Located
 use Rattle.sim.specs.Model.Engine.{Conf}
-use Rattle.sim.specs.Model.Operations.{bareOf, simFits, engineCheck, runCheck, Given, given, runAnswer, fastAnswer, StepGiven, stepGiven, stepAnswer, Made, made, newAnswer}
+use Rattle.sim.specs.Model.Operations.{bareOf, simFits, wordsRight, engineCheck, runCheck, Given, given, runAnswer, fastAnswer, StepGiven, stepGiven, stepAnswer, Made, made, newAnswer}
 use Rattle.sim.specs.Model.Questions.{questionCheck, getAnswer, extentAnswer, countAnswer, windowInto, findAnswer}
 use Rattle.sim_refines.specs.Meaning.{configOf, EngineFits}
 use Rattle.sim_refines.specs.Facts.MissingTapes.{bare-fits, fits-bare}
@@ -31,7 +31,9 @@ use Rattle.demands.specs.FirstClaims.{TurnsAway, ofFresh, ofAnswer, ofSt
 use Rattle.demands.specs.FirstTests.{plainNewTests, plainRunTests, plainFastTests, plainAskTests}
 use Rattle.demands.specs.FirstTimeline.{plainEngineTests}
 use Rattle.demands.specs.FirstSpace.{GoesOn, EndsFull, PlainFull}
+use Rattle.demands.specs.Accepts.{PackedOf}
 use Rattle.demands.specs.Facts.FirstPlain.{plain-new-turns, plain-engine-turns, plain-step-turns, plain-run-turns, plain-fast-turns, plain-get-turns, plain-extent-turns, plain-count-turns, plain-window-turns, plain-find-turns}
+use Rattle.demands.specs.Facts.PlainAccepts.{words-pass, words-say}
 use Rattle.demands.specs.Facts.FirstPlainSpace.{plain-full, plain-stays, plain-onward, plain-step-full, plain-step-stays}
 
 pub record PlainOperations : Type 0 where
@@ -66,6 +68,9 @@ pub record PlainOperations : Type 0 where
       (questionCheck m s i σ, windowInto m s i z σ out)
   pub find-non-blank : (m : Machine) (s : List ℕ) (i : ℕ) (z : ℤ) (d : Dir) (σ : Conf)
       → TurnsAway (1 ∷ 2 ∷ 3 ∷ 4 ∷ 5 ∷ 6 ∷ 11 ∷ 12 ∷ []) (plainAskTests m s σ i) ofLocated Located.Refused (findAnswer m s i z d σ)
+  -- ---- "7 packed words not the table's (fast run; more than one tape also counts)": the test wordsRight, of words for a table that the table check accepts
+
+  pub packed-words : (m : Machine) (s words : List ℕ) → WellFormed m s → (wordsRight m s words ≡ true) ↔ PackedOf m s words
   -- ---- "12 an engine value that doesn't fit": the test plainFits
 
   -- "Fits: state below n, steps to 2^62, symbols below k. Plain, each tape: length from 32 to the buffer's, head and origin below it, lowest ≤ head ≤ highest, all
@@ -102,6 +107,7 @@ plain-operations = record {
   count-non-blank = plain-count-turns;
   window = plain-window-turns;
   find-non-blank = plain-find-turns;
+  packed-words = λ m s words t. (words-say m s words t, words-pass m s words t);
   fits = λ m σ. (bare-fits m σ, fits-bare m σ);
   full = plain-full;
   fast-full = λ m s words b rule fuel σ τ n e. plain-full m s b rule fuel σ τ n (fast-done m s words rule fuel σ τ (Full n) e);

@@ -1,9 +1,10 @@
 -- The tests of each operation, in document 01's order. Definitions only.
+use mathlib.Core.Bool.{Bool, true}
 use mathlib.Core.List.{List, [], _∷_, _++_}
-use Prim.Native.Nat.{ℕ, _*_}
+use Prim.Native.Nat.{ℕ, _+_, _*_, _^_}
 use lib.Dec.{eqb, ltb, leb}
 use lib.ListN.{length}
-use Rattle.notation.specs.Choice.{both}
+use Rattle.notation.specs.Choice.{pick, both}
 use Rattle.notation.specs.Scan.{allIn}
 use Rattle.outcome.specs.declared.Refusal.the-variants as Why
 use Rattle.machine.specs.declared.Machine.{Machine}
@@ -11,12 +12,12 @@ use Rattle.machine.specs.Layout.{entryCount}
 use Rattle.machine.specs.Model.Check.{within, entryOk}
 use Rattle.machine.specs.Model.Word.{symbolIn}
 use Rattle.alphabet.specs.Model.{allowedAt}
-use Rattle.run_checks.specs.Model.Sizes.{sizesFit, fuelFits, wordsRight, freshSizes}
+use Rattle.run_checks.specs.Model.Sizes.{wordsRight}
 use Rattle.sim.specs.Model.Engine as Plain
 use Rattle.sim.specs.Model.Operations.{simFits}
 use Rattle.rle_stack.specs.Model.{placesOf}
 use Rattle.rle.specs.Model.Engine as Chain
-use Rattle.rle.specs.Fits.{placesFit, chainFits}
+use Rattle.rle.specs.Fits.{chainFits}
 use Rattle.rle.specs.Model.Operations as Chains
 use Rattle.demands.specs.FirstClaims.{Test, or, lowest}
 
@@ -54,6 +55,33 @@ encodeTests glyphs flags word room =
     ∷ or (leb (length word) room) Why.OutputSize
     ∷ []
 
+-- ---- refusals 11 and 13, by their numbers
+
+-- x is not below `low` and not above `high`
+abbrev pub between : (low x high : ℕ) → Bool
+between low x high = both (leb low x) (leb x high)
+
+-- "Tapes the machine lacks need none.": a test of tape i, counted from 0
+abbrev pub onTape : (i : ℕ) → Machine → Bool → Bool
+onTape i m test = pick (ltb i (m .tapes)) test true
+
+-- "11 a cells buffer under word + 32 (other tapes 32) or over 2^30"
+abbrev pub freshCells : Machine → (word n0 n1 n2 : ℕ) → Bool
+freshCells m word n0 n1 n2 =
+    both (between (word + 32) n0 (2 ^ 30)) (both (onTape 1 m (between 32 n1 (2 ^ 30))) (onTape 2 m (between 32 n2 (2 ^ 30))))
+
+-- "11 for the upper sizes": "a cells buffer .. over 2^30"
+abbrev pub cellsUpTo : Machine → (n0 n1 n2 : ℕ) → Bool
+cellsUpTo m n0 n1 n2 = both (leb n0 (2 ^ 30)) (both (onTape 1 m (leb n1 (2 ^ 30))) (onTape 2 m (leb n2 (2 ^ 30))))
+
+-- the same: "a run side over 1,048,576"
+abbrev pub placesUpTo : (lefts rights : ℕ) → Bool
+placesUpTo lefts rights = both (leb lefts 1048576) (leb rights 1048576)
+
+-- "13 steps + fuel over 2^62"
+abbrev pub stepLimit : (steps fuel : ℕ) → Bool
+stepLimit steps fuel = leb (steps + fuel) (2 ^ 62)
+
 -- ---- the plain engine
 
 -- "Fresh engine: .. 9 ..; 10 ..; 11 a cells buffer under word + 32 (other tapes 32) or over 2^30"
@@ -61,27 +89,27 @@ abbrev pub plainNewTests : Machine → (s w c0 c1 c2 : List ℕ) → List Test
 plainNewTests m s w c0 c1 c2 =
     tableTests m s
     ++ wordTests (m .symbols) w
-    ++ or (freshSizes m (length w) (length c0) (length c1) (length c2)) Why.BufferSize
+    ++ or (freshCells m (length w) (length c0) (length c1) (length c2)) Why.BufferSize
     ∷ []
 
 module _ (m : Machine) (s : List ℕ) (σ : Plain.Conf) where
   -- "11 for the upper sizes; 12 an engine value that doesn't fit"
   abbrev pub plainSizes : Test
-  plainSizes = or (sizesFit m (length (σ .c0)) (length (σ .c1)) (length (σ .c2))) Why.BufferSize
+  plainSizes = or (cellsUpTo m (length (σ .c0)) (length (σ .c1)) (length (σ .c2))) Why.BufferSize
 
   abbrev pub plainFits : Test
   plainFits = or (simFits m (σ .sim) (σ .c0) (σ .c1) (σ .c2)) Why.Misfit
 
   -- "Step, run, fast run: .. 11 ..; 12 ..; 13 steps + fuel over 2^62 (a step counts as fuel 1)"
   abbrev pub plainRunTests : (fuel : ℕ) → List Test
-  plainRunTests fuel = tableTests m s ++ plainSizes ∷ plainFits ∷ or (fuelFits (σ .sim .steps) fuel) Why.StepLimit ∷ []
+  plainRunTests fuel = tableTests m s ++ plainSizes ∷ plainFits ∷ or (stepLimit (σ .sim .steps) fuel) Why.StepLimit ∷ []
 
-  -- "7 packed words not the table's (fast run; more than one tape also counts)"
+  -- "7 packed words not the table's (fast run; more than one tape also counts)" (FirstPlain.packed-words says what wordsRight tests)
   abbrev pub plainFastTests : (words : List ℕ) → (fuel : ℕ) → List Test
   plainFastTests words fuel =
       tableTests m s
       ++ or (wordsRight m s words) Why.PackedWords
-      ∷ plainSizes ∷ plainFits ∷ or (fuelFits (σ .sim .steps) fuel) Why.StepLimit ∷ []
+      ∷ plainSizes ∷ plainFits ∷ or (stepLimit (σ .sim .steps) fuel) Why.StepLimit ∷ []
 
   -- "Tape questions: 8, 11, 12 (also a tape number not below t)"
   abbrev pub plainAskTests : (tape : ℕ) → List Test
@@ -104,7 +132,7 @@ chainNewTests m s w ls ll rs rl =
 module _ (m : Machine) (s : List ℕ) (σ : Chain.Conf) where
   -- "Tape questions: 8, 11, 12"
   abbrev pub chainAskTests : List Test
-  chainAskTests = tableTests m s ++ oneTape m ∷ or (placesFit σ) Why.BufferSize ∷ or (chainFits m σ) Why.Misfit ∷ []
+  chainAskTests = tableTests m s ++ oneTape m ∷ or (placesUpTo (placesOf (σ .ls) (σ .ll)) (placesOf (σ .rs) (σ .rl))) Why.BufferSize ∷ or (chainFits m σ) Why.Misfit ∷ []
 
   -- "then 18 for too short a record slice"
   abbrev pub chainListTests : (count room : ℕ) → List Test
@@ -112,7 +140,7 @@ module _ (m : Machine) (s : List ℕ) (σ : Chain.Conf) where
 
   -- ".. 8; 11 for the upper sizes; 12 ..; 13 steps + fuel over 2^62"
   abbrev pub chainRunTests : (fuel : ℕ) → List Test
-  chainRunTests fuel = chainAskTests ++ or (fuelFits (σ .sim .steps) fuel) Why.StepLimit ∷ []
+  chainRunTests fuel = chainAskTests ++ or (stepLimit (σ .sim .steps) fuel) Why.StepLimit ∷ []
 
 -- ---- the listing: "18 for too short an output", as document 01 says for packing; the longest listing has a names line of 39 bytes and 64 rows of 136
 

@@ -21,7 +21,7 @@ use Rattle.timeline_rule.specs.Model.Timeline.{Call, Reply, refused, answered, 
 use Rattle.timeline_rule.specs.Model.Kind.{Kind, TimelineOf, callOn, newWith}
 use Rattle.sim.specs.Model.Engine.{Conf}
 use Rattle.demands.specs.FirstClaims.{Test, or, TurnsAway}
-use Rattle.demands.specs.FirstTests.{tableTests, plainSizes, plainFits}
+use Rattle.demands.specs.FirstTests.{tableTests, between, plainSizes, plainFits}
 use Rattle.demands.specs.FirstSpace.{StopsFull}
 use Rattle.demands.specs.FirstSlots.{Meaning, bytesAt}
 
@@ -49,10 +49,6 @@ abbrev pub plainEngineTests : Machine → List ℕ → Conf → List Test
 plainEngineTests m s σ = tableTests m s ++ plainSizes m s σ ∷ plainFits m s σ ∷ []
 
 -- ---- refusal 14
-
--- x is not below `low` and not above `high`
-abbrev pub between : (low x high : ℕ) → Bool
-between low x high = both (leb low x) (leb x high)
 
 -- "m not 1 to 512, first interval not 1 to 2^32"
 abbrev pub newSettings : (most every : ℕ) → Bool

@@ -5,6 +5,7 @@ use mathlib.Core.Option.{Option}
 use mathlib.Core.List.{List, [], _∷_, _++_}
 use Prim.Native.Nat.{ℕ, _*_}
 use native.Mathlib.Omega.{arith}
+use borrow.Author.Tests.{le-leb, leb-true}
 use lib.Dec.{eqb, ltb, leb}
 use lib.ListN.{length}
 use Rattle.notation.specs.Choice.{pick, both}
@@ -22,6 +23,7 @@ use Rattle.machine.specs.Model.Packing.{packCheck}
 use Rattle.machine.specs.Model.Word.{symbolIn, symbolsCheck, wordCheck}
 use Rattle.alphabet.specs.Model.{allowedAt, glyphsCheck, encodeCheck}
 use Rattle.run_checks.specs.Model.Sizes as Sizes
+use Rattle.run_checks.specs.Facts.SizesCases.{fuel-says}
 use Rattle.sim.specs.Model.Engine as Plain
 use Rattle.sim.specs.Model.Operations as Plains
 use Rattle.sim.specs.Model.Questions.{questionCheck}
@@ -30,7 +32,8 @@ use Rattle.rle.specs.Model.Engine as Chain
 use Rattle.rle.specs.Fits as Fits
 use Rattle.rle.specs.Model.Operations as Chains
 use Rattle.demands.specs.FirstClaims.{Test, or, firstOf, numbersOf, numberOr0, lowest, TurnsAway}
-use Rattle.demands.specs.FirstTests.{tableTests, packTests, wordTests, encodeTests, plainNewTests, plainSizes, plainFits, plainRunTests, plainFastTests, plainAskTests, oneTape, chainNewTests, chainAskTests, chainRunTests}
+use Rattle.demands.specs.FirstTests.{tableTests, packTests, wordTests, encodeTests, freshCells, placesUpTo, stepLimit, plainNewTests, plainSizes, plainFits, plainRunTests, plainFastTests, plainAskTests, oneTape, chainNewTests, chainAskTests, chainRunTests}
+use Rattle.demands.specs.Facts.PlainAccepts.{fuel-passes}
 
 -- ---- an operation whose result depends on its check alone
 
@@ -105,13 +108,24 @@ encode-first glyphs flags word room =
     (scan-first (allowedAt glyphs flags word) (length word) Why.Glyph)
     refl
 
+-- ---- 13: the model's test, which computes no sum that could wrap, is document 01's
+
+limit-same : (steps fuel : ℕ) → Sizes.fuelFits steps fuel ≡ stepLimit steps fuel
+limit-same steps fuel =
+    by-test (stepLimit steps fuel) (λ t. fuel-passes steps fuel (leb-true _ _ t) ∙ sym t)
+    (λ f. by-test (Sizes.fuelFits steps fuel) (λ t. absurd (clash (le-leb _ _ (fuel-says steps fuel t)) f)) (λ t. t ∙ sym f))
+
+limit-first : (steps fuel : ℕ) → demand (Sizes.fuelFits steps fuel) Why.StepLimit Accepted ≡ firstOf (or (stepLimit steps fuel) Why.StepLimit ∷ [])
+unfolding firstOf
+limit-first steps fuel = ap (λ (b : Bool). pick b Accepted (Refused Why.StepLimit)) (limit-same steps fuel)
+
 -- ---- the plain engine
 
 pub plain-new-first : (m : Machine) (s w c0 c1 c2 : List ℕ) → Sizes.freshCheck m s w (length c0) (length c1) (length c2) ≡ firstOf (plainNewTests m s w c0 c1 c2)
-unfolding Sizes.freshCheck firstOf
+unfolding Sizes.freshCheck Sizes.freshSizes firstOf
 plain-new-first m s w c0 c1 c2 =
-    on-first _ _ (tableTests m s) (wordTests (m .symbols) w ++ or (Sizes.freshSizes m (length w) (length c0) (length c1) (length c2)) Why.BufferSize ∷ []) (table-first m s)
-    (on-first _ _ (wordTests (m .symbols) w) (or (Sizes.freshSizes m (length w) (length c0) (length c1) (length c2)) Why.BufferSize ∷ []) (word-first (m .symbols) w) refl)
+    on-first _ _ (tableTests m s) (wordTests (m .symbols) w ++ or (freshCells m (length w) (length c0) (length c1) (length c2)) Why.BufferSize ∷ []) (table-first m s)
+    (on-first _ _ (wordTests (m .symbols) w) (or (freshCells m (length w) (length c0) (length c1) (length c2)) Why.BufferSize ∷ []) (word-first (m .symbols) w) refl)
 
 module _ (m : Machine) (s : List ℕ) (σ : Plain.Conf) where
   abbrev sizes : Test
@@ -120,13 +134,13 @@ module _ (m : Machine) (s : List ℕ) (σ : Plain.Conf) where
   abbrev fits : Test
   fits = plainFits m s σ
 
-  value-first : Plains.valueCheck m σ ≡ firstOf (sizes ∷ fits ∷ [])
-  unfolding Plains.valueCheck firstOf
+  pub value-first : Plains.valueCheck m σ ≡ firstOf (sizes ∷ fits ∷ [])
+  unfolding Plains.valueCheck Sizes.sizesFit firstOf
   value-first = refl
 
-  fuel-first : (fuel : ℕ) → Plains.fuelCheck m fuel σ ≡ firstOf (sizes ∷ fits ∷ or (Sizes.fuelFits (σ .sim .steps) fuel) Why.StepLimit ∷ [])
+  fuel-first : (fuel : ℕ) → Plains.fuelCheck m fuel σ ≡ firstOf (sizes ∷ fits ∷ or (stepLimit (σ .sim .steps) fuel) Why.StepLimit ∷ [])
   unfolding Plains.fuelCheck firstOf
-  fuel-first fuel = on-first _ _ (sizes ∷ fits ∷ []) (or (Sizes.fuelFits (σ .sim .steps) fuel) Why.StepLimit ∷ []) value-first refl
+  fuel-first fuel = on-first _ _ (sizes ∷ fits ∷ []) (or (stepLimit (σ .sim .steps) fuel) Why.StepLimit ∷ []) value-first (limit-first (σ .sim .steps) fuel)
 
   pub plain-run-first : (fuel : ℕ) → Plains.runCheck m s fuel σ ≡ firstOf (plainRunTests m s σ fuel)
   unfolding Plains.runCheck
@@ -135,12 +149,12 @@ module _ (m : Machine) (s : List ℕ) (σ : Plain.Conf) where
   pub plain-fast-first : (words : List ℕ) (fuel : ℕ) → Plains.fastCheck m s words fuel σ ≡ firstOf (plainFastTests m s σ words fuel)
   unfolding Plains.fastCheck firstOf
   plain-fast-first words fuel =
-      on-first _ _ (tableTests m s) (or (Sizes.wordsRight m s words) Why.PackedWords ∷ sizes ∷ fits ∷ or (Sizes.fuelFits (σ .sim .steps) fuel) Why.StepLimit ∷ []) (table-first m s)
+      on-first _ _ (tableTests m s) (or (Sizes.wordsRight m s words) Why.PackedWords ∷ sizes ∷ fits ∷ or (stepLimit (σ .sim .steps) fuel) Why.StepLimit ∷ []) (table-first m s)
       (ap (demand (Sizes.wordsRight m s words) Why.PackedWords) (fuel-first fuel))
 
   -- 12 for the value, and 12 for the tape's number
   ask-first : (i : ℕ) → checkedOn (Plains.valueCheck m σ) (demand (ltb i (m .tapes)) Why.Misfit Accepted) ≡ firstOf (sizes ∷ or (both (fits .holds) (ltb i (m .tapes))) Why.Misfit ∷ [])
-  unfolding Plains.valueCheck firstOf
+  unfolding Plains.valueCheck Sizes.sizesFit firstOf
   ask-first i = pick-on (sizes .holds) _ _ _ Why.BufferSize (both-on (fits .holds) (ltb i (m .tapes)) Why.Misfit)
 
   pub plain-ask-first : (i : ℕ) → questionCheck m s i σ ≡ firstOf (plainAskTests m s σ i)
@@ -158,9 +172,12 @@ chain-new-first m s w ls ll rs rl =
 
 module _ (m : Machine) (s : List ℕ) (σ : Chain.Conf) where
   pub chain-ask-first : Fits.engineCheck m s σ ≡ firstOf (chainAskTests m s σ)
-  unfolding Fits.engineCheck Fits.valueCheck firstOf
-  chain-ask-first = on-first _ _ (tableTests m s) (oneTape m ∷ or (Fits.placesFit σ) Why.BufferSize ∷ or (Fits.chainFits m σ) Why.Misfit ∷ []) (table-first m s) refl
+  unfolding Fits.engineCheck Fits.valueCheck Fits.placesFit firstOf
+  chain-ask-first =
+      on-first _ _ (tableTests m s)
+      (oneTape m ∷ or (placesUpTo (placesOf (σ .ls) (σ .ll)) (placesOf (σ .rs) (σ .rl))) Why.BufferSize ∷ or (Fits.chainFits m σ) Why.Misfit ∷ [])
+      (table-first m s) refl
 
   pub chain-run-first : (fuel : ℕ) → Fits.runCheck m s fuel σ ≡ firstOf (chainRunTests m s σ fuel)
   unfolding Fits.runCheck firstOf
-  chain-run-first fuel = on-first _ _ (chainAskTests m s σ) (or (Sizes.fuelFits (σ .sim .steps) fuel) Why.StepLimit ∷ []) chain-ask-first refl
+  chain-run-first fuel = on-first _ _ (chainAskTests m s σ) (or (stepLimit (σ .sim .steps) fuel) Why.StepLimit ∷ []) chain-ask-first (limit-first (σ .sim .steps) fuel)

@@ -24,10 +24,10 @@ use Rattle.timeline_rule.specs.Model.Engine.{Ops}
 use Rattle.timeline_rule.specs.Model.Timeline.{Call, Reply, refused, target, newOk, timesOk, slotFor, slotStep, goOn, fromSlot, goBack, stay, goTo, callCheck, onCheck, call, newCheck, born, onNew, new}
 use Rattle.timeline_rule.specs.Model.Kind.{Kind, TimelineOf, opsFor, newOn, callOn, storeAfter, newWith}
 use Rattle.sim.specs.Model.Engine.{Conf}
-use Rattle.sim.specs.Model.Operations.{valueCheck, engineCheck}
+use Rattle.sim.specs.Model.Operations.{engineCheck}
 use Rattle.demands.specs.FirstClaims.{Test, or, firstOf, numbersOf, TurnsAway}
 use Rattle.demands.specs.FirstTests.{tableTests, plainSizes, plainFits}
-use Rattle.demands.specs.Facts.First.{turns, on-first, table-first}
+use Rattle.demands.specs.Facts.First.{turns, on-first, table-first, value-first}
 use Rattle.demands.specs.FirstTimeline.{ofReply, isThere, slotHolds, plainEngineTests, newSettings, laterSettings, timelineNewTests, timelineCallTests, TimelineOperations}
 use Rattle.demands.specs.FirstSlots.{Meaning}
 use Rattle.demands.specs.Facts.FirstTimelineSpace.{Slots, Engine, slot-says, call-stops}
@@ -166,5 +166,5 @@ module _ (X : Kind) (numbers : List ℕ) (engineTests : Machine → (table : Lis
 -- ---- the plain engine's own refusals
 
 pub plain-engine-first : (m : Machine) (s : List ℕ) (σ : Conf) → engineCheck m s σ ≡ firstOf (plainEngineTests m s σ)
-unfolding engineCheck valueCheck firstOf
-plain-engine-first m s σ = on-first _ _ (tableTests m s) (plainSizes m s σ ∷ plainFits m s σ ∷ []) (table-first m s) refl
+unfolding engineCheck
+plain-engine-first m s σ = on-first _ _ (tableTests m s) (plainSizes m s σ ∷ plainFits m s σ ∷ []) (table-first m s) (value-first m s σ)

@@ -4,13 +4,13 @@ use mathlib.Core.Bool.{Bool, true}
 use mathlib.Core.List.{List}
 use Prim.Native.Nat.{ℕ, _+_, _*_, _≤_, _<_, _^_}
 use native.Mathlib.Omega.{arith}
-use borrow.Author.Tests.{le-leb, lt-ltb, eq-eqb, ltb-true}
+use borrow.Author.Tests.{le-leb, lt-ltb, eq-eqb, ltb-true, eqb-true}
 use lib.IntN.{ℤ}
 use lib.ListN.{length, getD}
 use Rattle.notation.specs.Choice.{pick}
 use Rattle.notation.specs.Facts.Fill.{length-fill}
-use Rattle.notation.specs.Facts.Scan.{clean-none, all-holds}
-use Rattle.notation.specs.Facts.Tests.{both-true, pick-cases, pick-true}
+use Rattle.notation.specs.Facts.Scan.{clean-none, all-holds, all-says}
+use Rattle.notation.specs.Facts.Tests.{both-split, both-true, pick-cases, pick-true}
 use Rattle.notation.specs.Limits.{stepsMost, cellsMost}
 use Rattle.symbol.specs.Kinds.{symbolOf}
 use Rattle.symbol.specs.declared.Symbol.{Symbol}
@@ -66,6 +66,40 @@ word-passes m w o =
 pub fuel-passes : (steps fuel : ℕ) → steps + fuel ≤ 2 ^ 62 → fuelFits steps fuel ≡ true
 unfolding fuelFits
 fuel-passes steps fuel h = both-true (le-leb fuel stepsMost (omega arith)) (le-leb steps _ (omega arith))
+
+-- ---- the packed words: the test passes exactly for those that document 01 names
+
+module _ (m : Machine) (s words : List ℕ) (t : WellFormed m s) where
+  count-is : m .tapes ≡ 1 → m .states * m .symbols ≡ entryCount m
+  count-is one = ap (λ (n : ℕ). m .states * n) (stride-one (m .tapes) (m .symbols) one)
+
+  -- the word of an entry that is laid out in the table
+  word-of : (i : ℕ) → i < entryCount m → (l : LaidOut m s i) → wordAt s (m .symbols) i ≡ packWord (l .entry) (m .symbols)
+  unfolding wordAt
+  word-of i h l =
+      let n : length s ≡ 8 * entryCount m = t 5 in
+      ap (λ e. packWord e (m .symbols)) (entry-read s i (l .entry) (omega arith) (l .written))
+
+  pub words-pass : PackedOf m s words → wordsRight m s words ≡ true
+  unfolding wordsRight
+  words-pass p =
+      let c : m .states * m .symbols ≡ entryCount m = count-is (p .single) in
+      both-true (eq-eqb _ _ (p .single)) (both-true (eq-eqb _ _ (p .number ∙ c))
+      (all-holds (wordRight s (m .symbols) words) (entryCount m) 0
+      (λ i _ b. let h : i < entryCount m = omega arith in eq-eqb _ _ (p .each i (omega (arith, c)) (t 6 i h) ∙ sym (word-of i h (t 6 i h))))))
+
+  pub words-say : wordsRight m s words ≡ true → PackedOf m s words
+  unfolding wordsRight
+  words-say e =
+      let z = both-split e in
+      let y = both-split (z .1) in
+      let one : m .tapes ≡ 1 = eqb-true _ _ (z .0) in
+      let c : m .states * m .symbols ≡ entryCount m = count-is one in
+      record {
+        single = one;
+        number = eqb-true _ _ (y .0) ∙ sym c;
+        each = λ i h l. eqb-true _ _ (all-says (wordRight s (m .symbols) words) (entryCount m) 0 (y .1) i (omega arith) (omega (arith, c))) ∙ word-of i (omega (arith, c)) l;
+      }
 
 -- ---- a fresh engine
 
@@ -124,24 +158,9 @@ module _ (m : Machine) (s : List ℕ) (σ : Conf) (t : PlainTaken m s σ) where
 
     -- the check accepts the words that document 01 names
     module _ (words : List ℕ) (p : PackedOf m s words) where
-      count-is : m .states * m .symbols ≡ entryCount m
-      count-is = ap (λ (n : ℕ). m .states * n) (stride-one (m .tapes) (m .symbols) (p .single))
-
-      word-at : (i : ℕ) → i < entryCount m → getD words i 0 ≡ wordAt s (m .symbols) i
-      unfolding wordAt
-      word-at i h =
-          let n : length s ≡ 8 * entryCount m = t .table 5 in
-          let l : LaidOut m s i = t .table 6 i h in
-          p .each i (omega (arith, count-is)) l ∙ ap (λ e. packWord e (m .symbols)) (sym (entry-read s i (l .entry) (omega arith) (l .written)))
-
-      words-pass : wordsRight m s words ≡ true
-      unfolding wordsRight
-      words-pass = both-true (eq-eqb _ _ (p .single))
-          (both-true (eq-eqb _ _ (p .number ∙ count-is)) (all-holds (wordRight s (m .symbols) words) (entryCount m) 0 (λ i _ b. eq-eqb _ _ (word-at i (omega arith)))))
-
       fast-passes : fastCheck m s words fuel σ ≡ Accepted
       unfolding fastCheck pick
-      fast-passes = rw (table-passes, words-pass, limit-passes)
+      fast-passes = rw (table-passes, words-pass m s words (t .table) p, limit-passes)
 
       pub plain-fast-answers : (rule : StopRule) → (τ : Conf) × (o : Outcome) × (fastAnswer m s words rule fuel σ ≡ given τ (Ans.Done o))
       unfolding fastAnswer
