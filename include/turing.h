@@ -2,7 +2,7 @@
  * The Turing machine engines, for C. Link target/staticlib/libcapi.a, which `rt staticlib capi` makes for x86-64 Linux.
  *
  * Every function returns 0, or the number of the first refusal that applies (below). A refused call changes nothing but
- * out[0], and that only at 6, 10 and 17, which name a place there. No call allocates, prints, or keeps a pointer.
+ * out[0], and that only at 6, 10, 17, 19 and 20, which name a place there. No call allocates, prints, or keeps a pointer.
  *
  * Slices. `T *x, size_t x_len` is memory of x_len elements, aligned as T is; an empty one may be NULL. Memory that a call
  * may write must overlap nothing else that is lent to the call. `out`, `state`, `cur`, `engine` and `times` are arrays or
@@ -60,6 +60,10 @@
  *     16  the slot to restore holds no engine of its step
  *     17  a glyph that is not allowed; out[0] is the first such place
  *     18  an output too short
+ *     19  a malformed line; out[0] is the place of the first byte that no line of the form has after those before it, or the
+ *         line's length where it ends early
+ *     20  a letter other than Z, or a digit, that the line's rows lack; out[0] is the first such place
+ *     21  a table that has no line of the form
  */
 #ifndef TURING_H
 #define TURING_H
@@ -107,6 +111,28 @@ uint8_t tm_encode(
     const uint8_t *flags, size_t flags_len,
     const uint32_t *word, size_t word_len,
     uint8_t *symbols, size_t symbols_len,
+    uint64_t out[8]);
+
+/* Tables of one tape, 2 to 10 symbols and 1 to 25 lettered states as a line, such as 1RB1LB_1LA1RZ. An entry is the symbol
+ * written, L or R, and the letter of the next state; --- is an entry that is not defined. An underscore parts two rows. Z is
+ * a halting state, whose row is not in the line. A line has no newline. */
+
+/* Reads a line. Writes its table to the first places of `table`, eight bytes for each entry; Z's row is its last one and has
+ * no entry that is defined. out[0] is the number of symbols, out[1] that of states, Z's among them. The start state is 0.
+ * Refuses 19; 20; 18 `table` shorter than 8 * symbols * states. */
+uint8_t tm_line_read(
+    const uint8_t *line, size_t line_len,
+    uint8_t *table, size_t table_len,
+    uint64_t out[8]);
+
+/* Writes the line of a table to the first places of `line`; out[0] is the number of its bytes, at most 774. A last row
+ * without an entry that is defined is Z's.
+ * Refuses 1 to 6; 21 several tapes, symbols not 2 to 10, lettered rows not 1 to 25, a start state other than 0, an entry
+ * that does not move, or a row before the last without an entry that is defined; 18 too short a line. */
+uint8_t tm_line_write(
+    uint64_t tapes, uint64_t symbols, uint64_t states, uint64_t start,
+    const uint8_t *table, size_t table_len,
+    uint8_t *line, size_t line_len,
     uint64_t out[8]);
 
 /* The entry for `state` and the symbols read on each tape (0 for a tape that the machine lacks): out[0] is 0 where it is

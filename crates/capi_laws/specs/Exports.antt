@@ -9,7 +9,7 @@ use Rattle.sim_slots.specs.Model.Kind.{plainKind}
 use Rattle.rle_slots.specs.Model.Kind.{chainKind}
 use Rattle.demands.specs.First.{first-demand}
 use Rattle.capi_laws.specs.Refusals.{ExportsRefuse}
-use Rattle.capi_laws.specs.Facts.Refusals.{checked, filled, looked, got, extent, counted, located, listed, made-kept, stepped, ran, chain-made, chain-ran, begun, moved, chain-moved}
+use Rattle.capi_laws.specs.Facts.Refusals.{checked, filled, looked, line-was-read, line-was-written, got, extent, counted, located, listed, made-kept, stepped, ran, chain-made, chain-ran, begun, moved, chain-moved}
 
 pub exports-refuse : ExportsRefuse
 exports-refuse = record {
@@ -17,6 +17,8 @@ exports-refuse = record {
   lookup = λ m s q a0 a1 a2 out. looked (lookupOf m s q a0 a1 a2) out;
   pack = λ m s words out. filled _ out words _ (first-demand .tables .pack m s words .unchanged);
   encode = λ glyphs flags word symbols out. filled _ out symbols _ (first-demand .tables .encode glyphs flags word symbols .unchanged);
+  line-read = λ line table out. line-was-read _ out table _ (first-demand .lines .read line table .unchanged);
+  line-write = λ m s line out. line-was-written _ out line _ (first-demand .lines .write m s line .unchanged);
   sim-new = λ m s w state engine out c0 c1 c2. made-kept state engine out c0 c1 c2 _ _ _ _ (first-demand .plain .new m s w c0 c1 c2 .unchanged);
   sim-step = λ m s state engine out c0 c1 c2. stepped state engine out c0 c1 c2 _ _ (first-demand .plain .step m s _ .unchanged);
   sim-run = λ m s rule fuel state engine out c0 c1 c2. ran state engine out c0 c1 c2 _ _ (first-demand .plain .run m s rule fuel _ .unchanged);

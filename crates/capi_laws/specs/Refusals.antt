@@ -19,6 +19,10 @@ use Rattle.machine.specs.declared.Looked.{Looked}
 use Rattle.machine.specs.Model.Check.{tableCheck, lookupOf}
 use Rattle.machine.specs.Model.Packing.{packCheck, packInto}
 use Rattle.alphabet.specs.Model.{encodeCheck, encodeInto}
+use Rattle.table_text_reader.specs.declared.Read.{Read}
+use Rattle.table_text_writer.specs.declared.Written.{Written}
+use Rattle.table_text_reader.specs.Reading.{readOf, readInto}
+use Rattle.table_text_writer.specs.Writing.{writeOf, writeInto}
 use Rattle.run_rules.specs.declared.StopRule.{StopRule}
 use Rattle.run_rules.specs.declared.questions.Got.{Got}
 use Rattle.run_rules.specs.declared.questions.Extent.{Extent}
@@ -42,9 +46,9 @@ use Rattle.sim_timeline.specs.Model as PlainTimes
 use Rattle.rle_timeline.specs.Model as ChainTimes
 use Rattle.capi_numbers.specs.Model.Engines.{engineOf, chainOf, timesFrom}
 use Rattle.capi_numbers.specs.Model.Answers.{checkedCode, checkedOut, gotCode, gotOut, countedCode, countedOut, extentCode, extentOut, locatedCode, locatedOut}
-use Rattle.capi_numbers.specs.Model.Parts.{lookedCode, lookedOut, listedCode, listedOut}
+use Rattle.capi_numbers.specs.Model.Parts.{lookedCode, lookedOut, readCode, readOut, writtenCode, writtenOut, listedCode, listedOut}
 use Rattle.capi_numbers.specs.Model.Timelines.{TimelineNew, timelineNew, timelineNewCall}
-use Rattle.demands.specs.FirstClaims.{ofFresh, ofAnswer, ofStep, ofGot, ofExtent, ofCounted, ofLocated, ofLooked, ofChain, ofListed}
+use Rattle.demands.specs.FirstClaims.{ofFresh, ofAnswer, ofStep, ofGot, ofExtent, ofCounted, ofLocated, ofLooked, ofRead, ofWritten, ofChain, ofListed}
 use Rattle.demands.specs.FirstTimeline.{ofReply}
 use Rattle.capi_sim.specs.Model.Calls.{Call, call, newCall, stepCall, ranCall}
 use Rattle.capi_rle.specs.Model.Calls.{ChainCall, chainCall, chainNewCall, chainRanCall}
@@ -53,7 +57,7 @@ use Rattle.capi_rle.specs.Model.Timelines.{ChainTimelineCall, chainTimelineCall
 
 -- ---- a refused call
 
--- "6 .. (lowest entry number given) .. 10 .. (first place given ..) .. 17 .. (first place)": where the refusal names a place, place 0 of `out` holds it and the
+-- "6 .. (lowest entry number given) .. 10 .. (first place given ..) .. 17 .. (first place)", and the places of 19 and 20: where the refusal names a place, place 0 of `out` holds it and the
 -- rest is as it was; where it names none, all of `out` is as it was
 pub record OutKept (why : Refusal) (before after : List ℕ) : Type 0 where
   pub named : (i : ℕ) → placeOf why ≡ At i → after ≡ set before 0 i
@@ -84,6 +88,12 @@ Fills a out before after = Refuses a (λ (x : ℕ × List ℕ × List ℕ). x .0
 
 abbrev pub Looks : Looked → (out : List ℕ) → Type 0
 Looks a out = Alone (ofLooked a) out (lookedCode a, lookedOut a out)
+
+abbrev pub Reads : Read → (out before after : List ℕ) → Type 0
+Reads a out before after = Refuses (ofRead a) (λ (x : ℕ × List ℕ × List ℕ). x .0) out (λ n o. (n, o, before)) (readCode a, readOut a out, after)
+
+abbrev pub Writes : Written → (out before after : List ℕ) → Type 0
+Writes a out before after = Refuses (ofWritten a) (λ (x : ℕ × List ℕ × List ℕ). x .0) out (λ n o. (n, o, before)) (writtenCode a, writtenOut a out, after)
 
 abbrev pub Lists : Listed → (out : List ℕ) (before after : List Run) → Type 0
 Lists a out before after = Refuses (ofListed a) (λ (x : ℕ × List ℕ × List Run). x .0) out (λ n o. (n, o, before)) (listedCode a, listedOut a out, after)
@@ -147,6 +157,8 @@ pub record ExportsRefuse : Type 0 where
   pub pack : (m : Machine) (s words out : List ℕ) → Fills (packCheck m s (length words)) out words (packInto m s words)
   pub encode : (glyphs flags word symbols out : List ℕ)
       → Fills (encodeCheck glyphs flags word (length symbols)) out symbols (encodeInto glyphs flags word symbols)
+  pub line-read : (line table out : List ℕ) → Reads (readOf line (length table)) out table (readInto line table)
+  pub line-write : (m : Machine) (s line out : List ℕ) → Writes (writeOf m s (length line)) out line (writeInto m s line)
   -- ---- the plain engine
   pub sim-new : (m : Machine) (s w : List ℕ) (state : ℕ) (engine out c0 c1 c2 : List ℕ) → Makes state engine out c0 c1 c2 (Plains.newAnswer m s w c0 c1 c2)
   pub sim-step : (m : Machine) (s : List ℕ) (state : ℕ) (engine out c0 c1 c2 : List ℕ)

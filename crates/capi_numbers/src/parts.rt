@@ -1,4 +1,4 @@
-// Entries, packed words, glyphs' symbols and a side's runs, as numbers across the C boundary.
+// Entries, packed words, glyphs' symbols, lines and a side's runs, as numbers across the C boundary.
 use super::answers;
 use alphabet::Named;
 use machine::Action;
@@ -8,10 +8,12 @@ use machine::packed::Packed;
 use rle_records::Listed;
 use symbol::State;
 use symbol::Symbol;
+use table_text::Read;
+use table_text::Written;
 ghost use mathlib.Core.Path.{_≡_};
 ghost use Prim.Native.Nat.{_≤_};
 ghost use lib.ListN.{set};
-ghost use Rattle.capi_numbers.specs.Model.Parts.{flagNumber, actionFrom, entryOut, lookedCode, lookedOut, entryOf, partsOut, namedOut, listedCode, listedOut};
+ghost use Rattle.capi_numbers.specs.Model.Parts.{flagNumber, actionFrom, entryOut, lookedCode, lookedOut, entryOf, partsOut, namedOut, readCode, readOut, writtenCode, writtenOut, listedCode, listedOut};
 
 fn number_of(flag: bool) -> u64
     ensures { λ r. ⌜ r ≡ flagNumber flag ⌝ }
@@ -140,6 +142,35 @@ pub fn put_listed(xs: &mut [u64; 8], listed: Listed) -> u8
             return 0;
         }
         Listed::Refused(why) => {
+            return answers::refuse(xs, why);
+        }
+    }
+}
+
+pub fn put_read(xs: &mut [u64; 8], read: Read) -> u8
+    ensures { λ r. ⌜ (r ≡ readCode read) × (now (xs .exit) ≡ readOut read (now (xs .entry))) ⌝ }
+{
+    match read {
+        Read::Table(m) => {
+            xs[0] = m.symbols;
+            xs[1] = m.states;
+            return 0;
+        }
+        Read::Refused(why) => {
+            return answers::refuse(xs, why);
+        }
+    }
+}
+
+pub fn put_written(xs: &mut [u64; 8], written: Written) -> u8
+    ensures { λ r. ⌜ (r ≡ writtenCode written) × (now (xs .exit) ≡ writtenOut written (now (xs .entry))) ⌝ }
+{
+    match written {
+        Written::Line(count) => {
+            xs[0] = count;
+            return 0;
+        }
+        Written::Refused(why) => {
             return answers::refuse(xs, why);
         }
     }

@@ -1,4 +1,5 @@
 pub mod First
+pub mod FirstLines
 pub mod FirstPlain
 pub mod FirstChain
 pub mod FirstTimelineSpace

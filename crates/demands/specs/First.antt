@@ -2,6 +2,7 @@
 -- from document 01 and changes no state, tape, run stack or store. Lack of space stops a run before the step that needs it, earlier steps kept."
 -- The check of the crates proves that every operation takes everything, returns and wraps nothing: no public operation has a `requires`. The rest is here.
 use Rattle.demands.specs.FirstTables.{TableOperations, table-operations}
+use Rattle.demands.specs.FirstLines.{LineOperations, line-operations}
 use Rattle.demands.specs.FirstPlain.{PlainOperations, plain-operations}
 use Rattle.demands.specs.FirstChain.{ChainOperations, chain-operations}
 use Rattle.demands.specs.FirstTimelines.{BothTimelines, both-timelines}
@@ -11,6 +12,8 @@ pub record FirstDemand : Type 0 where
   -- "A refusal carries its number from document 01 and changes no state, tape, run stack or store.": the table check, the lookup, packing, the word's check,
   -- the encoder
   pub tables : TableOperations
+  -- the same for reading and writing the one-line form
+  pub lines : LineOperations
   -- the same, and "Lack of space stops a run before the step that needs it, earlier steps kept.": the plain engine's new, step, run, fast run, tape questions
   -- and check
   pub plain : PlainOperations
@@ -24,6 +27,7 @@ pub record FirstDemand : Type 0 where
 pub first-demand : FirstDemand
 first-demand = record {
   tables = table-operations;
+  lines = line-operations;
   plain = plain-operations;
   chain = chain-operations;
   timelines = both-timelines;

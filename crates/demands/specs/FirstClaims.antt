@@ -13,6 +13,10 @@ use Rattle.machine.specs.declared.Checked.{Checked}
 use Rattle.machine.specs.declared.Checked.the-variants.{Accepted, Refused}
 use Rattle.machine.specs.declared.Looked.{Looked}
 use Rattle.machine.specs.declared.Looked.the-variants as Looked
+use Rattle.table_text_reader.specs.declared.Read.{Read}
+use Rattle.table_text_reader.specs.declared.Read.the-variants as Read
+use Rattle.table_text_writer.specs.declared.Written.{Written}
+use Rattle.table_text_writer.specs.declared.Written.the-variants as Written
 use Rattle.sim.specs.declared.Fresh.{Fresh}
 use Rattle.sim.specs.declared.Fresh.the-variants as New
 use Rattle.run_rules.specs.declared.Answer.{Answer}
@@ -113,6 +117,14 @@ ofCounted (Counted.Refused why) = Refused why
 abbrev pub ofLocated : Located → Checked
 ofLocated (Located.Found x) = Accepted
 ofLocated (Located.Refused why) = Refused why
+
+abbrev pub ofRead : Read → Checked
+ofRead (Read.Table m) = Accepted
+ofRead (Read.Refused why) = Refused why
+
+abbrev pub ofWritten : Written → Checked
+ofWritten (Written.Line n) = Accepted
+ofWritten (Written.Refused why) = Refused why
 
 abbrev pub ofLooked : Looked → Checked
 ofLooked (Looked.Found e) = Accepted

@@ -1,7 +1,7 @@
 -- The tests of each operation, in document 01's order. Definitions only.
-use mathlib.Core.Bool.{Bool, true}
+use mathlib.Core.Bool.{Bool, true, false}
 use mathlib.Core.List.{List, [], _∷_, _++_}
-use Prim.Native.Nat.{ℕ, _+_, _*_, _^_}
+use Prim.Native.Nat.{ℕ, _+_, _-_, _*_, _^_}
 use lib.Dec.{eqb, ltb, leb}
 use lib.ListN.{length}
 use Rattle.notation.specs.Choice.{pick, both}
@@ -12,6 +12,11 @@ use Rattle.machine.specs.Layout.{entryCount}
 use Rattle.machine.specs.Model.Check.{within, entryOk}
 use Rattle.machine.specs.Model.Word.{symbolIn}
 use Rattle.alphabet.specs.Model.{allowedAt}
+use Rattle.table_text_form.specs.declared.Scanned.{Scanned}
+use Rattle.table_text_form.specs.declared.Scanned.the-variants.{Formed, Malformed}
+use Rattle.table_text_form.specs.Form.{formOf}
+use Rattle.table_text_reader.specs.Reading.{hasByte}
+use Rattle.table_text_writer.specs.Writing.{letteredRows, hasLine}
 use Rattle.run_checks.specs.Model.Sizes.{wordsRight}
 use Rattle.sim.specs.Model.Engine as Plain
 use Rattle.sim.specs.Model.Operations.{simFits}
@@ -53,6 +58,45 @@ abbrev pub encodeTests : (glyphs flags word : List ℕ) (room : ℕ) → List Te
 encodeTests glyphs flags word room =
     or (allIn (allowedAt glyphs flags word) (length word) 0) (Why.Glyph (lowest (allowedAt glyphs flags word) (length word)))
     ∷ or (leb (length word) room) Why.OutputSize
+    ∷ []
+
+-- ---- the one-line form, in document 02's words
+
+abbrev pub isFormed : Scanned → Bool
+isFormed (Formed rows k) = true
+isFormed (Malformed i) = false
+
+abbrev pub rowsOf : Scanned → ℕ
+rowsOf (Formed rows k) = rows
+rowsOf (Malformed i) = 0
+
+abbrev pub symbolsOf : Scanned → ℕ
+symbolsOf (Formed rows k) = k
+symbolsOf (Malformed i) = 0
+
+abbrev pub malformedAt : Scanned → ℕ
+malformedAt (Formed rows k) = 0
+malformedAt (Malformed i) = i
+
+-- "19 malformed line (first byte that no line of the form has after those before it, or the length if it ends early), 20 a letter other than Z, or a digit, that
+-- the line's rows lack, .. then 18 for a short buffer, in that order": the table has Z's row beside those of the line
+abbrev pub readTestsOf : Scanned → List ℕ → (room : ℕ) → List Test
+readTestsOf x line room =
+    or (isFormed x) (Why.MalformedLine (malformedAt x))
+    ∷ or (allIn (hasByte (rowsOf x) (symbolsOf x) line) (length line) 0) (Why.LineLacks (lowest (hasByte (rowsOf x) (symbolsOf x) line) (length line)))
+    ∷ or (leb (8 * ((rowsOf x + 1) * symbolsOf x)) room) Why.OutputSize
+    ∷ []
+
+abbrev pub readTests : List ℕ → (room : ℕ) → List Test
+readTests line room = readTestsOf (formOf line) line room
+
+-- "21 a table with several tapes, symbols not 2 to 10, lettered rows not 1 to 25, a start other than 0, an N move, or an undefined row before the last, then 18
+-- for a short buffer, in that order, after the table check for writing"
+abbrev pub writeTests : Machine → List ℕ → (room : ℕ) → List Test
+writeTests m s room =
+    tableTests m s
+    ++ or (hasLine m s) Why.NoLine
+    ∷ or (leb (letteredRows m s * (3 * m .symbols + 1) - 1) room) Why.OutputSize
     ∷ []
 
 -- ---- refusals 11 and 13, by their numbers

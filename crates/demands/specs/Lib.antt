@@ -4,6 +4,7 @@ pub mod FirstTimeline
 pub mod FirstSpace
 pub mod FirstSlots
 pub mod FirstTables
+pub mod FirstLines
 pub mod FirstPlain
 pub mod FirstChain
 pub mod FirstTimelines

@@ -13,7 +13,7 @@ use Rattle.outcome.specs.declared.Values.{Values}
 use Rattle.outcome.specs.declared.Outcome.{Outcome}
 use Rattle.outcome.specs.declared.Outcome.the-variants.{Halted, OutOfFuel, NeverHalts, Stopped, Full}
 use Rattle.outcome.specs.declared.Refusal.{Refusal}
-use Rattle.outcome.specs.declared.Refusal.the-variants.{Tapes, Symbols, States, Start, TableSize, Entry, PackedWords, SeveralTapes, WordLength, WordSymbol, BufferSize, Misfit, StepLimit, Settings, StoreSize, Slot, Glyph, OutputSize}
+use Rattle.outcome.specs.declared.Refusal.the-variants.{Tapes, Symbols, States, Start, TableSize, Entry, PackedWords, SeveralTapes, WordLength, WordSymbol, BufferSize, Misfit, StepLimit, Settings, StoreSize, Slot, Glyph, OutputSize, MalformedLine, LineLacks, NoLine}
 use Rattle.outcome.specs.declared.Said.{Said}
 use Rattle.outcome.specs.declared.Place.{Place}
 use Rattle.outcome.specs.declared.Place.the-variants.{At, Unsaid}
@@ -81,7 +81,7 @@ valuesOf (Full s) = values 4 s 0 0 0
 abbrev pub said : (number : ℕ) → Place → Said
 said number place = record { 0 = number; 1 = place }
 
--- "What each operation turns away", 1 to 18; 6 gives the lowest entry number, 10 and 17 the first place
+-- "What each operation turns away", 1 to 18; 6 gives the lowest entry number, 10 and 17 the first place. Then document 02's 19 to 21; 19 and 20 give the place.
 abbrev pub saidOf : Refusal → Said
 saidOf Tapes = said 1 Unsaid
 saidOf Symbols = said 2 Unsaid
@@ -101,6 +101,9 @@ saidOf StoreSize = said 15 Unsaid
 saidOf Slot = said 16 Unsaid
 saidOf (Glyph i) = said 17 (At i)
 saidOf OutputSize = said 18 Unsaid
+saidOf (MalformedLine i) = said 19 (At i)
+saidOf (LineLacks i) = said 20 (At i)
+saidOf NoLine = said 21 Unsaid
 
 abbrev pub refusalNumber : Refusal → ℕ
 refusalNumber why = saidOf why .0

@@ -140,7 +140,7 @@ fn made(number: u8, steps: u64, state: u16, pattern: u8, dir: u8) -> Values
     }
 }
 
-// Why an operation was refused: document 01's refusals, in the order of their numbers 1 to 18.
+// Why an operation was refused: document 01's refusals and then document 02's, in the order of their numbers, 1 to 21.
 pub enum Refusal {
     // The number of tapes is not 1 to 3.
     Tapes,
@@ -178,6 +178,12 @@ pub enum Refusal {
     Glyph(u64),
     // The output is too short.
     OutputSize,
+    // The line is malformed: no line of the form has the byte at this place after those before it, or it ends here, early.
+    MalformedLine(u64),
+    // The line's rows lack the letter or the digit at this place, the first such.
+    LineLacks(u64),
+    // The table has no line of the form.
+    NoLine,
 }
 
 // The place that a refusal gives, where it gives one.
@@ -226,6 +232,9 @@ impl Refusal {
             Refusal::Slot => Said(16, Place::Unsaid),
             Refusal::Glyph(i) => Said(17, Place::At(i)),
             Refusal::OutputSize => Said(18, Place::Unsaid),
+            Refusal::MalformedLine(i) => Said(19, Place::At(i)),
+            Refusal::LineLacks(i) => Said(20, Place::At(i)),
+            Refusal::NoLine => Said(21, Place::Unsaid),
         }
     }
 }

@@ -15,6 +15,10 @@ use Rattle.machine.specs.declared.Looked.{Looked}
 use Rattle.machine.specs.declared.Looked.the-variants as Looked
 use Rattle.rle_stack.specs.Model.{Side}
 use Rattle.rle_records.specs.declared.Run.{Run}
+use Rattle.table_text_reader.specs.declared.Read.{Read}
+use Rattle.table_text_reader.specs.declared.Read.the-variants as Read
+use Rattle.table_text_writer.specs.declared.Written.{Written}
+use Rattle.table_text_writer.specs.declared.Written.the-variants as Written
 use Rattle.rle_records.specs.declared.Listed.{Listed}
 use Rattle.rle_records.specs.declared.Listed.the-variants as Listed
 use Rattle.rle.specs.Model.Records.{sideInto}
@@ -51,10 +55,10 @@ use Rattle.capi_sim.specs.Model.Calls.{call, newCall, stepCall, ranCall}
 use Rattle.capi_sim.specs.Model.Timelines.{timelineCall, movedCall}
 use Rattle.capi_rle.specs.Model.Calls.{chainCall, chainNewCall, chainRanCall}
 use Rattle.capi_rle.specs.Model.Timelines.{chainTimelineCall, chainMovedCall}
-use Rattle.demands.specs.FirstClaims.{ofFresh, ofAnswer, ofStep, ofChain}
+use Rattle.demands.specs.FirstClaims.{ofRead, ofWritten, ofFresh, ofAnswer, ofStep, ofChain}
 use Rattle.demands.specs.FirstTimeline.{ofReply}
 use Rattle.capi_laws.specs.Facts.RoundTrips.{engine-kept, chain-kept, times-kept}
-use Rattle.capi_laws.specs.Refusals.{OutKept, Unchanged, Refuses, Checks, Fills, Looks, Lists, Gets, Spans, Counts, Finds, Makes, Steps, Runs, ChainMakes, ChainRuns, Begins, Moves, ChainMoves}
+use Rattle.capi_laws.specs.Refusals.{OutKept, Unchanged, Refuses, Checks, Fills, Looks, Reads, Writes, Lists, Gets, Spans, Counts, Finds, Makes, Steps, Runs, ChainMakes, ChainRuns, Begins, Moves, ChainMoves}
 
 -- ---- `out`
 
@@ -99,6 +103,16 @@ filled (Refused why) out before after k = refuses why out (ap (λ x. (refusalNum
 pub looked : (a : Looked) (out : List ℕ) → Looks a out
 looked (Looked.Found x) out = accepts refl
 looked (Looked.Refused why) out = refuses why out refl
+
+pub line-was-read : (a : Read) (out before after : List ℕ) → ((why : Refusal) → ofRead a ≡ Refused why → _≡_ {A = Read × List ℕ} (a, after) (Read.Refused why, before))
+    → Reads a out before after
+line-was-read (Read.Table m) out before after k = accepts refl
+line-was-read (Read.Refused why) out before after k = refuses why out (ap (λ x. (refusalNumber why, refusedOut why out, x .1)) (k why refl))
+
+pub line-was-written : (a : Written) (out before after : List ℕ)
+    → ((why : Refusal) → ofWritten a ≡ Refused why → _≡_ {A = Written × List ℕ} (a, after) (Written.Refused why, before)) → Writes a out before after
+line-was-written (Written.Line n) out before after k = accepts refl
+line-was-written (Written.Refused why) out before after k = refuses why out (ap (λ x. (refusalNumber why, refusedOut why out, x .1)) (k why refl))
 
 pub listed : (a : Listed) (x : Side) (runs : List Run) (out : List ℕ) → Lists a out runs (sideInto a x runs)
 listed (Listed.Filled n) x runs out = accepts refl

@@ -1,4 +1,4 @@
--- Entries, packed words, glyphs' symbols and a side's runs, as numbers across the C boundary. Definitions only.
+-- Entries, packed words, glyphs' symbols, lines and a side's runs, as numbers across the C boundary. Definitions only.
 use mathlib.Core.Bool.{Bool, true, false, not}
 use mathlib.Core.List.{List}
 use Prim.Native.Nat.{ℕ, _+_}
@@ -14,6 +14,10 @@ use Rattle.machine.specs.declared.Looked.{Looked}
 use Rattle.machine.specs.declared.Looked.the-variants as Look
 use Rattle.machine.specs.Layout.{dirOf, singleOf}
 use Rattle.machine.specs.Model.Packing.{undefinedWord, wordDir, wordWrite, wordNext, wordRow}
+use Rattle.table_text_reader.specs.declared.Read.{Read}
+use Rattle.table_text_reader.specs.declared.Read.the-variants as Read
+use Rattle.table_text_writer.specs.declared.Written.{Written}
+use Rattle.table_text_writer.specs.declared.Written.the-variants as Written
 use Rattle.alphabet.specs.declared.Named.{Named}
 use Rattle.alphabet.specs.declared.Named.the-variants as Named
 use Rattle.rle_records.specs.declared.Listed.{Listed}
@@ -62,6 +66,24 @@ partsOut w xs = withFive xs (flagNumber (not (eqb w undefinedWord))) (dirNumber 
 abbrev pub namedOut : Named → List ℕ → List ℕ
 namedOut Named.Missing xs = set xs 0 0
 namedOut (Named.Found s) xs = set (set xs 0 1) 1 (s .0)
+
+-- ---- a line: the numbers of symbols and of states of the table read; the number of bytes written
+
+abbrev pub readCode : Read → ℕ
+readCode (Read.Table m) = 0
+readCode (Read.Refused why) = refusalNumber why
+
+abbrev pub readOut : Read → List ℕ → List ℕ
+readOut (Read.Table m) xs = set (set xs 0 (m .symbols)) 1 (m .states)
+readOut (Read.Refused why) xs = refusedOut why xs
+
+abbrev pub writtenCode : Written → ℕ
+writtenCode (Written.Line n) = 0
+writtenCode (Written.Refused why) = refusalNumber why
+
+abbrev pub writtenOut : Written → List ℕ → List ℕ
+writtenOut (Written.Line n) xs = set xs 0 n
+writtenOut (Written.Refused why) xs = refusedOut why xs
 
 -- ---- a side's runs: their number
 

@@ -52,7 +52,7 @@ moves-apart d x y z e =
 
 -- ---- from a passed check to the layout
 
-eight-zeros : (j : ℕ) → j < 8 → getD (entryBytes Undefined) j 0 ≡ 0
+pub eight-zeros : (j : ℕ) → j < 8 → getD (entryBytes Undefined) j 0 ≡ 0
 eight-zeros zero h = refl
 eight-zeros (suc zero) h = refl
 eight-zeros (suc (suc zero)) h = refl

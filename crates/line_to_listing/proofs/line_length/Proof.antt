@@ -1,0 +1,26 @@
+use Rattle.line_to_listing.specs.Facts.AnswerCases.{line-none, line-less, line-all}
+use borrow.Author.Needs.{needs}
+use Rattle.line_to_listing.proofs.line_length.Statement.{statement}
+use Rattle.line_to_listing.proofs.line_length.Tie as tie
+
+returns : tie.Need-returns
+returns c = (line-none _ (search needs), search needs)
+
+sub-if2 : tie.Need-sub-if2
+sub-if2 c = search needs
+
+shared-slice-read-if2 : tie.Need-shared-slice-read-if2
+shared-slice-read-if2 c = search needs
+
+sub-result : tie.Need-sub-result
+sub-result c = search needs
+
+returns-2 : tie.Need-returns-2
+returns-2 c = (line-less _ (search needs), search needs)
+
+returns-3 : tie.Need-returns-3
+returns-3 c = (line-all _ (search needs), search needs)
+
+pub line-length-spec : {M : Type 1} → statement M
+line-length-spec =
+    tie.close (tie.spec returns sub-if2 shared-slice-read-if2 sub-result returns-2 returns-3)

@@ -1,0 +1,2 @@
+pub mod PrintCases
+pub mod AnswerCases

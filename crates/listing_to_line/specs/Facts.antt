@@ -1,0 +1,2 @@
+pub mod AnswerCases
+pub mod FirstBytes

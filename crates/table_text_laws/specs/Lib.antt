@@ -1,0 +1,4 @@
+pub mod Form
+pub mod Meaning
+pub mod Claims
+pub mod Facts

@@ -1,0 +1,1 @@
+// What reading and writing the one-line form mean: definitions and theorems, no code.
