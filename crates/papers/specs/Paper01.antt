@@ -4,7 +4,7 @@ use mathlib.Core.Path.{_≡_}
 use mathlib.Core.Logic.{_↔_}
 use mathlib.Core.List.{List}
 use Prim.Native.Nat.{ℕ, _+_, _-_, _*_, _≤_, _<_}
-use lib.ListN.{length, take}
+use lib.ListN.{length, take, replicate}
 use Rattle.outcome.specs.declared.Refusal.{Refusal}
 use Rattle.outcome.specs.declared.Refusal.the-variants as Why
 use Rattle.machine.specs.declared.Machine.{Machine}
@@ -18,10 +18,15 @@ use Rattle.table_text_writer.specs.Writing.{writeOf, writeInto}
 use Rattle.table_text_laws.specs.Form.{MalformedAt}
 use Rattle.table_text_laws.specs.Meaning.{FirstLacking, GoodLine, DashedRow, RowUndefined, HasLine}
 use Rattle.table_text_laws.specs.Claims.{tableOf, TableRead, LineWritten}
+use Rattle.table_text_laws.specs.Example.{line, machine, table}
+use Rattle.table_text_laws.specs.Facts.Examples.{line-read, line-written}
 use Rattle.table_text_laws.specs.Facts.Exact.{malformed-exact, lacking-exact, short-exact, accepted-exact, refused-exact, none-exact, small-exact, enough-exact}
-use Rattle.table_text_laws.specs.Facts.Claims.{table-read, line-written, written-back, read-back}
+use Rattle.table_text_laws.specs.Facts.Claims as Claims
 
 pub record OneLineForm : Type 0 where
+  -- "Contributors exchange machines as lines such as `1RB1LB_1LA1RZ`.": the table of this line is that of document 01's listing
+  pub example-read : (readOf line 48 ≡ Read.Table machine) × (readInto line (replicate 48 7) ≡ table)
+  pub example-written : (writeOf machine table 13 ≡ Written.Line 13) × (writeInto machine table (replicate 13 7) ≡ line)
   -- ---- reading
 
   -- "19 malformed line (first byte that no line of the form has after those before it, or the length if it ends early)": by the lines that begin as this one does
@@ -65,16 +70,18 @@ pub record OneLineForm : Type 0 where
 
 pub one-line-form : OneLineForm
 one-line-form = record {
+  example-read = line-read;
+  example-written = line-written;
   malformed = malformed-exact;
   lacking = lacking-exact;
   read-short = short-exact;
   read-enough = accepted-exact;
-  read = table-read;
+  read = Claims.table-read;
   checked = refused-exact;
   no-line = none-exact;
   write-short = small-exact;
   write-enough = enough-exact;
-  written = line-written;
-  written-back = written-back;
-  read-back = read-back;
+  written = Claims.line-written;
+  written-back = Claims.written-back;
+  read-back = Claims.read-back;
 }

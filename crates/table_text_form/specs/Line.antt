@@ -1,4 +1,4 @@
--- A line of the form (document 02, request 1), by rows and columns and not by the automaton. Definitions only.
+-- A line of the form (document 02, request 1), by rows and columns and not by the automaton. In bytes 0 is 48, A 65, L 76, R 82, `-` 45 and `_` 95. Definitions only.
 use mathlib.Core.Path.{_≡_}
 use mathlib.Core.Logic.{_⊎_}
 use mathlib.Core.List.{List}

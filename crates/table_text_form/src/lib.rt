@@ -5,7 +5,7 @@ ghost use Prim.Native.Nat.{_<_};
 ghost use lib.Dec.{eqb};
 ghost use Rattle.table_text_form.specs.Form.{spot, mayEnd, isFull, widthOf, rowEnds, isMove, onIf, entryBegins, stepBetween, step, ends, formOf};
 
-// What of an entry was read: nothing; its symbol; its symbol and its move; one of three dashes; two of them.
+// How much of an entry the bytes before a place have: nothing; its symbol; its symbol and its move; one dash; two dashes.
 pub enum Phase {
     Between,
     Wrote,
@@ -14,8 +14,8 @@ pub enum Phase {
     Dashes,
 }
 
-// What the bytes before a place have of the form: `rows` whole rows, and `col` whole entries of the row after them.
-// `width` is the number of entries of the first row; it is 0 in that row.
+// The bytes before a place as a part of a line: `rows` whole rows with their underscores, then `col` whole entries, then
+// the part of an entry that `phase` says. `width` is the number of entries of the first row, or 0 in that row.
 pub struct Spot {
     pub width: u64,
     pub rows: u64,

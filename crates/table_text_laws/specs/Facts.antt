@@ -9,3 +9,4 @@ pub mod WrittenBack
 pub mod ReadBack
 pub mod Exact
 pub mod Claims
+pub mod Examples

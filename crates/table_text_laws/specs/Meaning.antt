@@ -1,4 +1,4 @@
--- What a line of the form says, and which tables have a line, in document 02's words. Definitions only.
+-- What a line of the form says, and which tables have a line, in document 02's words. In bytes 0 is 48, A 65, L 76, R 82, Z 90, `-` 45 and `_` 95. Definitions only.
 use mathlib.Core.Path.{_≡_}
 use mathlib.Core.Logic.{_⊎_}
 use mathlib.Core.List.{List}
@@ -21,12 +21,13 @@ LacksDigit k b = Digit b × (48 + k ≤ b)
 abbrev pub LacksLetter : (rows b : ℕ) → Type 0
 LacksLetter rows b = Letter b × ¬ (b ≡ 90) × (65 + rows ≤ b)
 
--- place i holds the symbol or the next state of an entry
+-- place i has such a byte: a digit where an entry's symbol is, or a letter where its next state is
 abbrev pub LacksAt : (rows k : ℕ) → List ℕ → ℕ → Type 0
 LacksAt rows k line i =
     (q : ℕ) × (a : ℕ) × (q < rows) × (a < k)
     × (((i ≡ place k q a) × LacksDigit k (getD line i 0)) ⊎ ((i ≡ place k q a + 2) × LacksLetter rows (getD line i 0)))
 
+-- i is the first such place
 pub record FirstLacking (line : List ℕ) (i : ℕ) : Type 0 where
   pub rows : ℕ
   pub symbols : ℕ
@@ -41,11 +42,13 @@ pub record GoodLine (rows k : ℕ) (line : List ℕ) : Type 0 where
 
 -- ---- "Each entry is a symbol written, L or R, and the next state's letter."  "`---` is an undefined entry."  "Z is a halting state", the one of row z
 
+-- y is the letter of a move; N has none
 abbrev pub MoveOf : ℕ → Dir → Type 0
 MoveOf y L = y ≡ 76
 MoveOf y R = y ≡ 82
 MoveOf y N = ⊥
 
+-- c is the letter of state q
 abbrev pub LetterOf : (z c q : ℕ) → Type 0
 LetterOf z c q = ((c ≡ 90) × (q ≡ z)) ⊎ ((c ≡ 65 + q) × (q < z))
 
@@ -58,12 +61,13 @@ Says z x y c (Defined a) = (x ≡ 48 + a .write0 .0) × MoveOf y (a .dir0) × Le
 abbrev pub SaysAt : (z k : ℕ) → List ℕ → List ℕ → (q a : ℕ) → Type 0
 SaysAt z k line s q a = Says z (getD line (place k q a) 0) (getD line (place k q a + 1) 0) (getD line (place k q a + 2) 0) (entryAt s (q * k + a))
 
--- "no row is `---` throughout": row q is
+-- row q is "`---` throughout"
 abbrev pub DashedRow : (k : ℕ) → List ℕ → ℕ → Type 0
 DashedRow k line q = (a : ℕ) → a < k → (getD line (place k q a) 0 ≡ 45) × (getD line (place k q a + 1) 0 ≡ 45) × (getD line (place k q a + 2) 0 ≡ 45)
 
 -- ---- "a table with several tapes, symbols not 2 to 10, lettered rows not 1 to 25, a start other than 0, an N move, or an undefined row before the last"
 
+-- row q of a table of one tape and k symbols
 abbrev pub RowUndefined : (k : ℕ) → List ℕ → ℕ → Type 0
 RowUndefined k s q = (a : ℕ) → a < k → entryAt s (q * k + a) ≡ Undefined
 

@@ -12,7 +12,7 @@ ghost use Rattle.notation.specs.Fill.{fillFrom};
 ghost use Rattle.notation.specs.Scan.{allIn};
 ghost use Rattle.table_bytes.specs.Model.Entries.{within};
 ghost use Rattle.table_text_writer.specs.Writing.{isUndefined, rowUndefined, letteredRows, isMoving, movesOr, movesAt, rowDefined, hasLine, moveText, letterText, actionText, entryText, lineByte};
-ghost use Rattle.table_text_writer.specs.Facts.Fits.{Shown, AllShown};
+ghost use Rattle.table_text_writer.specs.Facts.Fits.{Printable, AllPrintable};
 
 fn is_undefined(entry: Entry) -> bool
     ensures { λ r. ⌜ r ≡ isUndefined entry ⌝ }
@@ -169,7 +169,7 @@ fn action_text(z: u64, a: Action, j: u64) -> u8
 
 // Byte `j` of an entry's text, where Z's row has number `z`.
 fn entry_text(z: u64, entry: Entry, j: u64) -> u8
-    requires { ⌜ Shown entry ⌝ }
+    requires { ⌜ Printable entry ⌝ }
     ensures { λ r. ⌜ r ≡ entryText z entry j ⌝ }
 {
     match entry {
@@ -180,7 +180,7 @@ fn entry_text(z: u64, entry: Entry, j: u64) -> u8
 
 // Byte `p` of the line.
 fn line_byte(table: &[u8], rows: u64, symbols: u64, p: u64) -> u8
-    requires { ⌜ AllShown (now table) × (symbols ≤ 10) × (p ≤ 65536) ⌝ }
+    requires { ⌜ AllPrintable (now table) × (symbols ≤ 10) × (p ≤ 65536) ⌝ }
     ensures { λ r. ⌜ r ≡ lineByte rows symbols (now (table .entry)) p ⌝ }
 {
     let width = 3 * symbols + 1;
@@ -195,7 +195,7 @@ fn line_byte(table: &[u8], rows: u64, symbols: u64, p: u64) -> u8
 
 // Writes the first `size` bytes of the line into the first places of `line`.
 pub(crate) fn write_bytes(table: &[u8], rows: u64, symbols: u64, size: u64, line: &mut [u8])
-    requires { ⌜ AllShown (now table) × (symbols ≤ 10) × (size ≤ 65536) × (size ≤ length (now line)) ⌝ }
+    requires { ⌜ AllPrintable (now table) × (symbols ≤ 10) × (size ≤ 65536) × (size ≤ length (now line)) ⌝ }
     ensures { λ _. ⌜ now (line .exit) ≡ fillFrom (lineByte rows symbols (now (table .entry))) size 0 (now (line .entry)) ⌝ }
 {
     let mut p: u64 = 0;

@@ -4,14 +4,10 @@
 
 #include "turing.h"
 
-/* The machine's numbers and its table, which every call takes. The moves are 25 for R and 24 for L: those of the two
- * tapes that the machine lacks are N, which makes 24. */
-static const uint8_t table[48] = {
-    1, 1, 0, 1, 0, 0, 25, 0, /* state 0 reads 0: writes 1, moves R, state 1 */
-    1, 1, 0, 1, 0, 0, 24, 0, /* state 0 reads 1: writes 1, moves L, state 1 */
-    1, 0, 0, 1, 0, 0, 24, 0, /* state 1 reads 0: writes 1, moves L, state 0 */
-    1, 2, 0, 1, 0, 0, 25, 0, /* state 1 reads 1: writes 1, moves R, state 2 */
-};
+/* The machine's numbers and its table, which every call takes: one tape, 2 symbols, 3 states, start state 0. The table is
+ * read from a line in the one-line form; the third state is Z, in which the machine halts. */
+static const char line[] = "1RB1LB_1LA1RZ";
+static uint8_t table[48];
 #define MACHINE 1, 2, 3, 0, table, sizeof table
 
 /* Cells of tape 0; the machine lacks the other two, which need none. */
@@ -33,6 +29,13 @@ static void tell(const char *call, uint8_t refusal)
         printf("%s: refused %d\n", call, refusal);
     else
         printf("%s: %s at %llu\n", call, outcomes[out[0]], (unsigned long long)out[1]);
+}
+
+static void read_table(void)
+{
+    uint8_t refusal = tm_line_read((const uint8_t *)line, sizeof line - 1, table, sizeof table, out);
+    if (refusal != 0)
+        printf("refused %d\n", refusal);
 }
 
 /* Makes a fresh plain engine; its numbers go into each later call, which changes them in place. */
@@ -83,6 +86,7 @@ static void stop_on_state_1(void)
 
 int main(void)
 {
+    read_table();
     run_twice();
     travel();
     stop_on_state_1();

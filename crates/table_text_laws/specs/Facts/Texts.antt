@@ -81,11 +81,11 @@ letter-written z q h = by (ℕ-discrete q z)
     by (no f) = inr (pick-false (eqb q z) 90 (65 + q) (ne-eqb q z f), omega arith)
 
 -- its moves are L or R, and its next state has a letter
-abbrev pub Lettery : ℕ → Entry → Type 0
-Lettery z Undefined = Unit {0}
-Lettery z (Defined a) = ¬ (a .dir0 ≡ N) × (a .next .0 ≤ z)
+abbrev pub HasText : ℕ → Entry → Type 0
+HasText z Undefined = Unit {0}
+HasText z (Defined a) = ¬ (a .dir0 ≡ N) × (a .next .0 ≤ z)
 
-pub write-says : (z : ℕ) (e : Entry) → Lettery z e → Says z (entryText z e 0) (entryText z e 1) (entryText z e 2) e
+pub write-says : (z : ℕ) (e : Entry) → HasText z e → Says z (entryText z e 0) (entryText z e 1) (entryText z e 2) e
 unfolding pick
 write-says z Undefined h = (refl, refl, refl)
 write-says z (Defined a) h = (refl, move-written (a .dir0) (h .0), letter-written z (a .next .0) (h .1))

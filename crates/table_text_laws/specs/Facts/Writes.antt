@@ -35,11 +35,11 @@ use Rattle.table_text_form.specs.Line.{place, EntryAt, OfForm}
 use Rattle.table_text_writer.specs.declared.Written.{Written}
 use Rattle.table_text_writer.specs.declared.Written.the-variants as W
 use Rattle.table_text_writer.specs.Writing.{isUndefined, undefinedAt, rowUndefined, letteredRows, isMoving, movesOr, movesAt, rowDefined, hasLine, entryText, lineByte, lineSize, sizeOf, writtenOn, writeOf, writeOn, writeInto}
-use Rattle.table_text_writer.specs.Facts.Fits.{Lined, lined}
+use Rattle.table_text_writer.specs.Facts.Fits.{TestsPassed, tests-passed}
 use Rattle.table_text_reader.specs.Facts.Places.{place-row, place-col, place-in, row-in}
 use Rattle.table_text_laws.specs.Meaning.{LacksDigit, LacksLetter, LacksAt, GoodLine, Says, SaysAt, RowUndefined, Lettered, HasLine}
 use Rattle.table_text_laws.specs.Facts.Columns.{bar-row, bar-col}
-use Rattle.table_text_laws.specs.Facts.Texts.{Lettery, write-says, says-form, says-letter, says-digit}
+use Rattle.table_text_laws.specs.Facts.Texts.{HasText, write-says, says-form, says-letter, says-digit}
 
 -- ---- rows
 
@@ -103,7 +103,7 @@ moves-hold s i h = by (entryAt s i) refl
 module _ (m : Machine) (s : List ℕ) (some : 1 ≤ m .states) where
   pub line-says : hasLine m s ≡ true → HasLine m s (letteredRows m s)
   line-says h =
-      let l = lined m s h in
+      let l = tests-passed m s h in
       record {
         one-tape = l .one-tape;
         symbols-are = l .symbols-are;
@@ -230,10 +230,10 @@ module _ (m : Machine) (s : List ℕ) (w : WellFormed m s) (z : ℕ) (h : HasLin
         by (inl x) = omega (arith, x .0)
         by (inr x) = omega (arith, x .0)
 
-    lettery : Lettery z (entryAt s (q * k + a))
-    lettery = by (entryAt s (q * k + a)) refl (entry-fits)
+    has-text : HasText z (entryAt s (q * k + a))
+    has-text = by (entryAt s (q * k + a)) refl (entry-fits)
       where
-        by : (e : Entry) → entryAt s (q * k + a) ≡ e → EntryOf m e → Lettery z e
+        by : (e : Entry) → entryAt s (q * k + a) ≡ e → EntryOf m e → HasText z e
         by Undefined p o = tt
         by (Defined x) p o = (h .moves (q * k + a) x (row-in k (m .states) q a (omega (arith, states-least)) col) p, omega (arith, o .next-in, states-most))
 
@@ -243,7 +243,7 @@ module _ (m : Machine) (s : List ℕ) (w : WellFormed m s) (z : ℕ) (h : HasLin
         subst (λ (x : ℕ). Says z x (getD lineIn (place k q a + 1) 0) (getD lineIn (place k q a + 2) 0) e) (sym first-byte)
         (subst (λ (y : ℕ). Says z (entryText z e 0) y (getD lineIn (place k q a + 2) 0) e) (sym (entry-byte 1 (omega arith)))
         (subst (λ (c : ℕ). Says z (entryText z e 0) (entryText z e 1) c e) (sym (entry-byte 2 (omega arith)))
-        (write-says z e lettery)))
+        (write-says z e has-text)))
 
     low-digit : getD lineIn (place k q a) 0 ≤ 57
     low-digit = by (entryAt s (q * k + a)) entry-fits line-says-entry

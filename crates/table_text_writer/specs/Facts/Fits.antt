@@ -21,23 +21,23 @@ use Rattle.machine.specs.Model.Check.{tableCheck}
 use Rattle.machine.specs.Facts.Check.{ranges, within-says, defined-passed}
 use Rattle.table_text_writer.specs.Writing.{rowUndefined, letteredRows, movesAt, rowDefined, hasLine}
 
-abbrev pub Shown : Entry → Type 0
-Shown Undefined = Unit {0}
-Shown (Defined a) = (a .write0 .0 ≤ 9) × (a .next .0 ≤ 25)
+abbrev pub Printable : Entry → Type 0
+Printable Undefined = Unit {0}
+Printable (Defined a) = (a .write0 .0 ≤ 9) × (a .next .0 ≤ 25)
 
-unfoldable pub AllShown : List ℕ → Type 0
-AllShown s = (i : ℕ) → Shown (entryAt s i)
+unfoldable pub AllPrintable : List ℕ → Type 0
+AllPrintable s = (i : ℕ) → Printable (entryAt s i)
 
-pub shown-defined : (e : Entry) (a : Action) → Shown e → e ≡ Defined a → (a .write0 .0 ≤ 9) × (a .next .0 ≤ 25)
-shown-defined e a h p = subst Shown p h
+pub printable-defined : (e : Entry) (a : Action) → Printable e → e ≡ Defined a → (a .write0 .0 ≤ 9) × (a .next .0 ≤ 25)
+printable-defined e a h p = subst Printable p h
 
-pub shown-at : (s : List ℕ) (e : Entry) (i : ℕ) → AllShown s → e ≡ entryAt s i → Shown e
-unfolding AllShown
-shown-at s e i h p = subst Shown (sym p) (h i)
+pub printable-at : (s : List ℕ) (e : Entry) (i : ℕ) → AllPrintable s → e ≡ entryAt s i → Printable e
+unfolding AllPrintable
+printable-at s e i h p = subst Printable (sym p) (h i)
 
 -- ---- what 21's test says
 
-pub record Lined (m : Machine) (s : List ℕ) : Type 0 where
+pub record TestsPassed (m : Machine) (s : List ℕ) : Type 0 where
   pub one-tape : m .tapes ≡ 1
   pub symbols-are : (2 ≤ m .symbols) × (m .symbols ≤ 10)
   pub rows-are : (1 ≤ letteredRows m s) × (letteredRows m s ≤ 25)
@@ -45,9 +45,9 @@ pub record Lined (m : Machine) (s : List ℕ) : Type 0 where
   pub moves : (i : ℕ) → i < m .states * m .symbols → movesAt s i ≡ true
   pub defined : (q : ℕ) → q < m .states - 1 → rowUndefined (m .symbols) s q ≡ false
 
-pub lined : (m : Machine) (s : List ℕ) → hasLine m s ≡ true → Lined m s
+pub tests-passed : (m : Machine) (s : List ℕ) → hasLine m s ≡ true → TestsPassed m s
 unfolding hasLine
-lined m s h =
+tests-passed m s h =
     let a = both-split h in
     let b = both-split (a .1) in
     let c = both-split (b .1) in
@@ -70,10 +70,10 @@ states-are m s =
     (λ e. (omega arith, omega arith)) (λ e. (omega arith, omega arith))
 
 -- every entry of an accepted table that has a line has a text
-module _ (m : Machine) (s : List ℕ) (accepted : tableCheck m s ≡ Accepted) (l : Lined m s) where
-  pub all-shown : AllShown s
-  unfolding AllShown entryAt actionAt
-  all-shown i = pick-cases (both (ltb i (length s / 8)) (eqb (flagAt s i) 1)) (Defined (actionAt s i)) Undefined Shown
+module _ (m : Machine) (s : List ℕ) (accepted : tableCheck m s ≡ Accepted) (l : TestsPassed m s) where
+  pub all-printable : AllPrintable s
+  unfolding AllPrintable entryAt actionAt
+  all-printable i = pick-cases (both (ltb i (length s / 8)) (eqb (flagAt s i) 1)) (Defined (actionAt s i)) Undefined Printable
       (λ e.
       let p = both-split e in
       let g = ranges m s accepted in

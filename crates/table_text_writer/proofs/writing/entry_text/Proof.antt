@@ -1,5 +1,5 @@
 use Rattle.table_text_writer.specs.Facts.WriteCases.{text-defined}
-use Rattle.table_text_writer.specs.Facts.Fits.{shown-defined}
+use Rattle.table_text_writer.specs.Facts.Fits.{printable-defined}
 use borrow.Author.Needs.{needs}
 use Rattle.table_text_writer.proofs.writing.entry_text.Statement.{statement}
 use Rattle.table_text_writer.proofs.writing.entry_text.Tie as tie
@@ -11,7 +11,7 @@ enum-known-entry : tie.Need-enum-known-entry
 enum-known-entry c = search needs
 
 action-text-requires : tie.Need-action-text-requires
-action-text-requires c κs = shown-defined _ _ (c .before .before .before .pre) (c .before .entry .given .1)
+action-text-requires c κs = printable-defined _ _ (c .before .before .before .pre) (c .before .entry .given .1)
 
 returns : tie.Need-returns
 returns c = search needs

@@ -1,5 +1,5 @@
 use Rattle.table_text_writer.specs.Facts.WriteCases.{byte-parts, byte-enters}
-use Rattle.table_text_writer.specs.Facts.Fits.{product-small, shown-at}
+use Rattle.table_text_writer.specs.Facts.Fits.{product-small, printable-at}
 use native.Mathlib.Nat.{div-le-self, mod-le}
 use Prim.Native.Nat.{_+_, _*_, _/_}
 use native.Mathlib.Omega.{arith}
@@ -35,7 +35,7 @@ entry-at-requires : tie.Need-entry-at-requires
 entry-at-requires c κs = search needs
 
 entry-text-requires : tie.Need-entry-text-requires
-entry-text-requires c κs = shown-at _ _ _ (c .before .before .before .pre .0) (c .entry-at .ensures)
+entry-text-requires c κs = printable-at _ _ _ (c .before .before .before .pre .0) (c .entry-at .ensures)
 
 returns-2 : tie.Need-returns-2
 returns-2 c = search byte-enters depth 9
