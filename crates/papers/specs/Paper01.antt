@@ -18,15 +18,15 @@ use Rattle.table_text_writer.specs.Writing.{writeOf, writeInto}
 use Rattle.table_text_laws.specs.Form.{MalformedAt}
 use Rattle.table_text_laws.specs.Meaning.{FirstLacking, GoodLine, DashedRow, RowUndefined, HasLine}
 use Rattle.table_text_laws.specs.Claims.{tableOf, TableRead, LineWritten}
-use Rattle.table_text_laws.specs.Example.{line, machine, table}
+use Rattle.table_text_laws.specs.Example.{exampleLine, exampleMachine, exampleTable}
 use Rattle.table_text_laws.specs.Facts.Examples.{line-read, line-written}
 use Rattle.table_text_laws.specs.Facts.Exact.{malformed-exact, lacking-exact, short-exact, accepted-exact, refused-exact, none-exact, small-exact, enough-exact}
 use Rattle.table_text_laws.specs.Facts.Claims as Claims
 
 pub record OneLineForm : Type 0 where
   -- "Contributors exchange machines as lines such as `1RB1LB_1LA1RZ`.": the table of this line is that of document 01's listing
-  pub example-read : (readOf line 48 ≡ Read.Table machine) × (readInto line (replicate 48 7) ≡ table)
-  pub example-written : (writeOf machine table 13 ≡ Written.Line 13) × (writeInto machine table (replicate 13 7) ≡ line)
+  pub example-read : (readOf exampleLine 48 ≡ Read.Table exampleMachine) × (readInto exampleLine (replicate 48 7) ≡ exampleTable)
+  pub example-written : (writeOf exampleMachine exampleTable 13 ≡ Written.Line 13) × (writeInto exampleMachine exampleTable (replicate 13 7) ≡ exampleLine)
   -- ---- reading
 
   -- "19 malformed line (first byte that no line of the form has after those before it, or the length if it ends early)": by the lines that begin as this one does

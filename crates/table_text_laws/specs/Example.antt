@@ -4,15 +4,15 @@ use Prim.Native.Nat.{ℕ}
 use Rattle.machine.specs.declared.Machine.{Machine}
 
 -- 1RB1LB_1LA1RZ
-abbrev pub line : List ℕ
-line = 49 ∷ 82 ∷ 66 ∷ 49 ∷ 76 ∷ 66 ∷ 95 ∷ 49 ∷ 76 ∷ 65 ∷ 49 ∷ 82 ∷ 90 ∷ []
+abbrev pub exampleLine : List ℕ
+exampleLine = 49 ∷ 82 ∷ 66 ∷ 49 ∷ 76 ∷ 66 ∷ 95 ∷ 49 ∷ 76 ∷ 65 ∷ 49 ∷ 82 ∷ 90 ∷ []
 
 -- the listing's table of document 01
-abbrev pub machine : Machine
-machine = record { tapes = 1; symbols = 2; states = 3; start = 0 }
+abbrev pub exampleMachine : Machine
+exampleMachine = record { tapes = 1; symbols = 2; states = 3; start = 0 }
 
-abbrev pub table : List ℕ
-table =
+abbrev pub exampleTable : List ℕ
+exampleTable =
     1 ∷ 1 ∷ 0 ∷ 1 ∷ 0 ∷ 0 ∷ 25 ∷ 0 ∷ 1 ∷ 1 ∷ 0 ∷ 1 ∷ 0 ∷ 0 ∷ 24 ∷ 0
     ∷ 1 ∷ 0 ∷ 0 ∷ 1 ∷ 0 ∷ 0 ∷ 24 ∷ 0 ∷ 1 ∷ 2 ∷ 0 ∷ 1 ∷ 0 ∷ 0 ∷ 25 ∷ 0
     ∷ 0 ∷ 0 ∷ 0 ∷ 0 ∷ 0 ∷ 0 ∷ 0 ∷ 0 ∷ 0 ∷ 0 ∷ 0 ∷ 0 ∷ 0 ∷ 0 ∷ 0 ∷ 0 ∷ []

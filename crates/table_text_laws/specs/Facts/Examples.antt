@@ -13,13 +13,13 @@ use Rattle.table_text_reader.specs.declared.Read.the-variants.{Table, Refused}
 use Rattle.table_text_reader.specs.Reading.{hasByte, entryIn, tableByte, readOf, readInto}
 use Rattle.table_text_writer.specs.declared.Written.the-variants.{Line}
 use Rattle.table_text_writer.specs.Writing.{rowUndefined, letteredRows, hasLine, lineByte, writeOf, writeInto}
-use Rattle.table_text_laws.specs.Example.{line, machine, table}
+use Rattle.table_text_laws.specs.Example.{exampleLine, exampleMachine, exampleTable}
 
-pub line-read : (readOf line 48 ≡ Table machine) × (readInto line (replicate 48 7) ≡ table)
+pub line-read : (readOf exampleLine 48 ≡ Table exampleMachine) × (readInto exampleLine (replicate 48 7) ≡ exampleTable)
 unfolding readOf readInto formOf scan step ends mayEnd isFull rowEnds entryBegins hasByte entryIn tableByte firstFail fillFrom pick both
 line-read = (refl, refl)
 
-pub line-written : (writeOf machine table 13 ≡ Line 13) × (writeInto machine table (replicate 13 7) ≡ line)
+pub line-written : (writeOf exampleMachine exampleTable 13 ≡ Line 13) × (writeInto exampleMachine exampleTable (replicate 13 7) ≡ exampleLine)
 unfolding writeOf writeInto tableCheck sizeCheck entriesCheck entryOk rowUndefined letteredRows hasLine lineByte entryAt actionAt allIn firstFail fillFrom pick both
 line-written = (refl, refl)
 
