@@ -1,2 +1,3 @@
 pub mod PrintCases
 pub mod AnswerCases
+pub mod FirstBytes

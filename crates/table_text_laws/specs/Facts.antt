@@ -10,3 +10,4 @@ pub mod ReadBack
 pub mod Exact
 pub mod Claims
 pub mod Examples
+pub mod Long
