@@ -16,7 +16,7 @@ use Rattle.table_text_form.specs.declared.Scanned.{Scanned}
 use Rattle.table_text_form.specs.declared.Scanned.the-variants.{Formed, Malformed}
 use Rattle.table_text_form.specs.Form.{formOf}
 use Rattle.table_text_reader.specs.Reading.{hasByte}
-use Rattle.table_text_writer.specs.Writing.{letteredRows, hasLine}
+use Rattle.table_text_rows.specs.Rows.{letteredRows, hasLine}
 use Rattle.run_checks.specs.Model.Sizes.{wordsRight}
 use Rattle.sim.specs.Model.Engine as Plain
 use Rattle.sim.specs.Model.Operations.{simFits}

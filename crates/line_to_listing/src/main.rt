@@ -3,6 +3,7 @@
 // and its place where it has one. It reads at most 65,536 bytes: the first 65,536 have the same answer as the whole input
 // (`answer-first`, in the specs). Where a read fails, it writes nothing to standard output and one line to standard
 // error. Where a write fails, it writes one line to standard error.
+use program_input::Input;
 use table_text::Read;
 ghost use mathlib.Core.Path.{_≡_};
 ghost use Prim.Native.Nat.{_≤_};
@@ -59,22 +60,15 @@ fn answer(input: &[u8]) {
     write_output(&output[..m]);
 }
 
-// Whether the first n bytes of the input are all that is read: they fill the buffer, or the input ends after them.
-// It reads once more to know, so input that is typed has to be ended twice.
-fn is_read(n: usize) -> bool {
-    if n == 65536 {
-        return true;
-    }
-    let mut one = [0u8; 1];
-    libc::read(0, &mut one) == 0
-}
-
 fn main() {
     let mut input = io::large_buffer();
-    let n = io::read_full(0, &mut input);
-    if !is_read(n) {
-        io::write_all(2, b"line_to_listing: standard input cannot be read\n");
-        return;
+    let read = program_input::read_input(0, &mut input);
+    match read {
+        Input::Read(n) => {
+            answer(&input[..n]);
+        }
+        Input::Failed => {
+            io::write_all(2, b"line_to_listing: standard input cannot be read\n");
+        }
     }
-    answer(&input[..n]);
 }

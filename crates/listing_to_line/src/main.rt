@@ -6,6 +6,7 @@
 use listing_reader::Parsed;
 use listing_text::inner as write;
 use machine::Machine;
+use program_input::Input;
 use table_text::Written;
 ghost use mathlib.Core.List.{_++_};
 ghost use Prim.Native.Nat.{_+_, _≤_};
@@ -87,22 +88,15 @@ fn answer(input: &[u8]) {
     write_output(&output[..m]);
 }
 
-// Whether the first n bytes of the input are all that is read: they fill the buffer, or the input ends after them.
-// It reads once more to know, so input that is typed has to be ended twice.
-fn is_read(n: usize) -> bool {
-    if n == 65536 {
-        return true;
-    }
-    let mut one = [0u8; 1];
-    libc::read(0, &mut one) == 0
-}
-
 fn main() {
     let mut input = io::large_buffer();
-    let n = io::read_full(0, &mut input);
-    if !is_read(n) {
-        io::write_all(2, b"listing_to_line: standard input cannot be read\n");
-        return;
+    let read = program_input::read_input(0, &mut input);
+    match read {
+        Input::Read(n) => {
+            answer(&input[..n]);
+        }
+        Input::Failed => {
+            io::write_all(2, b"listing_to_line: standard input cannot be read\n");
+        }
     }
-    answer(&input[..n]);
 }

@@ -16,7 +16,8 @@ use Rattle.table_text_writer.specs.declared.Written.the-variants as Written
 use Rattle.table_text_reader.specs.Reading.{readOf, readInto}
 use Rattle.table_text_writer.specs.Writing.{writeOf, writeInto}
 use Rattle.table_text_laws.specs.Form.{MalformedAt}
-use Rattle.table_text_laws.specs.Meaning.{FirstLacking, GoodLine, DashedRow, RowUndefined, HasLine}
+use Rattle.table_text_rows.specs.Meaning.{RowUndefined, HasLine}
+use Rattle.table_text_laws.specs.Meaning.{FirstLacking, GoodLine, DashedRow}
 use Rattle.table_text_laws.specs.Claims.{tableOf, TableRead, LineWritten}
 use Rattle.table_text_laws.specs.Example.{exampleLine, exampleMachine, exampleTable}
 use Rattle.table_text_laws.specs.Facts.Examples.{line-read, line-written}

@@ -3,32 +3,7 @@
 // writes nothing to standard output and one line to standard error. Where a write fails, it writes one line to standard
 // error.
 use listing::Listed;
-ghost use Rattle.seekrun.specs.Input.{InputIn};
-
-// The number of bytes read, or that a read failed.
-enum Input {
-    Read(usize),
-    Failed,
-}
-
-// Reads standard input until it ends or buf is full.
-fn read_input(buf: &mut [u8]) -> Input
-    ensures { λ r. ⌜ InputIn r (now (buf .exit)) ⌝ }
-{
-    let mut at: usize = 0;
-    while at < buf.len() {
-        let got = libc::read(0, &mut buf[at..]);
-        if got < 0 {
-            return Input::Failed;
-        }
-        let n = io::count(got, &buf[at..]);
-        if n == 0 {
-            return Input::Read(at);
-        }
-        at += n;
-    }
-    Input::Read(at)
-}
+use program_input::Input;
 
 // Writes the answer; where this fails, writes a line to standard error.
 fn write_output(answer: &[u8]) {
@@ -51,7 +26,7 @@ fn answer(input: &[u8]) {
 
 fn main() {
     let mut input = io::large_buffer();
-    let read = read_input(&mut input);
+    let read = program_input::read_input(0, &mut input);
     match read {
         Input::Read(n) => {
             answer(&input[..n]);

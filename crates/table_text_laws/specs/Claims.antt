@@ -9,7 +9,8 @@ use Rattle.machine.specs.Model.Check.{tableCheck}
 use Rattle.table_laws.specs.WellFormed.{WellFormed}
 use Rattle.table_text_reader.specs.Reading.{readInto}
 use Rattle.table_text_writer.specs.Writing.{writeInto}
-use Rattle.table_text_laws.specs.Meaning.{GoodLine, SaysAt, RowUndefined, HasLine}
+use Rattle.table_text_rows.specs.Meaning.{RowUndefined, HasLine}
+use Rattle.table_text_laws.specs.Meaning.{GoodLine, SaysAt}
 
 -- the table of a machine with one tape, in the first places of the lent table after a line was read
 abbrev pub tableOf : Machine → (line table : List ℕ) → List ℕ

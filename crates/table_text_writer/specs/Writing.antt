@@ -1,12 +1,10 @@
--- Writing a table in the one-line form (document 02, request 1): the bytes of the line, and refusals 21 and 18 after the table check. Definitions only.
-use mathlib.Core.Bool.{Bool, true, false, not}
+-- Writing a table in the one-line form (document 02, request 1): the bytes of the line, and refusals 21 and 18 after the table check. `table_text_rows` has the test of 21. Definitions only.
 use mathlib.Core.List.{List}
-use Prim.Native.Nat.{ℕ, zero, suc, _+_, _-_, _*_, _/_, _%_}
+use Prim.Native.Nat.{ℕ, _+_, _-_, _*_, _/_, _%_}
 use lib.Dec.{eqb, leb}
 use lib.ListN.{length}
-use Rattle.notation.specs.Choice.{pick, both}
+use Rattle.notation.specs.Choice.{pick}
 use Rattle.notation.specs.Fill.{fillFrom}
-use Rattle.notation.specs.Scan.{allIn}
 use Rattle.symbol.specs.declared.Dir.{Dir}
 use Rattle.symbol.specs.declared.Dir.the-variants.{L, R, N}
 use Rattle.outcome.specs.declared.Refusal.the-variants as Why
@@ -17,49 +15,10 @@ use Rattle.machine.specs.declared.Entry.the-variants.{Undefined, Defined}
 use Rattle.machine.specs.declared.Checked.{Checked}
 use Rattle.machine.specs.declared.Checked.the-variants.{Accepted, Refused}
 use Rattle.machine.specs.Layout.{entryAt}
-use Rattle.machine.specs.Model.Check.{within, tableCheck}
+use Rattle.machine.specs.Model.Check.{tableCheck}
+use Rattle.table_text_rows.specs.Rows.{letteredRows, hasLine}
 use Rattle.table_text_writer.specs.declared.Written.{Written}
 use Rattle.table_text_writer.specs.declared.Written.the-variants as W
-
--- ---- 21: "a table with several tapes, symbols not 2 to 10, lettered rows not 1 to 25, a start other than 0, an N move, or an undefined row before the last"
-
-abbrev pub isUndefined : Entry → Bool
-isUndefined Undefined = true
-isUndefined (Defined a) = false
-
-abbrev pub undefinedAt : List ℕ → ℕ → Bool
-undefinedAt s i = isUndefined (entryAt s i)
-
--- row q of a table of one tape and k symbols
-unfoldable pub rowUndefined : ℕ → List ℕ → ℕ → Bool
-rowUndefined k s q = allIn (undefinedAt s) k (q * k)
-
--- "Writing takes a last row that is all undefined as Z's."
-unfoldable pub letteredRows : Machine → List ℕ → ℕ
-letteredRows m s = pick (rowUndefined (m .symbols) s (m .states - 1)) (m .states - 1) (m .states)
-
-abbrev pub isMoving : Dir → Bool
-isMoving L = true
-isMoving R = true
-isMoving N = false
-
-abbrev pub movesOr : Entry → Bool
-movesOr Undefined = true
-movesOr (Defined a) = isMoving (a .dir0)
-
-abbrev pub movesAt : List ℕ → ℕ → Bool
-movesAt s i = movesOr (entryAt s i)
-
-abbrev pub rowDefined : ℕ → List ℕ → ℕ → Bool
-rowDefined k s q = not (rowUndefined k s q)
-
-unfoldable pub hasLine : Machine → List ℕ → Bool
-hasLine m s =
-    both (eqb (m .tapes) 1)
-    (both (within 2 10 (m .symbols))
-    (both (within 1 25 (letteredRows m s))
-    (both (eqb (m .start) 0)
-    (both (allIn (movesAt s) (m .states * m .symbols) 0) (allIn (rowDefined (m .symbols) s) (m .states - 1) 0)))))
 
 -- ---- the line, where z is the number of the lettered rows
 

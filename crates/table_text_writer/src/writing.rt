@@ -11,7 +11,8 @@ ghost use lib.ListN.{length};
 ghost use Rattle.notation.specs.Fill.{fillFrom};
 ghost use Rattle.notation.specs.Scan.{allIn};
 ghost use Rattle.table_bytes.specs.Model.Entries.{within};
-ghost use Rattle.table_text_writer.specs.Writing.{isUndefined, rowUndefined, letteredRows, isMoving, movesOr, movesAt, rowDefined, hasLine, moveText, letterText, actionText, entryText, lineByte};
+ghost use Rattle.table_text_rows.specs.Rows.{isUndefined, rowUndefined, letteredRows, isMoving, movesOr, movesAt, rowDefined, hasLine};
+ghost use Rattle.table_text_writer.specs.Writing.{moveText, letterText, actionText, entryText, lineByte};
 ghost use Rattle.table_text_writer.specs.Facts.Fits.{Printable, AllPrintable};
 
 fn is_undefined(entry: Entry) -> bool

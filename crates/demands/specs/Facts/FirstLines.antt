@@ -24,7 +24,8 @@ use Rattle.table_text_reader.specs.declared.Read.the-variants as Read
 use Rattle.table_text_writer.specs.declared.Written.{Written}
 use Rattle.table_text_writer.specs.declared.Written.the-variants as Written
 use Rattle.table_text_reader.specs.Reading.{hasByte, machineOf, tableSize, roomFor, lacksAt, readAs, readOf, readOn, readInto}
-use Rattle.table_text_writer.specs.Writing.{letteredRows, hasLine, lineByte, sizeOf, writtenOn, writeOf, writeOn, writeInto}
+use Rattle.table_text_rows.specs.Rows.{letteredRows, hasLine}
+use Rattle.table_text_writer.specs.Writing.{lineByte, sizeOf, writtenOn, writeOf, writeOn, writeInto}
 use Rattle.demands.specs.FirstClaims.{Test, or, firstOf, numbersOf, numberOr0, lowest, TurnsAway, ofRead, ofWritten}
 use Rattle.demands.specs.FirstTests.{tableTests, rowsOf, symbolsOf, readTestsOf, readTests, writeTests}
 use Rattle.demands.specs.Facts.First.{turns, table-first, on-first}

@@ -18,7 +18,8 @@ use Rattle.machine.specs.declared.Checked.the-variants as C
 use Rattle.machine.specs.Model.Check.{tableCheck}
 use Rattle.table_text_writer.specs.declared.Written.{Written}
 use Rattle.table_text_writer.specs.declared.Written.the-variants.{Line, Refused}
-use Rattle.table_text_writer.specs.Writing.{hasLine, sizeOf, writtenOn, writeOf, writeInto}
+use Rattle.table_text_rows.specs.Rows.{hasLine}
+use Rattle.table_text_writer.specs.Writing.{sizeOf, writtenOn, writeOf, writeInto}
 use Rattle.listing_text.specs.Text.{bytes}
 use Rattle.listing_text.specs.Show.{show}
 use Rattle.listing_text.specs.Model.{Wrote}

@@ -5,7 +5,7 @@ use mathlib.Core.Option.{Option}
 use mathlib.Core.List.{List}
 use Prim.Native.Nat.{ℕ, _+_, _*_, _/_, _%_, _≤_, _<_}
 use native.Mathlib.Omega.{arith}
-use borrow.Author.Tests.{leb-true, ltb-true, eqb-true, ne-eqb, not-false}
+use borrow.Author.Tests.{ltb-true, eqb-true, ne-eqb, not-false}
 use lib.Dec.{ltb}
 use lib.ListN.{length}
 use Rattle.notation.specs.Choice.{pick}
@@ -21,6 +21,7 @@ use Rattle.machine.specs.declared.Checked.the-variants.{Accepted, Refuse
 use Rattle.machine.specs.Layout.{entryCount, flagAt, byteAt, dirOf}
 use Rattle.machine.specs.Model.Check.{within, demand, checkedOn, answerAt, tapeOk, entryOk, entriesCheck, sizeCheck, tableCheck}
 use Rattle.table_bytes.specs.Model.Entries.{definedFor}
+pub use Rattle.table_bytes.specs.Facts.EntryCases.{within-says}
 
 -- ---- a test, and a scan
 
@@ -32,9 +33,6 @@ demand-says false why rest h = let z : _≡_ {A = ℕ} 0 1 = cc in absurd (omega
 pub on-says : (c rest : Checked) → checkedOn c rest ≡ Accepted → (c ≡ Accepted) × (rest ≡ Accepted)
 on-says Accepted rest h = (refl, h)
 on-says (Refused why) rest h = let z : _≡_ {A = ℕ} 0 1 = cc in absurd (omega arith)
-
-pub within-says : (low high x : ℕ) → within low high x ≡ true → (low ≤ x) × (x ≤ high)
-within-says low high x h = (leb-true low x (both-split h .0), leb-true x high (both-split h .1))
 
 -- the same for a Bool that a callee returned and the code has tested
 pub within-passed : (r : Bool) (low high x : ℕ) → r ≡ within low high x → not r ≡ false → (low ≤ x) × (x ≤ high)

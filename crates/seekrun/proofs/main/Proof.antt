@@ -1,4 +1,4 @@
-use Rattle.seekrun.specs.Facts.InputCases.{read-in, read-part}
+use Rattle.program_input.specs.Facts.InputCases.{read-in, read-part}
 use borrow.Author.Needs.{needs}
 use Rattle.seekrun.proofs.main.Statement.{statement}
 use Rattle.seekrun.proofs.main.Tie as tie

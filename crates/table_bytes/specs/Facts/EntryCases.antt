@@ -1,15 +1,21 @@
 -- Numbers of entries, and the check of their bytes, one fact for each way through the code. Assumes nothing.
 use mathlib.Core.Path.{_≡_, refl, sym, ap, _∙_}
-use mathlib.Core.Bool.{Bool}
+use mathlib.Core.Bool.{Bool, true}
 use mathlib.Core.List.{List}
 use Prim.Native.Nat.{ℕ, _*_, _^_, _≤_, _<_}
 use native.Mathlib.Nat.{mul-le-mul, pow-suc, pow-zero, one-mul}
 use native.Mathlib.Omega.{arith}
-use borrow.Author.Tests.{eq-eqb, ne-eqb}
+use borrow.Author.Tests.{eq-eqb, ne-eqb, leb-true}
 use lib.ListN.{getD}
 use Rattle.notation.specs.Choice.{pick}
 use Rattle.notation.specs.Scan.{allIn}
-use Rattle.table_bytes.specs.Model.Entries.{zeroAt, definedFor, entryFor}
+use Rattle.notation.specs.Facts.Tests.{both-split}
+use Rattle.table_bytes.specs.Model.Entries.{within, zeroAt, definedFor, entryFor}
+
+-- ---- a number in a range
+
+pub within-says : (low high x : ℕ) → within low high x ≡ true → (low ≤ x) × (x ≤ high)
+within-says low high x h = (leb-true low x (both-split h .0), leb-true x high (both-split h .1))
 
 -- ---- sizes: nothing wraps
 

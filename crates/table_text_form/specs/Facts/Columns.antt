@@ -6,12 +6,13 @@ use mathlib.Core.List.{List}
 use Prim.Native.Nat.{ℕ, zero, suc, _+_, _-_, _*_, _≤_, _<_}
 use native.Mathlib.Decide.{ℕ-discrete}
 use native.Mathlib.Omega.{arith}
-use borrow.Author.Tests.{eqb-true, leb-true, ltb-true, ltb-false}
+use borrow.Author.Tests.{eqb-true, ltb-true, ltb-false}
 use lib.Dec.{eqb, ltb}
 use lib.ListN.{length, getD, drop}
 use Rattle.notation.specs.Choice.{pick}
 use Rattle.notation.specs.Facts.Tests.{by-test, both-split, clash, pick-true, pick-false}
 use Rattle.table_bytes.specs.Model.Entries.{within}
+use Rattle.table_bytes.specs.Facts.EntryCases.{within-says}
 use Rattle.table_text_form.specs.declared.Phase.{Phase}
 use Rattle.table_text_form.specs.declared.Phase.the-variants.{Between, Wrote, Moved, Dash, Dashes}
 use Rattle.table_text_form.specs.declared.Spot.{Spot}
@@ -68,9 +69,6 @@ module _ (line : List ℕ) (rows k : ℕ) where
       by (on g u a b) =
           let p = tested test t u (sym f ∙ a) in
           (g, p .0, subst (λ (v : Spot). scan (drop (i + 1) line) v (i + 1) ≡ Formed rows k) (sym (p .1)) b)
-
-  within-says : (low high x : ℕ) → within low high x ≡ true → (low ≤ x) × (x ≤ high)
-  within-says low high x h = (leb-true low x (both-split h .0), leb-true x high (both-split h .1))
 
   move-says : (b : ℕ) → isMove b ≡ true → b ≡ 76 ⊎ b ≡ 82
   move-says b h = by-test (eqb b 76) (λ t. inl (eqb-true b 76 t)) (λ t. inr (eqb-true b 82 (sym (pick-false (eqb b 76) true (eqb b 82) t) ∙ h)))

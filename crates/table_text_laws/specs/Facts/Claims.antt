@@ -13,7 +13,8 @@ use Rattle.table_text_reader.specs.declared.Read.the-variants.{Table}
 use Rattle.table_text_writer.specs.declared.Written.the-variants.{Line}
 use Rattle.table_text_reader.specs.Reading.{machineOf, tableSize, readOf, readInto}
 use Rattle.table_text_writer.specs.Writing.{lineSize, writeOf, writeInto}
-use Rattle.table_text_laws.specs.Meaning.{GoodLine, DashedRow, RowUndefined, Lettered, HasLine}
+use Rattle.table_text_rows.specs.Meaning.{RowUndefined, Lettered, HasLine}
+use Rattle.table_text_laws.specs.Meaning.{GoodLine, DashedRow}
 use Rattle.table_text_laws.specs.Claims.{tableOf, TableRead, LineWritten}
 use Rattle.table_text_laws.specs.Facts.Exact.{read-exact, written-exact}
 use Rattle.table_text_laws.specs.Facts.Reads as Reads

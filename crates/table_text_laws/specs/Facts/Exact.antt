@@ -21,12 +21,15 @@ use Rattle.table_text_reader.specs.declared.Read.the-variants.{Table, Refused}
 use Rattle.table_text_writer.specs.declared.Written.{Written}
 use Rattle.table_text_writer.specs.declared.Written.the-variants as W
 use Rattle.table_text_reader.specs.Reading.{machineOf, tableSize, roomFor, readOf}
-use Rattle.table_text_writer.specs.Writing.{letteredRows, hasLine, lineSize, writtenOn, writeOf}
+use Rattle.table_text_rows.specs.Rows.{letteredRows, hasLine}
+use Rattle.table_text_rows.specs.Meaning.{HasLine}
+use Rattle.table_text_rows.specs.Facts.Rows.{line-says, line-holds}
+use Rattle.table_text_writer.specs.Writing.{lineSize, writtenOn, writeOf}
 use Rattle.table_text_laws.specs.Form.{MalformedAt}
-use Rattle.table_text_laws.specs.Meaning.{FirstLacking, GoodLine, HasLine}
+use Rattle.table_text_laws.specs.Meaning.{FirstLacking, GoodLine}
 use Rattle.table_text_laws.specs.Facts.Place.{malformed-form}
 use Rattle.table_text_laws.specs.Facts.Reads.{as-malformed, as-lacking, as-good, Answer, malformed, lacking, short, good, answer}
-use Rattle.table_text_laws.specs.Facts.Writes.{line-says, line-holds, as-none, as-short, as-written}
+use Rattle.table_text_laws.specs.Facts.Writes.{as-none, as-short, as-written}
 
 -- ---- reading
 
@@ -98,10 +101,10 @@ module _ (m : Machine) (s : List ℕ) (w : WellFormed m s) (room : ℕ) where
     whole : (z : ℕ) → HasLine m s z → lineSize z (m .symbols) ≤ room → Wrote (W.Line (lineSize z (m .symbols)))
 
   wrote : Wrote (writeOf m s room)
-  wrote = by-test (hasLine m s) (λ t. fits (letteredRows m s) (line-says m s (w 3 .0) t)) (λ t. let n = without t in subst Wrote (sym (as-none m s w room n)) (none n))
+  wrote = by-test (hasLine m s) (λ t. fits (letteredRows m s) (line-says m s t)) (λ t. let n = without t in subst Wrote (sym (as-none m s w room n)) (none n))
     where
       without : hasLine m s ≡ false → (z : ℕ) → ¬ (HasLine m s z)
-      without t z h = clash (line-holds m s (w 3 .0) z h) t
+      without t z h = clash (line-holds m s z h) t
 
       fits : (z : ℕ) → HasLine m s z → Wrote (writeOf m s room)
       fits z h = by-test (leb (lineSize z (m .symbols)) room)

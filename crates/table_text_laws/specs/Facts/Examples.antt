@@ -12,7 +12,8 @@ use Rattle.table_text_form.specs.Form.{mayEnd, isFull, rowEnds, entryBegins, st
 use Rattle.table_text_reader.specs.declared.Read.the-variants.{Table, Refused}
 use Rattle.table_text_reader.specs.Reading.{hasByte, entryIn, tableByte, readOf, readInto}
 use Rattle.table_text_writer.specs.declared.Written.the-variants.{Line}
-use Rattle.table_text_writer.specs.Writing.{rowUndefined, letteredRows, hasLine, lineByte, writeOf, writeInto}
+use Rattle.table_text_rows.specs.Rows.{rowUndefined, letteredRows, hasLine}
+use Rattle.table_text_writer.specs.Writing.{lineByte, writeOf, writeInto}
 use Rattle.table_text_laws.specs.Example.{exampleLine, exampleMachine, exampleTable}
 
 pub line-read : (readOf exampleLine 48 ≡ Table exampleMachine) × (readInto exampleLine (replicate 48 7) ≡ exampleTable)

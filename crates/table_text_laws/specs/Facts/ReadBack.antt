@@ -18,7 +18,8 @@ use Rattle.table_laws.specs.Facts.Reading.{entry-read, entry-of-machine}
 use Rattle.table_text_reader.specs.Reading.{machineOf, tableSize, readInto}
 use Rattle.table_text_writer.specs.Writing.{lineSize, writeInto}
 use Rattle.table_text_reader.specs.Facts.Places.{number-is, row-below}
-use Rattle.table_text_laws.specs.Meaning.{GoodLine, RowUndefined, HasLine}
+use Rattle.table_text_rows.specs.Meaning.{RowUndefined, HasLine}
+use Rattle.table_text_laws.specs.Meaning.{GoodLine}
 use Rattle.table_text_laws.specs.Facts.Texts.{same-entry}
 use Rattle.table_text_laws.specs.Facts.Reads as Reads
 use Rattle.table_text_laws.specs.Facts.Writes as Writes

@@ -1,136 +1,42 @@
--- WRITING: which tables have a line, what the writer answers, and the line that it writes. Assumes nothing.
+-- WRITING: what the writer answers, and the line that it writes. Assumes nothing.
 use mathlib.Core.Path.{_≡_, refl, sym, ap, subst, _∙_}
-use mathlib.Core.Bool.{Bool, true, false, not}
-use mathlib.Core.Logic.{_⊎_, inl, inr}
+use mathlib.Core.Logic.{inl, inr}
 use mathlib.Core.List.{List}
-use Prim.Native.Nat.{ℕ, zero, suc, _+_, _-_, _*_, _/_, _%_, _≤_, _<_}
+use Prim.Native.Nat.{ℕ, _+_, _*_, _/_, _%_, _≤_, _<_}
 use native.Mathlib.Nat.{mul-le-mul}
 use native.Mathlib.Omega.{arith}
-use borrow.Author.Tests.{eq-eqb, ne-eqb, le-leb, lt-leb, leb-true, leb-false, eqb-true}
-use lib.Dec.{eqb, leb}
+use borrow.Author.Tests.{eq-eqb, ne-eqb, le-leb, lt-leb}
+use lib.Dec.{leb}
 use lib.ListN.{length, getD, take}
 use lib.Seq.{length-take-le, getD-take}
-use Rattle.notation.specs.Choice.{pick, both}
+use Rattle.notation.specs.Choice.{pick}
 use Rattle.notation.specs.Fill.{fillFrom}
-use Rattle.notation.specs.Scan.{allIn}
 use Rattle.notation.specs.Facts.Fill.{length-fill, fill-in, fill-past}
-use Rattle.notation.specs.Facts.Scan.{all-says, all-holds}
-use Rattle.notation.specs.Facts.Tests.{both-true, by-test, clash, pick-cases, pick-true, pick-false}
-use Rattle.symbol.specs.declared.Dir.{Dir}
-use Rattle.symbol.specs.declared.Dir.the-variants.{L, R, N}
-use Rattle.outcome.specs.declared.Refusal.{Refusal}
+use Rattle.notation.specs.Facts.Tests.{by-test, pick-true, pick-false}
 use Rattle.outcome.specs.declared.Refusal.the-variants as Why
 use Rattle.machine.specs.declared.Machine.{Machine}
-use Rattle.machine.specs.declared.Action.{Action}
 use Rattle.machine.specs.declared.Entry.{Entry}
 use Rattle.machine.specs.declared.Entry.the-variants.{Undefined, Defined}
 use Rattle.machine.specs.declared.Checked.{Checked}
-use Rattle.machine.specs.declared.Checked.the-variants.{Accepted, Refused}
 use Rattle.machine.specs.Layout.{entryAt}
-use Rattle.machine.specs.Model.Check.{within, tableCheck}
 use Rattle.table_laws.specs.WellFormed.{EntryOf, WellFormed}
 use Rattle.table_laws.specs.Facts.CheckExact.{table-check-accepts}
 use Rattle.table_laws.specs.Facts.Reading.{entry-of-machine}
-use Rattle.table_text_form.specs.Line.{place, EntryAt, OfForm}
+use Rattle.table_text_form.specs.Line.{place}
+use Rattle.table_text_rows.specs.Rows.{letteredRows, hasLine}
+use Rattle.table_text_rows.specs.Meaning.{HasLine}
+use Rattle.table_text_rows.specs.Facts.Rows.{lettered-states, line-says, rows-is, line-holds}
 use Rattle.table_text_writer.specs.declared.Written.{Written}
 use Rattle.table_text_writer.specs.declared.Written.the-variants as W
-use Rattle.table_text_writer.specs.Writing.{isUndefined, undefinedAt, rowUndefined, letteredRows, isMoving, movesOr, movesAt, rowDefined, hasLine, entryText, lineByte, lineSize, sizeOf, writtenOn, writeOf, writeOn, writeInto}
-use Rattle.table_text_writer.specs.Facts.Fits.{TestsPassed, tests-passed}
+use Rattle.table_text_writer.specs.Writing.{entryText, lineByte, lineSize, sizeOf, writtenOn, writeOf, writeOn, writeInto}
 use Rattle.table_text_reader.specs.Facts.Places.{place-row, place-col, place-in, row-in}
-use Rattle.table_text_laws.specs.Meaning.{LacksDigit, LacksLetter, LacksAt, GoodLine, Says, SaysAt, RowUndefined, Lettered, HasLine}
-use Rattle.table_text_laws.specs.Facts.Columns.{bar-row, bar-col}
+use Rattle.table_text_laws.specs.Meaning.{LacksDigit, LacksLetter, LacksAt, GoodLine, Says, SaysAt}
+use Rattle.table_text_laws.specs.Facts.Columns.{bar-col}
 use Rattle.table_text_laws.specs.Facts.Texts.{HasText, write-says, says-form, says-letter, says-digit}
-
--- ---- rows
-
-undefined-is : (e : Entry) → isUndefined e ≡ true → e ≡ Undefined
-undefined-is Undefined h = refl
-undefined-is (Defined a) h = absurd (clash {b = true} refl (sym h))
-
-pub row-says : (k : ℕ) (s : List ℕ) (q : ℕ) → rowUndefined k s q ≡ true → RowUndefined k s q
-unfolding rowUndefined
-row-says k s q h a l = undefined-is _ (all-says (undefinedAt s) k (q * k) h (q * k + a) (omega arith) (omega arith))
-
-pub row-holds : (k : ℕ) (s : List ℕ) (q : ℕ) → RowUndefined k s q → rowUndefined k s q ≡ true
-unfolding rowUndefined
-row-holds k s q h = all-holds (undefinedAt s) k (q * k) (λ i a b.
-    let e : q * k + (i - q * k) ≡ i = omega arith in
-    ap isUndefined (ap (entryAt s) (sym e) ∙ h (i - q * k) (omega arith)))
-
-row-not : (k : ℕ) (s : List ℕ) (q : ℕ) → rowUndefined k s q ≡ false → ¬ (RowUndefined k s q)
-row-not k s q e h = clash (row-holds k s q h) e
-
-row-false : (k : ℕ) (s : List ℕ) (q : ℕ) → ¬ (RowUndefined k s q) → rowUndefined k s q ≡ false
-row-false k s q n = by-test (rowUndefined k s q) (λ t. absurd (n (row-says k s q t))) (λ t. t)
-
--- ---- the lettered rows
-
-module _ (m : Machine) (s : List ℕ) (some : 1 ≤ m .states) where
-  last : ℕ
-  last = m .states - 1
-
-  pub lettered-is : Lettered m s (letteredRows m s)
-  unfolding letteredRows last
-  lettered-is = pick-cases (rowUndefined (m .symbols) s last) last (m .states) (Lettered m s)
-      (λ e. inl (omega arith, row-says (m .symbols) s last e))
-      (λ e. inr (refl, λ q h. let p : last ≡ q = omega arith in subst (λ (n : ℕ). ¬ (RowUndefined (m .symbols) s n)) p (row-not (m .symbols) s last e)))
-
-  pub lettered-one : (z : ℕ) → Lettered m s z → letteredRows m s ≡ z
-  unfolding letteredRows last
-  lettered-one z (inl h) =
-      let e : last ≡ z = omega (arith, h .0) in
-      pick-true (rowUndefined (m .symbols) s last) last (m .states) (row-holds (m .symbols) s last (subst (RowUndefined (m .symbols) s) (sym e) (h .1))) ∙ e
-  lettered-one z (inr h) =
-      pick-false (rowUndefined (m .symbols) s last) last (m .states) (row-false (m .symbols) s last (h .1 last (omega arith))) ∙ sym (h .0)
-
--- ---- 21
-
-moves-say : (s : List ℕ) (i : ℕ) (a : Action) → movesAt s i ≡ true → entryAt s i ≡ Defined a → ¬ (a .dir0 ≡ N)
-moves-say s i a h e n = clash {b = false} (sym (ap isMoving n) ∙ sym (ap movesOr e) ∙ h) refl
-
-moving : (d : Dir) → ¬ (d ≡ N) → isMoving d ≡ true
-moving L n = refl
-moving R n = refl
-moving N n = absurd (n refl)
-
-moves-hold : (s : List ℕ) (i : ℕ) → ((a : Action) → entryAt s i ≡ Defined a → ¬ (a .dir0 ≡ N)) → movesAt s i ≡ true
-moves-hold s i h = by (entryAt s i) refl
-  where
-    by : (e : Entry) → entryAt s i ≡ e → movesOr e ≡ true
-    by Undefined p = refl
-    by (Defined a) p = moving (a .dir0) (h a p)
-
-module _ (m : Machine) (s : List ℕ) (some : 1 ≤ m .states) where
-  pub line-says : hasLine m s ≡ true → HasLine m s (letteredRows m s)
-  line-says h =
-      let l = tests-passed m s h in
-      record {
-        one-tape = l .one-tape;
-        symbols-are = l .symbols-are;
-        lettered = lettered-is m s some;
-        rows-are = l .rows-are;
-        start-is = l .start-is;
-        moves = λ i a b e. moves-say s i a (l .moves i b) e;
-        before-last = λ q b. row-not (m .symbols) s q (l .defined q (omega arith));
-      }
-
-  pub line-holds : (z : ℕ) → HasLine m s z → hasLine m s ≡ true
-  unfolding hasLine
-  line-holds z h =
-      let e = lettered-one m s some z (h .lettered) in
-      both-true (eq-eqb _ _ (h .one-tape))
-      (both-true (both-true (le-leb _ _ (h .symbols-are .0)) (le-leb _ _ (h .symbols-are .1)))
-      (both-true (ap (within 1 25) e ∙ both-true (le-leb _ _ (h .rows-are .0)) (le-leb _ _ (h .rows-are .1)))
-      (both-true (eq-eqb _ _ (h .start-is))
-      (both-true (all-holds (movesAt s) (m .states * m .symbols) 0 (λ i a b. moves-hold s i (λ x p. h .moves i x (omega arith) p)))
-      (all-holds (rowDefined (m .symbols) s) (m .states - 1) 0 (λ q a b. ap not (row-false (m .symbols) s q (h .before-last q (omega arith)))))))))
 
 -- ---- the answer for a table that the check accepts
 
 module _ (m : Machine) (s : List ℕ) (w : WellFormed m s) (room : ℕ) where
-  some : 1 ≤ m .states
-  some = w 3 .0
-
   abbrev after : Written
   after = pick (hasLine m s) (pick (leb (sizeOf m s) room) (W.Line (sizeOf m s)) (W.Refused Why.OutputSize)) (W.Refused Why.NoLine)
 
@@ -139,15 +45,12 @@ module _ (m : Machine) (s : List ℕ) (w : WellFormed m s) (room : ℕ) where
   as-accepted = ap (λ (x : Checked). writtenOn x after) (table-check-accepts m s w)
 
   pub as-none : ((z : ℕ) → ¬ (HasLine m s z)) → writeOf m s room ≡ W.Refused Why.NoLine
-  as-none n = as-accepted ∙ pick-false (hasLine m s) _ _ (by-test (hasLine m s) (λ t. absurd (n (letteredRows m s) (line-says m s some t))) (λ t. t))
+  as-none n = as-accepted ∙ pick-false (hasLine m s) _ _ (by-test (hasLine m s) (λ t. absurd (n (letteredRows m s) (line-says m s t))) (λ t. t))
 
   module _ (z : ℕ) (h : HasLine m s z) where
-    rows-is : letteredRows m s ≡ z
-    rows-is = lettered-one m s some z (h .lettered)
-
     as-line : writeOf m s room ≡ pick (leb (lineSize z (m .symbols)) room) (W.Line (lineSize z (m .symbols))) (W.Refused Why.OutputSize)
-    as-line = as-accepted ∙ pick-true (hasLine m s) _ _ (line-holds m s some z h)
-        ∙ ap (λ (n : ℕ). pick (leb (lineSize n (m .symbols)) room) (W.Line (lineSize n (m .symbols))) (W.Refused Why.OutputSize)) rows-is
+    as-line = as-accepted ∙ pick-true (hasLine m s) _ _ (line-holds m s z h)
+        ∙ ap (λ (n : ℕ). pick (leb (lineSize n (m .symbols)) room) (W.Line (lineSize n (m .symbols))) (W.Refused Why.OutputSize)) (rows-is m s z h)
 
     pub as-short : room < lineSize z (m .symbols) → writeOf m s room ≡ W.Refused Why.OutputSize
     as-short l = as-line ∙ pick-false _ _ _ (lt-leb _ _ l)
@@ -170,7 +73,7 @@ module _ (m : Machine) (s : List ℕ) (w : WellFormed m s) (z : ℕ) (h : HasLin
   out-is : out ≡ fillFrom (lineByte z k s) size 0 line
   unfolding writeInto
   out-is = ap (λ (x : Written). writeOn x m s line) (as-written m s w (length line) z h room)
-      ∙ ap (λ (n : ℕ). fillFrom (lineByte n k s) size 0 line) (rows-is m s w (length line) z h)
+      ∙ ap (λ (n : ℕ). fillFrom (lineByte n k s) size 0 line) (rows-is m s z h)
 
   pub write-length : length out ≡ length line
   write-length = ap length out-is ∙ length-fill (lineByte z k s) size 0 line
@@ -216,26 +119,15 @@ module _ (m : Machine) (s : List ℕ) (w : WellFormed m s) (z : ℕ) (h : HasLin
     pub entry-fits : EntryOf m (entryAt s (q * k + a))
     entry-fits = entry-of-machine m s w (q * k + a)
 
-    states-most : m .states ≤ z + 1
-    states-most = by (h .lettered)
-      where
-        by : Lettered m s z → m .states ≤ z + 1
-        by (inl x) = omega (arith, x .0)
-        by (inr x) = omega (arith, x .0)
-
-    states-least : z ≤ m .states
-    states-least = by (h .lettered)
-      where
-        by : Lettered m s z → z ≤ m .states
-        by (inl x) = omega (arith, x .0)
-        by (inr x) = omega (arith, x .0)
+    states : z ≤ m .states × m .states ≤ z + 1
+    states = lettered-states m s z (h .lettered)
 
     has-text : HasText z (entryAt s (q * k + a))
     has-text = by (entryAt s (q * k + a)) refl (entry-fits)
       where
         by : (e : Entry) → entryAt s (q * k + a) ≡ e → EntryOf m e → HasText z e
         by Undefined p o = tt
-        by (Defined x) p o = (h .moves (q * k + a) x (row-in k (m .states) q a (omega (arith, states-least)) col) p, omega (arith, o .next-in, states-most))
+        by (Defined x) p o = (h .moves (q * k + a) x (row-in k (m .states) q a (omega (arith, states .0)) col) p, omega (arith, o .next-in, states .1))
 
     pub line-says-entry : SaysAt z k lineIn s q a
     line-says-entry =

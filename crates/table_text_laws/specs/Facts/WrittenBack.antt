@@ -21,7 +21,8 @@ use Rattle.table_text_form.specs.Line.{place}
 use Rattle.table_text_reader.specs.Reading.{machineOf, tableSize, readInto}
 use Rattle.table_text_writer.specs.Writing.{lineSize, writeInto}
 use Rattle.table_text_reader.specs.Facts.Places.{number-is, row-below}
-use Rattle.table_text_laws.specs.Meaning.{GoodLine, DashedRow, MoveOf, Says, SaysAt, HasLine}
+use Rattle.table_text_rows.specs.Meaning.{HasLine}
+use Rattle.table_text_laws.specs.Meaning.{GoodLine, DashedRow, MoveOf, Says, SaysAt}
 use Rattle.table_text_laws.specs.Facts.Columns.{Column, byte, bar, column}
 use Rattle.table_text_laws.specs.Facts.Texts.{same-text}
 use Rattle.table_text_laws.specs.Facts.Reads as Reads

@@ -1,5 +1,6 @@
 use Rattle.table_text_writer.specs.Facts.WriteCases.{write-refused, write-none, write-short, write-whole}
-use Rattle.table_text_writer.specs.Facts.Fits.{tests-passed, all-printable, line-small, line-some}
+use Rattle.table_text_writer.specs.Facts.Fits.{all-printable, line-small, line-some}
+use Rattle.table_text_rows.specs.Facts.Rows.{line-says}
 use Rattle.machine.specs.Facts.Check.{ranges}
 use borrow.Author.Tests.{not-false}
 use Prim.Native.Nat.{ℕ, _≤_}
@@ -31,22 +32,22 @@ lettered-rows-requires : tie.Need-lettered-rows-requires
 lettered-rows-requires c κs = let g = ranges _ _ (sym (c .before .before .before .before .check .ensures) ∙ c .before .before .enum-told .given .1) in (g .symbols-high, g .states-low, g .states-high)
 
 mul-size : tie.Need-mul-size
-mul-size c = let l = tests-passed _ _ (sym (c .before .before .before .has-line .ensures) ∙ not-false _ (c .before .before .if1 .left)) in omega (arith, l .symbols-are .1)
+mul-size c = let l = line-says _ _ (sym (c .before .before .before .has-line .ensures) ∙ not-false _ (c .before .before .if1 .left)) in omega (arith, l .symbols-are .1)
 
 add-size : tie.Need-add-size
-add-size c = let l = tests-passed _ _ (sym (c .before .before .before .has-line .ensures) ∙ not-false _ (c .before .before .if1 .left)) in omega (arith, l .symbols-are .1)
+add-size c = let l = line-says _ _ (sym (c .before .before .before .has-line .ensures) ∙ not-false _ (c .before .before .if1 .left)) in omega (arith, l .symbols-are .1)
 
 mul-size-2 : tie.Need-mul-size-2
-mul-size-2 c = let l = tests-passed _ _ (sym (c .before .before .before .has-line .ensures) ∙ not-false _ (c .before .before .if1 .left)) in let z = subst (λ (n : ℕ). (1 ≤ n) × (n ≤ 25)) (sym (c .before .lettered-rows .ensures)) (l .rows-are) in let p = line-small _ _ (z .1) (l .symbols-are .1) in omega arith
+mul-size-2 c = let l = line-says _ _ (sym (c .before .before .before .has-line .ensures) ∙ not-false _ (c .before .before .if1 .left)) in let z = subst (λ (n : ℕ). (1 ≤ n) × (n ≤ 25)) (sym (c .before .lettered-rows .ensures)) (l .rows-are) in let p = line-small _ _ (z .1) (l .symbols-are .1) in omega arith
 
 sub-size : tie.Need-sub-size
-sub-size c = let l = tests-passed _ _ (sym (c .before .before .before .has-line .ensures) ∙ not-false _ (c .before .before .if1 .left)) in let z = subst (λ (n : ℕ). (1 ≤ n) × (n ≤ 25)) (sym (c .before .lettered-rows .ensures)) (l .rows-are) in line-some _ _ (z .0)
+sub-size c = let l = line-says _ _ (sym (c .before .before .before .has-line .ensures) ∙ not-false _ (c .before .before .if1 .left)) in let z = subst (λ (n : ℕ). (1 ≤ n) × (n ≤ 25)) (sym (c .before .lettered-rows .ensures)) (l .rows-are) in line-some _ _ (z .0)
 
 returns-3 : tie.Need-returns-3
 returns-3 c = write-short _ _ _ _ (c .before .before .before .before .before .before .before .check .ensures) (c .before .before .before .before .before .enum-told .given .1) _ (c .before .before .before .before .has-line .ensures) (c .before .before .before .if1 .left) _ _ (c .before .before .lettered-rows .ensures) refl (c .if2 .taken)
 
 write-bytes-requires : tie.Need-write-bytes-requires
-write-bytes-requires c κs = let l = tests-passed _ _ (sym (c .before .before .before .before .before .has-line .ensures) ∙ not-false _ (c .before .before .before .before .if1 .left)) in let z = subst (λ (n : ℕ). (1 ≤ n) × (n ≤ 25)) (sym (c .before .before .before .lettered-rows .ensures)) (l .rows-are) in let p = line-small _ _ (z .1) (l .symbols-are .1) in (all-printable _ _ (sym (c .before .before .before .before .before .before .before .before .check .ensures) ∙ c .before .before .before .before .before .before .enum-told .given .1) l, l .symbols-are .1, omega arith, c .before .if2 .left)
+write-bytes-requires c κs = let l = line-says _ _ (sym (c .before .before .before .before .before .has-line .ensures) ∙ not-false _ (c .before .before .before .before .if1 .left)) in let z = subst (λ (n : ℕ). (1 ≤ n) × (n ≤ 25)) (sym (c .before .before .before .lettered-rows .ensures)) (l .rows-are) in let p = line-small _ _ (z .1) (l .symbols-are .1) in (all-printable _ _ (sym (c .before .before .before .before .before .before .before .before .check .ensures) ∙ c .before .before .before .before .before .before .enum-told .given .1) _ l, l .symbols-are .1, omega arith, c .before .if2 .left)
 
 same-length : tie.Need-same-length
 same-length c = search needs

@@ -21,9 +21,10 @@ use Rattle.machine.specs.declared.Checked.{Checked}
 use Rattle.machine.specs.declared.Checked.the-variants.{Accepted, Refused}
 use Rattle.machine.specs.Layout.{entryAt}
 use Rattle.machine.specs.Model.Check.{within, tableCheck}
+use Rattle.table_text_rows.specs.Rows.{undefinedAt, rowUndefined, letteredRows, rowDefined, hasLine}
 use Rattle.table_text_writer.specs.declared.Written.{Written}
 use Rattle.table_text_writer.specs.declared.Written.the-variants as W
-use Rattle.table_text_writer.specs.Writing.{undefinedAt, rowUndefined, letteredRows, rowDefined, hasLine, actionText, entryText, lineByte, lineSize, sizeOf, writtenOn, writeOf, writeOn, writeInto}
+use Rattle.table_text_writer.specs.Writing.{actionText, entryText, lineByte, lineSize, sizeOf, writtenOn, writeOf, writeOn, writeInto}
 
 -- ---- rows
 

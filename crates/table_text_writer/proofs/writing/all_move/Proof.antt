@@ -1,4 +1,4 @@
-use Rattle.table_text_writer.specs.Writing.{movesOr, movesAt}
+use Rattle.table_text_rows.specs.Rows.{movesOr, movesAt}
 use Rattle.notation.specs.Scan.{allIn}
 use native.Mathlib.Nat.{sub-zero}
 use Prim.Native.Nat.{_-_}

@@ -1,4 +1,4 @@
-use Rattle.table_text_writer.specs.Writing.{hasLine}
+use Rattle.table_text_rows.specs.Rows.{hasLine}
 use Rattle.table_text_writer.specs.Facts.Fits.{product-small}
 use native.Mathlib.Omega.{arith}
 use Rattle.notation.specs.Facts.Tests.{tests, via}

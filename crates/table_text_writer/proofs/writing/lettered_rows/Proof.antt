@@ -1,4 +1,4 @@
-use Rattle.table_text_writer.specs.Writing.{letteredRows}
+use Rattle.table_text_rows.specs.Rows.{letteredRows}
 use Rattle.notation.specs.Facts.Tests.{tests, via}
 use borrow.Author.Needs.{needs}
 use Rattle.table_text_writer.proofs.writing.lettered_rows.Statement.{statement}

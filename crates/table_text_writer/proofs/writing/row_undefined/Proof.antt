@@ -1,5 +1,5 @@
 use Rattle.table_text_writer.specs.Facts.WriteCases.{row-begins}
-use Rattle.table_text_writer.specs.Writing.{isUndefined, undefinedAt, rowUndefined}
+use Rattle.table_text_rows.specs.Rows.{isUndefined, undefinedAt, rowUndefined}
 use Rattle.notation.specs.Scan.{allIn}
 use Prim.Native.Nat.{_-_, _≤_}
 use Rattle.table_text_writer.specs.Facts.Fits.{product-small}

@@ -1,5 +1,5 @@
 use Rattle.table_text_writer.specs.Facts.WriteCases.{defined-not, defined-yes}
-use Rattle.table_text_writer.specs.Writing.{rowDefined}
+use Rattle.table_text_rows.specs.Rows.{rowDefined}
 use Rattle.notation.specs.Scan.{allIn}
 use native.Mathlib.Nat.{sub-zero}
 use Prim.Native.Nat.{_-_}

@@ -2,8 +2,8 @@
 use mathlib.Core.List.{List}
 use Prim.Native.Nat.{ℕ}
 use Rattle.io.specs.Counts.{Counts}
-use Rattle.seekrun.specs.declared.Input.{Input}
-use Rattle.seekrun.specs.declared.Input.the-variants as In
+use Rattle.program_input.specs.declared.Input.{Input}
+use Rattle.program_input.specs.declared.Input.the-variants as In
 
 abbrev pub InputIn : Input → (buffer : List ℕ) → Type 0
 InputIn (In.Read n) b = Counts n b
