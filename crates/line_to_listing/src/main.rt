@@ -3,7 +3,6 @@
 // and its place where it has one. It reads at most 65,536 bytes: the first 65,536 have the same answer as the whole input
 // (`answer-first`, in the specs). Where a read fails, it writes nothing to standard output and one line to standard
 // error. Where a write fails, it writes one line to standard error.
-use program_input::Input;
 use table_text::Read;
 ghost use mathlib.Core.Path.{_≡_};
 ghost use Prim.Native.Nat.{_≤_};
@@ -63,12 +62,10 @@ fn answer(input: &[u8]) {
 fn main() {
     let mut input = io::large_buffer();
     let read = program_input::read_input(0, &mut input);
-    match read {
-        Input::Read(n) => {
-            answer(&input[..n]);
-        }
-        Input::Failed => {
-            io::write_all(2, b"line_to_listing: standard input cannot be read\n");
-        }
+    if read.failed {
+        io::write_all(2, b"line_to_listing: standard input cannot be read\n");
+        return;
     }
+    let n = read.size;
+    answer(&input[..n]);
 }

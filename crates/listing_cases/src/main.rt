@@ -37,15 +37,6 @@ fn open_output(i: usize) -> i32
     os::open_read(&[hundreds, tens, ones, b'.', b'o', b'u', b't'])
 }
 
-// Whether as much of a file was read as `seekrun` reads: n bytes fill its buffer, or the file ends after them.
-fn is_read(fd: i32, n: usize) -> bool {
-    if n == 65536 {
-        return true;
-    }
-    let mut one = [0u8; 1];
-    libc::read(fd, &mut one) == 0
-}
-
 // Runs the listing. Returns how many bytes it wrote at the start of output, 0 where it refuses the output's size.
 fn print(input: &[u8], output: &mut [u8]) -> usize
     ensures { λ r. ⌜ Counts r (now (output .exit)) ⌝ }
@@ -59,15 +50,17 @@ fn print(input: &[u8], output: &mut [u8]) -> usize
 // Whether both files can be read, and the listing prints for the first file what the second contains.
 fn agrees(input: i32, expected: i32) -> bool {
     let mut given = io::large_buffer();
-    let n = io::read_full(input, &mut given);
+    let case = program_input::read_input(input, &mut given);
+    if case.failed {
+        return false;
+    }
     let mut wanted = io::large_buffer();
-    let m = io::read_full(expected, &mut wanted);
-    if !is_read(input, n) {
+    let answer = program_input::read_input(expected, &mut wanted);
+    if answer.failed {
         return false;
     }
-    if !is_read(expected, m) {
-        return false;
-    }
+    let n = case.size;
+    let m = answer.size;
     let mut printed = io::large_buffer();
     let k = print(&given[..n], &mut printed);
     listing_text::same(&printed[..k], &wanted[..m])

@@ -6,7 +6,6 @@
 use listing_reader::Parsed;
 use listing_text::inner as write;
 use machine::Machine;
-use program_input::Input;
 use table_text::Written;
 ghost use mathlib.Core.List.{_++_};
 ghost use Prim.Native.Nat.{_+_, _≤_};
@@ -91,12 +90,10 @@ fn answer(input: &[u8]) {
 fn main() {
     let mut input = io::large_buffer();
     let read = program_input::read_input(0, &mut input);
-    match read {
-        Input::Read(n) => {
-            answer(&input[..n]);
-        }
-        Input::Failed => {
-            io::write_all(2, b"listing_to_line: standard input cannot be read\n");
-        }
+    if read.failed {
+        io::write_all(2, b"listing_to_line: standard input cannot be read\n");
+        return;
     }
+    let n = read.size;
+    answer(&input[..n]);
 }

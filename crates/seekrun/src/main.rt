@@ -3,7 +3,6 @@
 // writes nothing to standard output and one line to standard error. Where a write fails, it writes one line to standard
 // error.
 use listing::Listed;
-use program_input::Input;
 
 // Writes the answer; where this fails, writes a line to standard error.
 fn write_output(answer: &[u8]) {
@@ -27,12 +26,10 @@ fn answer(input: &[u8]) {
 fn main() {
     let mut input = io::large_buffer();
     let read = program_input::read_input(0, &mut input);
-    match read {
-        Input::Read(n) => {
-            answer(&input[..n]);
-        }
-        Input::Failed => {
-            io::write_all(2, b"seekrun: standard input cannot be read\n");
-        }
+    if read.failed {
+        io::write_all(2, b"seekrun: standard input cannot be read\n");
+        return;
     }
+    let n = read.size;
+    answer(&input[..n]);
 }

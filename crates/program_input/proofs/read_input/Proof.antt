@@ -31,7 +31,7 @@ same-length : tie.Need-same-length Inv-loop μ-loop
 same-length c = search needs
 
 returns : tie.Need-returns Inv-loop μ-loop
-returns c = search needs
+returns c = (search needs, sym (length-take-le _ _ (search needs)))
 
 sub-count : tie.Need-sub-count Inv-loop μ-loop
 sub-count c = search needs
