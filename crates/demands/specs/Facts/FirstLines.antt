@@ -1,13 +1,12 @@
 -- Reading a line and writing one refuse by their lists of tests, and a refusal changes nothing. Assumes nothing.
-use mathlib.Core.Path.{_≡_, refl, sym, ap, _∙_, subst}
+use mathlib.Core.Path.{_≡_, refl, ap, _∙_, subst}
 use mathlib.Core.Bool.{Bool, true, false}
 use mathlib.Core.Option.{Option}
-use mathlib.Core.List.{List, [], _∷_, _++_}
-use Prim.Native.Nat.{ℕ, _+_, _*_}
+use mathlib.Core.List.{List, [], _∷_}
+use Prim.Native.Nat.{ℕ}
 use lib.Dec.{leb}
 use lib.ListN.{length}
 use Rattle.notation.specs.Choice.{pick}
-use Rattle.notation.specs.Fill.{fillFrom}
 use Rattle.notation.specs.Scan.{allIn, firstFail}
 use Rattle.notation.specs.Facts.Scan.{Scanned, clean, failed, scanned, all-says, all-holds}
 use Rattle.notation.specs.Facts.Tests.{by-test, clash, pick-true, pick-false}
@@ -24,9 +23,9 @@ use Rattle.table_text_reader.specs.declared.Read.the-variants as Read
 use Rattle.table_text_writer.specs.declared.Written.{Written}
 use Rattle.table_text_writer.specs.declared.Written.the-variants as Written
 use Rattle.table_text_reader.specs.Reading.{hasByte, machineOf, tableSize, roomFor, lacksAt, readAs, readOf, readOn, readInto}
-use Rattle.table_text_rows.specs.Rows.{letteredRows, hasLine}
-use Rattle.table_text_writer.specs.Writing.{lineByte, sizeOf, writtenOn, writeOf, writeOn, writeInto}
-use Rattle.demands.specs.FirstClaims.{Test, or, firstOf, numbersOf, numberOr0, lowest, TurnsAway, ofRead, ofWritten}
+use Rattle.table_text_rows.specs.Rows.{hasLine}
+use Rattle.table_text_writer.specs.Writing.{sizeOf, writtenOn, writeOf, writeOn, writeInto}
+use Rattle.demands.specs.FirstClaims.{Test, or, firstOf, numbersOf, numberOr0, TurnsAway, ofRead, ofWritten}
 use Rattle.demands.specs.FirstTests.{tableTests, rowsOf, symbolsOf, readTestsOf, readTests, writeTests}
 use Rattle.demands.specs.Facts.First.{turns, table-first, on-first}
 

@@ -13,15 +13,13 @@ use Rattle.notation.specs.Choice.{pick}
 use Rattle.notation.specs.Facts.Tests.{by-test, both-split, clash, pick-true, pick-false}
 use Rattle.table_bytes.specs.Model.Entries.{within}
 use Rattle.table_bytes.specs.Facts.EntryCases.{within-says}
-use Rattle.table_text_form.specs.declared.Phase.{Phase}
 use Rattle.table_text_form.specs.declared.Phase.the-variants.{Between, Wrote, Moved, Dash, Dashes}
 use Rattle.table_text_form.specs.declared.Spot.{Spot}
 use Rattle.table_text_form.specs.declared.Next.{Next}
 use Rattle.table_text_form.specs.declared.Next.the-variants.{On, Stop}
-use Rattle.table_text_form.specs.declared.Scanned.{Scanned}
 use Rattle.table_text_form.specs.declared.Scanned.the-variants.{Formed, Malformed}
 use Rattle.table_text_form.specs.Form.{spot, isMove, mayEnd, isFull, widthOf, onIf, rowEnds, entryBegins, stepBetween, step, ends, scan, first, formOf}
-use Rattle.table_text_form.specs.Line.{EntryText, place, EntryAt, OfForm}
+use Rattle.table_text_form.specs.Line.{place, EntryAt, OfForm}
 use Rattle.table_text_form.specs.Facts.Good.{Good, good-first, good-rows, row-width, on-is, stop-is, tested, whole, begins, new-row}
 use Rattle.table_text_form.specs.Facts.Cases.{scan-on, scan-stop, scan-formed, scan-early}
 

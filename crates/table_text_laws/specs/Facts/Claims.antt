@@ -1,11 +1,11 @@
 -- What an accepted reading and an accepted writing leave, and that each undoes the other. Assumes nothing.
 use mathlib.Core.Path.{_≡_, refl, sym, ap, subst, _∙_}
-use mathlib.Core.Logic.{_⊎_, inl, inr}
+use mathlib.Core.Logic.{inl, inr}
 use mathlib.Core.List.{List}
 use Prim.Native.Nat.{ℕ, _+_, _-_, _*_, _≤_, _<_}
 use native.Mathlib.Nat.{mul-le-mul}
 use native.Mathlib.Omega.{arith}
-use lib.ListN.{length, getD, take}
+use lib.ListN.{length, take}
 use Rattle.machine.specs.declared.Machine.{Machine}
 use Rattle.table_laws.specs.WellFormed.{WellFormed}
 use Rattle.table_laws.specs.Facts.CheckExact.{table-check-accepts}

@@ -49,8 +49,5 @@ letter-place k q a j h l =
     third : (3 * a + j) % 3 ≡ j
     third = omega arith
 
-pub bar-row : (k q : ℕ) → place k q k / (3 * k + 1) ≡ q
-bar-row k q = row-of (3 * k + 1) q (3 * k) (omega arith)
-
 pub bar-col : (k q : ℕ) → place k q k % (3 * k + 1) ≡ 3 * k
 bar-col k q = rest-of (3 * k + 1) q (3 * k) (omega arith)

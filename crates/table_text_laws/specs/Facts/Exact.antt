@@ -12,7 +12,6 @@ use Rattle.notation.specs.Facts.Tests.{by-test, clash, pick-true, pick-false}
 use Rattle.outcome.specs.declared.Refusal.{Refusal}
 use Rattle.outcome.specs.declared.Refusal.the-variants as Why
 use Rattle.machine.specs.declared.Machine.{Machine}
-use Rattle.machine.specs.declared.Checked.{Checked}
 use Rattle.machine.specs.declared.Checked.the-variants as Check
 use Rattle.machine.specs.Model.Check.{tableCheck}
 use Rattle.table_laws.specs.WellFormed.{WellFormed}
@@ -20,11 +19,11 @@ use Rattle.table_text_reader.specs.declared.Read.{Read}
 use Rattle.table_text_reader.specs.declared.Read.the-variants.{Table, Refused}
 use Rattle.table_text_writer.specs.declared.Written.{Written}
 use Rattle.table_text_writer.specs.declared.Written.the-variants as W
-use Rattle.table_text_reader.specs.Reading.{machineOf, tableSize, roomFor, readOf}
+use Rattle.table_text_reader.specs.Reading.{machineOf, tableSize, readOf}
 use Rattle.table_text_rows.specs.Rows.{letteredRows, hasLine}
 use Rattle.table_text_rows.specs.Meaning.{HasLine}
 use Rattle.table_text_rows.specs.Facts.Rows.{line-says, line-holds}
-use Rattle.table_text_writer.specs.Writing.{lineSize, writtenOn, writeOf}
+use Rattle.table_text_writer.specs.Writing.{lineSize, writeOf}
 use Rattle.table_text_laws.specs.Form.{MalformedAt}
 use Rattle.table_text_laws.specs.Meaning.{FirstLacking, GoodLine}
 use Rattle.table_text_laws.specs.Facts.Place.{malformed-form}

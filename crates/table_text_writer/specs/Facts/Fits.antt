@@ -14,7 +14,7 @@ use Rattle.machine.specs.declared.Action.{Action}
 use Rattle.machine.specs.declared.Entry.{Entry}
 use Rattle.machine.specs.declared.Entry.the-variants.{Undefined, Defined}
 use Rattle.machine.specs.declared.Checked.the-variants.{Accepted}
-use Rattle.machine.specs.Layout.{entryCount, flagAt, actionAt, entryAt}
+use Rattle.machine.specs.Layout.{flagAt, actionAt, entryAt}
 use Rattle.machine.specs.Model.Check.{tableCheck}
 use Rattle.machine.specs.Facts.Check.{ranges, defined-passed}
 use Rattle.table_text_rows.specs.Meaning.{HasLine}

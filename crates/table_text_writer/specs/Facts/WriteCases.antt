@@ -16,7 +16,7 @@ use Rattle.outcome.specs.declared.Refusal.the-variants as Why
 use Rattle.machine.specs.declared.Machine.{Machine}
 use Rattle.machine.specs.declared.Action.{Action}
 use Rattle.machine.specs.declared.Entry.{Entry}
-use Rattle.machine.specs.declared.Entry.the-variants.{Undefined, Defined}
+use Rattle.machine.specs.declared.Entry.the-variants.{Defined}
 use Rattle.machine.specs.declared.Checked.{Checked}
 use Rattle.machine.specs.declared.Checked.the-variants.{Accepted, Refused}
 use Rattle.machine.specs.Layout.{entryAt}

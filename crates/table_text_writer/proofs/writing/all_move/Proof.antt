@@ -6,7 +6,6 @@ use borrow.Author.Tests.{not-true, not-false}
 use mathlib.Core.Path.{_≡_, sym, ap, _∙_}
 use Rattle.notation.specs.Facts.Scan.{all-hit, all-next, all-end}
 use borrow.Author.Needs.{needs}
-use native.Mathlib.Omega.{arith}
 use Rattle.table_text_writer.proofs.writing.all_move.Statement.{statement}
 use Rattle.table_text_writer.proofs.writing.all_move.Tie as tie
 
