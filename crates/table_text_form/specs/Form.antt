@@ -1,7 +1,7 @@
 -- The one-line form (document 02, request 1), byte by byte: an automaton. From every spot that it reaches, some bytes lead on to a line of the form. In bytes 0 is 48, A 65, L 76, R 82, `-` 45 and `_` 95. Definitions only.
 use mathlib.Core.Bool.{Bool, true, false}
 use mathlib.Core.List.{List, [], _∷_}
-use Prim.Native.Nat.{ℕ, zero, suc, _+_}
+use Prim.Native.Nat.{ℕ, _+_}
 use lib.Dec.{eqb, ltb, leb}
 use Rattle.notation.specs.Choice.{pick, both}
 use Rattle.table_bytes.specs.Model.Entries.{within}

@@ -1,5 +1,4 @@
 -- The place of refusal 19, by the lines of the form alone. Definitions only.
-use mathlib.Core.Path.{_≡_}
 use mathlib.Core.List.{List, _++_}
 use Prim.Native.Nat.{ℕ, suc, _≤_, _<_}
 use lib.ListN.{length, take}

@@ -1,7 +1,7 @@
 -- The automaton, one fact for each way through the code. Assumes nothing.
-use mathlib.Core.Path.{_≡_, refl, sym, ap, _∙_}
+use mathlib.Core.Path.{_≡_, sym, ap, _∙_}
 use mathlib.Core.Bool.{Bool, true, false}
-use mathlib.Core.List.{List, [], _∷_}
+use mathlib.Core.List.{List, _∷_}
 use Prim.Native.Nat.{ℕ, _+_, _≤_, _<_}
 use native.Mathlib.Numerals.{add-one}
 use native.Mathlib.Omega.{arith}
@@ -12,13 +12,13 @@ use Rattle.notation.specs.Choice.{pick}
 use Rattle.notation.specs.Facts.Tests.{pick-true, pick-false}
 use Rattle.table_bytes.specs.Model.Entries.{within}
 use Rattle.table_text_form.specs.declared.Phase.{Phase}
-use Rattle.table_text_form.specs.declared.Phase.the-variants.{Between, Wrote, Moved, Dash, Dashes}
+use Rattle.table_text_form.specs.declared.Phase.the-variants.{Between, Wrote, Dash}
 use Rattle.table_text_form.specs.declared.Spot.{Spot}
 use Rattle.table_text_form.specs.declared.Next.{Next}
 use Rattle.table_text_form.specs.declared.Next.the-variants.{On, Stop}
 use Rattle.table_text_form.specs.declared.Scanned.{Scanned}
 use Rattle.table_text_form.specs.declared.Scanned.the-variants.{Formed, Malformed}
-use Rattle.table_text_form.specs.Form.{spot, isFull, widthOf, rowEnds, isMove, onIf, entryBegins, stepBetween, stepIn, step, endsIn, ends, scan, first, formOf}
+use Rattle.table_text_form.specs.Form.{spot, isFull, widthOf, rowEnds, onIf, entryBegins, stepBetween, stepIn, step, endsIn, ends, scan, first, formOf}
 
 -- ---- one byte
 

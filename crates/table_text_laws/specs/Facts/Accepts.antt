@@ -1,6 +1,6 @@
 -- Every line of the form is accepted by the automaton, with its rows and its symbols. Assumes nothing.
-use mathlib.Core.Path.{_≡_, refl, sym, ap, subst, _∙_}
-use mathlib.Core.Bool.{Bool, true, false}
+use mathlib.Core.Path.{_≡_, refl, sym, ap, _∙_}
+use mathlib.Core.Bool.{true, false}
 use mathlib.Core.Logic.{_⊎_, inl, inr}
 use mathlib.Core.List.{List}
 use Prim.Native.Nat.{ℕ, zero, suc, _+_, _*_, _≤_, _<_}
@@ -14,12 +14,11 @@ use Rattle.notation.specs.Facts.Tests.{both-true, pick-true, pick-false}
 use Rattle.table_bytes.specs.Model.Entries.{within}
 use Rattle.table_text_form.specs.declared.Phase.the-variants.{Between, Wrote, Moved, Dash, Dashes}
 use Rattle.table_text_form.specs.declared.Spot.{Spot}
-use Rattle.table_text_form.specs.declared.Next.{Next}
-use Rattle.table_text_form.specs.declared.Next.the-variants.{On, Stop}
+use Rattle.table_text_form.specs.declared.Next.the-variants.{On}
 use Rattle.table_text_form.specs.declared.Scanned.{Scanned}
-use Rattle.table_text_form.specs.declared.Scanned.the-variants.{Formed, Malformed}
-use Rattle.table_text_form.specs.Form.{spot, isMove, mayEnd, isFull, widthOf, rowEnds, entryBegins, step, ends, scan, first, formOf}
-use Rattle.table_text_form.specs.Line.{Digit, Move, Letter, EntryText, place, EntryAt, OfForm}
+use Rattle.table_text_form.specs.declared.Scanned.the-variants.{Formed}
+use Rattle.table_text_form.specs.Form.{spot, mayEnd, isFull, widthOf, rowEnds, entryBegins, step, ends, scan, first, formOf}
+use Rattle.table_text_form.specs.Line.{Digit, Move, Letter, place, EntryAt, OfForm}
 use Rattle.table_text_form.specs.Facts.Cases.{scan-on, scan-formed}
 use Rattle.table_text_reader.specs.Facts.Places.{place-in}
 

@@ -1,15 +1,13 @@
 -- Each place of a line is a byte of an entry or the underscore after a row. Assumes nothing.
-use mathlib.Core.Path.{_≡_, sym, ap, _∙_}
-use mathlib.Core.Logic.{_⊎_, inl, inr}
-use mathlib.Core.Bool.{Bool}
-use Prim.Native.Nat.{ℕ, _+_, _*_, _/_, _%_, _≤_, _<_}
+use mathlib.Core.Path.{_≡_, ap, _∙_}
+use Prim.Native.Nat.{ℕ, _+_, _*_, _/_, _%_, _<_}
 use native.Mathlib.Decide.{ℕ-discrete}
 use native.Mathlib.Nat.{mod-lt, lt-of-mul-lt-mul-right}
 use native.Mathlib.Omega.{arith}
 use lib.Dec.{eqb}
 use Rattle.table_text_form.specs.Line.{place}
 use Rattle.table_text_reader.specs.Reading.{letterPlace}
-use Rattle.table_text_reader.specs.Facts.Places.{row-of, rest-of, place-row, place-col, number-is}
+use Rattle.table_text_reader.specs.Facts.Places.{rest-of, place-col, number-is}
 
 -- place i of a line of so many rows and symbols
 pub data Column (rows k i : ℕ) : Type 0 where

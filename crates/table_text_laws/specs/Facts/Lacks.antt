@@ -1,16 +1,15 @@
 -- THE PLACE OF REFUSAL 20: the reader's test fails exactly at the letters and digits that the line's rows lack. Assumes nothing.
 use mathlib.Core.Path.{_≡_, refl, sym, ap, subst, _∙_}
-use mathlib.Core.Bool.{Bool, true, false}
+use mathlib.Core.Bool.{true, false}
 use mathlib.Core.Logic.{_⊎_, inl, inr}
 use mathlib.Core.List.{List}
 use Prim.Native.Nat.{ℕ, zero, suc, _+_, _*_, _%_, _≤_, _<_}
 use native.Mathlib.Omega.{arith}
-use borrow.Author.Tests.{eq-eqb, ne-eqb, lt-ltb, le-ltb, ltb-false, eqb-false}
+use borrow.Author.Tests.{ne-eqb, lt-ltb, le-ltb, ltb-false, eqb-false}
 use lib.Dec.{eqb, ltb}
 use lib.ListN.{length, getD}
-use Rattle.notation.specs.Choice.{pick}
 use Rattle.notation.specs.Facts.Tests.{by-test, clash, pick-true, pick-false}
-use Rattle.table_text_form.specs.Line.{EntryText, place, EntryAt, OfForm}
+use Rattle.table_text_form.specs.Line.{place, EntryAt, OfForm}
 use Rattle.table_text_reader.specs.Reading.{letterPlace, hasLetter, hasDigit, hasByte}
 use Rattle.table_text_reader.specs.Facts.Places.{place-in}
 use Rattle.table_text_laws.specs.Meaning.{LacksDigit, LacksLetter, LacksAt}

@@ -1,7 +1,7 @@
 -- Where the automaton stops is the place of refusal 19. Assumes nothing.
 use mathlib.Core.Path.{_≡_, refl, sym, ap, subst, _∙_}
 use mathlib.Core.Bool.{Bool, true, false}
-use mathlib.Core.Logic.{_⊎_, inl, inr}
+use mathlib.Core.Logic.{inl, inr}
 use mathlib.Core.List.{List, [], _∷_, _++_, append-assoc}
 use Prim.Native.Nat.{ℕ, zero, suc, _+_, _-_, _≤_, _<_}
 use native.Mathlib.Omega.{arith}
@@ -9,7 +9,7 @@ use lib.Dec.{eqb, leb, ltb}
 use lib.ListN.{length, take, drop, take-append-drop}
 use lib.Seq.{take-take}
 use borrow.Author.Tests.{eq-eqb, ne-eqb, le-leb, ltb-true, ltb-false}
-use Rattle.notation.specs.Choice.{pick, both}
+use Rattle.notation.specs.Choice.{pick}
 use Rattle.notation.specs.Facts.Tests.{by-test, pick-true, pick-false, clash}
 use Rattle.table_text_form.specs.declared.Phase.{Phase}
 use Rattle.table_text_form.specs.declared.Phase.the-variants.{Between, Wrote, Moved, Dash, Dashes}
@@ -18,9 +18,8 @@ use Rattle.table_text_form.specs.declared.Next.{Next}
 use Rattle.table_text_form.specs.declared.Next.the-variants.{On, Stop}
 use Rattle.table_text_form.specs.declared.Scanned.{Scanned}
 use Rattle.table_text_form.specs.declared.Scanned.the-variants.{Formed, Malformed}
-use Rattle.table_text_form.specs.Form.{spot, mayEnd, isFull, widthOf, entryBegins, rowEnds, step, ends, scan, first, formOf}
-use Rattle.table_text_form.specs.Line.{OfForm}
-use Rattle.table_text_form.specs.Facts.Good.{mid, Good, good-first, good-step, whole, on-is}
+use Rattle.table_text_form.specs.Form.{spot, mayEnd, isFull, widthOf, step, ends, scan, first, formOf}
+use Rattle.table_text_form.specs.Facts.Good.{Good, good-first, good-step, whole}
 use Rattle.table_text_form.specs.Facts.Columns.{formed-of-form}
 use Rattle.table_text_laws.specs.Form.{IsLine, MalformedAt}
 use Rattle.table_text_laws.specs.Facts.Accepts.{begin-dash, move-on, letter-on, dash-on, dashes-on, of-form-formed}

@@ -1,8 +1,8 @@
 -- READING: what the reader answers, and the table that it writes. Assumes nothing.
 use mathlib.Core.Path.{_≡_, refl, sym, ap, subst, _∙_}
 use mathlib.Core.Bool.{true, false}
-use mathlib.Core.Logic.{_⊎_, inl, inr}
-use mathlib.Core.Option.{Option, none, some}
+use mathlib.Core.Logic.{inl, inr}
+use mathlib.Core.Option.{Option, some}
 use mathlib.Core.List.{List}
 use Prim.Native.Nat.{ℕ, zero, suc, _+_, _-_, _*_, _/_, _%_, _^_, _≤_, _<_}
 use native.Mathlib.Nat.{mod-lt}
@@ -11,34 +11,30 @@ use borrow.Author.Tests.{le-leb, leb-true, leb-false, lt-ltb, le-ltb, ltb-true, 
 use lib.Dec.{leb, ltb}
 use lib.ListN.{length, getD, take}
 use lib.Seq.{length-take-le, getD-take}
-use Rattle.notation.specs.Choice.{pick}
 use Rattle.notation.specs.Fill.{fillFrom}
 use Rattle.notation.specs.Scan.{firstFail}
 use Rattle.notation.specs.Facts.Fill.{length-fill, fill-in, fill-past}
 use Rattle.notation.specs.Facts.Scan.{Scanned, clean, failed, scanned, clean-none}
 use Rattle.notation.specs.Facts.Tests.{by-test, clash, pick-cases, pick-true, pick-false}
-use Rattle.outcome.specs.declared.Refusal.{Refusal}
 use Rattle.outcome.specs.declared.Refusal.the-variants as Why
-use Rattle.machine.specs.declared.Machine.{Machine}
-use Rattle.machine.specs.declared.Entry.{Entry}
-use Rattle.machine.specs.declared.Entry.the-variants.{Undefined, Defined}
+use Rattle.machine.specs.declared.Entry.the-variants.{Undefined}
 use Rattle.machine.specs.Facts.CheckCases.{stride-one}
-use Rattle.machine.specs.Layout.{entryCount, byteAt, entryAt}
-use Rattle.table_laws.specs.WellFormed.{entryBytes, EntryOf, LaidOut, WellFormed}
+use Rattle.machine.specs.Layout.{byteAt, entryAt}
+use Rattle.table_laws.specs.WellFormed.{entryBytes, EntryOf, WellFormed}
 use Rattle.table_laws.specs.Facts.Reading.{entry-read}
 use Rattle.table_text_form.specs.declared.Scanned as Form
 use Rattle.table_text_form.specs.declared.Scanned.the-variants.{Formed, Malformed}
 use Rattle.table_text_form.specs.Form.{formOf}
-use Rattle.table_text_form.specs.Line.{EntryText, place, EntryAt, OfForm}
+use Rattle.table_text_form.specs.Line.{place, OfForm}
 use Rattle.table_text_form.specs.Facts.Columns.{formed-of-form}
 use Rattle.table_text_reader.specs.declared.Read.{Read}
 use Rattle.table_text_reader.specs.declared.Read.the-variants.{Table, Refused}
-use Rattle.table_text_reader.specs.Reading.{hasByte, machineOf, entryOf, textPlace, entryIn, tableByte, tableSize, roomFor, lacksAt, readAs, readOf, readOn, readInto}
-use Rattle.table_text_reader.specs.Facts.Places.{text-place, place-in, number-is, row-below, row-in}
+use Rattle.table_text_reader.specs.Reading.{hasByte, machineOf, entryOf, entryIn, tableByte, tableSize, roomFor, lacksAt, readAs, readOf, readOn, readInto}
+use Rattle.table_text_reader.specs.Facts.Places.{text-place, number-is, row-below, row-in}
 use Rattle.table_text_laws.specs.Form.{MalformedAt}
 use Rattle.table_text_laws.specs.Meaning.{LacksDigit, LacksLetter, LacksAt, FirstLacking, GoodLine, Says, SaysAt}
 use Rattle.table_text_laws.specs.Facts.Accepts.{of-form-formed}
-use Rattle.table_text_laws.specs.Facts.Place.{place-right, malformed-form}
+use Rattle.table_text_laws.specs.Facts.Place.{place-right}
 use Rattle.table_text_laws.specs.Facts.Lacks.{lacks-fails, fails-lacks, lacks-in}
 use Rattle.table_text_laws.specs.Facts.Texts.{read-says, read-of-machine}
 

@@ -1,7 +1,6 @@
 -- An entry and its three bytes: each has the other as its only one. Assumes nothing.
 use mathlib.Core.Path.{_≡_, refl, sym, ap, subst, _∙_}
-use mathlib.Core.Logic.{_⊎_, inl, inr}
-use mathlib.Core.Bool.{true, false}
+use mathlib.Core.Logic.{inl, inr}
 use Prim.Native.Nat.{ℕ, _+_, _-_, _≤_, _<_}
 use native.Mathlib.Decide.{ℕ-discrete}
 use native.Mathlib.Omega.{arith}
@@ -13,11 +12,10 @@ use Rattle.symbol.specs.Kinds.{symbolOf, stateOf}
 use Rattle.symbol.specs.declared.Dir.{Dir}
 use Rattle.symbol.specs.declared.Dir.the-variants.{L, R, N}
 use Rattle.machine.specs.declared.Machine.{Machine}
-use Rattle.machine.specs.declared.Action.{Action}
 use Rattle.machine.specs.declared.Entry.{Entry}
 use Rattle.machine.specs.declared.Entry.the-variants.{Undefined, Defined}
 use Rattle.machine.specs.Layout.{singleOf}
-use Rattle.table_laws.specs.WellFormed.{ActionOf, EntryOf}
+use Rattle.table_laws.specs.WellFormed.{EntryOf}
 use Rattle.table_text_form.specs.Line.{Move, EntryText}
 use Rattle.table_text_reader.specs.Reading.{moveOf, stateIn, entryOf}
 use Rattle.table_text_writer.specs.Writing.{moveText, letterText, entryText}

@@ -6,7 +6,6 @@ use mathlib.Core.List.{List}
 use Prim.Native.Nat.{ℕ, _+_, _-_, _*_, _≤_}
 use native.Mathlib.Omega.{arith}
 use borrow.Author.Tests.{eq-eqb, eqb-true, le-leb, not-true}
-use Rattle.notation.specs.Choice.{pick}
 use Rattle.notation.specs.Facts.Scan.{all-says, all-holds}
 use Rattle.notation.specs.Facts.Tests.{both-split, both-true, by-test, clash, pick-cases, pick-true, pick-false}
 use Rattle.symbol.specs.declared.Dir.{Dir}
