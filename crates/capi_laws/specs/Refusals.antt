@@ -20,8 +20,8 @@ use Rattle.machine.specs.Model.Check.{tableCheck, lookupOf}
 use Rattle.machine.specs.Model.Packing.{packCheck, packInto}
 use Rattle.alphabet.specs.Model.{encodeCheck, encodeInto}
 use Rattle.table_text_reader.specs.declared.Read.{Read}
-use Rattle.table_text_writer.specs.declared.Written.{Written}
 use Rattle.table_text_reader.specs.Reading.{readOf, readInto}
+use Rattle.table_text_writer.specs.declared.Written.{Written}
 use Rattle.table_text_writer.specs.Writing.{writeOf, writeInto}
 use Rattle.run_rules.specs.declared.StopRule.{StopRule}
 use Rattle.run_rules.specs.declared.questions.Got.{Got}
@@ -48,12 +48,12 @@ use Rattle.capi_numbers.specs.Model.Engines.{engineOf, chainOf, timesFrom}
 use Rattle.capi_numbers.specs.Model.Answers.{checkedCode, checkedOut, gotCode, gotOut, countedCode, countedOut, extentCode, extentOut, locatedCode, locatedOut}
 use Rattle.capi_numbers.specs.Model.Parts.{lookedCode, lookedOut, readCode, readOut, writtenCode, writtenOut, listedCode, listedOut}
 use Rattle.capi_numbers.specs.Model.Timelines.{TimelineNew, timelineNew, timelineNewCall}
-use Rattle.demands.specs.FirstClaims.{ofFresh, ofAnswer, ofStep, ofGot, ofExtent, ofCounted, ofLocated, ofLooked, ofRead, ofWritten, ofChain, ofListed}
-use Rattle.demands.specs.FirstTimeline.{ofReply}
 use Rattle.capi_sim.specs.Model.Calls.{Call, call, newCall, stepCall, ranCall}
-use Rattle.capi_rle.specs.Model.Calls.{ChainCall, chainCall, chainNewCall, chainRanCall}
 use Rattle.capi_sim.specs.Model.Timelines.{TimelineCall, timelineCall, movedCall}
+use Rattle.capi_rle.specs.Model.Calls.{ChainCall, chainCall, chainNewCall, chainRanCall}
 use Rattle.capi_rle.specs.Model.Timelines.{ChainTimelineCall, chainTimelineCall, chainMovedCall}
+use Rattle.demands_first.specs.FirstClaims.{ofFresh, ofAnswer, ofStep, ofGot, ofExtent, ofCounted, ofLocated, ofLooked, ofRead, ofWritten, ofChain, ofListed}
+use Rattle.demands_first.specs.FirstTimeline.{ofReply}
 
 -- ---- a refused call
 

@@ -10,10 +10,10 @@ use Rattle.machine.specs.declared.Entry.{Entry}
 use Rattle.machine.specs.Model.Packing.{packWord, wordEntry}
 use Rattle.table_laws.specs.WellFormed.{EntryOf, WellFormed}
 use Rattle.table_laws.specs.Facts.RoundTrip.{packed-entry-unpacks}
-use Rattle.demands.specs.Accepts.{Packs}
-use Rattle.demands.specs.Facts.PlainAccepts.{packs}
-use Rattle.demands.specs.SecondPlain.{PlainEngine, plain-engine}
-use Rattle.demands.specs.SecondChain.{ChainEngine, chain-engine}
+use Rattle.demands_second.specs.Accepts.{Packs}
+use Rattle.demands_second.specs.Facts.PlainAccepts.{packs}
+use Rattle.demands_second.specs.SecondPlain.{PlainEngine, plain-engine}
+use Rattle.demands_second.specs.SecondChain.{ChainEngine, chain-engine}
 
 pub record SecondDemand : Type 0 where
   -- "For every table, word and engine value that document 01 accepts, with step totals up to 2^62 and while space lasts, answers and tapes equal the Rust's in

@@ -1,4 +1,4 @@
--- REQUEST 1: "Tables in the usual one-line form." Each part has the customer's sentence above it. `demands/FirstLines` has the order of the refusals, their numbers,
+-- REQUEST 1: "Tables in the usual one-line form." Each part has the customer's sentence above it. `demands_first/FirstLines` has the order of the refusals, their numbers,
 -- and that a refusal changes nothing.
 use mathlib.Core.Path.{_≡_}
 use mathlib.Core.Logic.{_↔_}
@@ -11,17 +11,18 @@ use Rattle.machine.specs.declared.Machine.{Machine}
 use Rattle.machine.specs.declared.Checked.the-variants as Check
 use Rattle.machine.specs.Model.Check.{tableCheck}
 use Rattle.table_laws.specs.WellFormed.{WellFormed}
-use Rattle.table_text_reader.specs.declared.Read.the-variants as Read
-use Rattle.table_text_writer.specs.declared.Written.the-variants as Written
-use Rattle.table_text_reader.specs.Reading.{readOf, readInto}
-use Rattle.table_text_writer.specs.Writing.{writeOf, writeInto}
-use Rattle.table_text_laws.specs.Form.{MalformedAt}
+use Rattle.table_text_form.specs.Line.{MalformedAt}
 use Rattle.table_text_rows.specs.Meaning.{RowUndefined, HasLine}
-use Rattle.table_text_laws.specs.Meaning.{FirstLacking, GoodLine, DashedRow}
+use Rattle.table_text_reader.specs.declared.Read.the-variants as Read
+use Rattle.table_text_reader.specs.Reading.{readOf, readInto}
+use Rattle.table_text_reader.specs.Meaning.{FirstLacking, GoodLine, DashedRow}
+use Rattle.table_text_reader.specs.Facts.Exact.{malformed-exact, lacking-exact, short-exact, accepted-exact}
+use Rattle.table_text_writer.specs.declared.Written.the-variants as Written
+use Rattle.table_text_writer.specs.Writing.{writeOf, writeInto}
+use Rattle.table_text_writer.specs.Facts.Exact.{refused-exact, none-exact, small-exact, enough-exact}
 use Rattle.table_text_laws.specs.Claims.{tableOf, TableRead, LineWritten}
 use Rattle.table_text_laws.specs.Example.{exampleLine, exampleMachine, exampleTable}
 use Rattle.table_text_laws.specs.Facts.Examples.{line-read, line-written}
-use Rattle.table_text_laws.specs.Facts.Exact.{malformed-exact, lacking-exact, short-exact, accepted-exact, refused-exact, none-exact, small-exact, enough-exact}
 use Rattle.table_text_laws.specs.Facts.Claims as Claims
 
 pub record OneLineForm : Type 0 where

@@ -1,9 +1,9 @@
--- A line of the form (document 02, request 1), by rows and columns and not by the automaton. In bytes 0 is 48, A 65, L 76, R 82, `-` 45 and `_` 95. Definitions only.
+-- A line of the form (document 02, request 1), by rows and columns and not by the automaton; the place of refusal 19, by the lines of the form alone. In bytes 0 is 48, A 65, L 76, R 82, `-` 45 and `_` 95. Definitions only.
 use mathlib.Core.Path.{_≡_}
 use mathlib.Core.Logic.{_⊎_}
-use mathlib.Core.List.{List}
-use Prim.Native.Nat.{ℕ, _+_, _*_, _≤_, _<_}
-use lib.ListN.{length, getD}
+use mathlib.Core.List.{List, _++_}
+use Prim.Native.Nat.{ℕ, suc, _+_, _*_, _≤_, _<_}
+use lib.ListN.{length, getD, take}
 
 abbrev pub Digit : ℕ → Type 0
 Digit b = (48 ≤ b) × (b ≤ 57)
@@ -34,3 +34,19 @@ pub record OfForm (rows k : ℕ) (line : List ℕ) : Type 0 where
   pub size : length line + 1 ≡ rows * (3 * k + 1)
   pub entries : (q a : ℕ) → q < rows → a < k → EntryAt line (place k q a)
   pub parted : (q : ℕ) → q + 1 < rows → getD line (place k q k) 0 ≡ 95
+
+-- ---- the place of 19
+
+-- a line of the form, with any rows and symbols
+abbrev pub IsLine : List ℕ → Type 0
+IsLine line = (rows : ℕ) × (k : ℕ) × OfForm rows k line
+
+-- "19 malformed line (first byte that no line of the form has after those before it, or the length if it ends early)"
+pub record MalformedAt (line : List ℕ) (i : ℕ) : Type 0 where
+  pub inside : i ≤ length line
+  -- some line of the form begins with the bytes before the place
+  pub before : (rest : List ℕ) × IsLine (take i line ++ rest)
+  -- no line of the form has the byte after those before it
+  pub after : i < length line → (rest : List ℕ) → ¬ (IsLine (take (suc i) line ++ rest))
+  -- at the length, the line ends early
+  pub early : ¬ (IsLine line)

@@ -7,10 +7,10 @@ use Rattle.machine.specs.declared.Machine.{Machine}
 use Rattle.machine.specs.declared.Checked.the-variants.{Accepted}
 use Rattle.machine.specs.Model.Check.{tableCheck}
 use Rattle.table_laws.specs.WellFormed.{WellFormed}
-use Rattle.table_text_reader.specs.Reading.{readInto}
-use Rattle.table_text_writer.specs.Writing.{writeInto}
 use Rattle.table_text_rows.specs.Meaning.{RowUndefined, HasLine}
-use Rattle.table_text_laws.specs.Meaning.{GoodLine, SaysAt}
+use Rattle.table_text_reader.specs.Reading.{readInto}
+use Rattle.table_text_reader.specs.Meaning.{GoodLine, SaysAt}
+use Rattle.table_text_writer.specs.Writing.{writeInto}
 
 -- the table of a machine with one tape, in the first places of the lent table after a line was read
 abbrev pub tableOf : Machine → (line table : List ℕ) → List ℕ

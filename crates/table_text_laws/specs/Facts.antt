@@ -1,13 +1,4 @@
-pub mod Accepts
-pub mod Place
-pub mod Columns
-pub mod Lacks
-pub mod Texts
-pub mod Reads
-pub mod Writes
 pub mod WrittenBack
 pub mod ReadBack
-pub mod Exact
 pub mod Claims
 pub mod Examples
-pub mod Long

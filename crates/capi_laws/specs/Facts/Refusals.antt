@@ -13,15 +13,10 @@ use Rattle.machine.specs.declared.Checked.{Checked}
 use Rattle.machine.specs.declared.Checked.the-variants.{Accepted, Refused}
 use Rattle.machine.specs.declared.Looked.{Looked}
 use Rattle.machine.specs.declared.Looked.the-variants as Looked
-use Rattle.rle_stack.specs.Model.{Side}
-use Rattle.rle_records.specs.declared.Run.{Run}
 use Rattle.table_text_reader.specs.declared.Read.{Read}
 use Rattle.table_text_reader.specs.declared.Read.the-variants as Read
 use Rattle.table_text_writer.specs.declared.Written.{Written}
 use Rattle.table_text_writer.specs.declared.Written.the-variants as Written
-use Rattle.rle_records.specs.declared.Listed.{Listed}
-use Rattle.rle_records.specs.declared.Listed.the-variants as Listed
-use Rattle.rle.specs.Model.Records.{sideInto}
 use Rattle.run_rules.specs.declared.Answer.{Answer}
 use Rattle.run_rules.specs.declared.Answer.the-variants as Ans
 use Rattle.run_rules.specs.declared.questions.Got.{Got}
@@ -38,6 +33,11 @@ use Rattle.sim.specs.declared.StepAnswer.{StepAnswer}
 use Rattle.sim.specs.declared.StepAnswer.the-variants as StepAns
 use Rattle.sim.specs.Model.Engine.{Conf, conf}
 use Rattle.sim.specs.Model.Operations.{given, stepGiven, made}
+use Rattle.rle_stack.specs.Model.{Side}
+use Rattle.rle_records.specs.declared.Run.{Run}
+use Rattle.rle_records.specs.declared.Listed.{Listed}
+use Rattle.rle_records.specs.declared.Listed.the-variants as Listed
+use Rattle.rle.specs.Model.Records.{sideInto}
 use Rattle.rle.specs.declared.Fresh as Chain
 use Rattle.rle.specs.declared.Fresh.the-variants as ChainNew
 use Rattle.rle.specs.Model.Engine as Chains
@@ -55,8 +55,8 @@ use Rattle.capi_sim.specs.Model.Calls.{call, newCall, stepCall, ranCall}
 use Rattle.capi_sim.specs.Model.Timelines.{timelineCall, movedCall}
 use Rattle.capi_rle.specs.Model.Calls.{chainCall, chainNewCall, chainRanCall}
 use Rattle.capi_rle.specs.Model.Timelines.{chainTimelineCall, chainMovedCall}
-use Rattle.demands.specs.FirstClaims.{ofRead, ofWritten, ofFresh, ofAnswer, ofStep, ofChain}
-use Rattle.demands.specs.FirstTimeline.{ofReply}
+use Rattle.demands_first.specs.FirstClaims.{ofRead, ofWritten, ofFresh, ofAnswer, ofStep, ofChain}
+use Rattle.demands_first.specs.FirstTimeline.{ofReply}
 use Rattle.capi_laws.specs.Facts.RoundTrips.{engine-kept, chain-kept, times-kept}
 use Rattle.capi_laws.specs.Refusals.{OutKept, Unchanged, Refuses, Checks, Fills, Looks, Reads, Writes, Lists, Gets, Spans, Counts, Finds, Makes, Steps, Runs, ChainMakes, ChainRuns, Begins, Moves, ChainMoves}
 

@@ -11,10 +11,10 @@ use Rattle.notation.specs.Facts.Tests.{by-test, pick-cases}
 use Rattle.outcome.specs.declared.Refusal.the-variants as Why
 use Rattle.table_text_form.specs.declared.Scanned.the-variants.{Malformed}
 use Rattle.table_text_form.specs.Form.{formOf}
+use Rattle.table_text_form.specs.Facts.Long.{malformed-alike}
 use Rattle.table_text_reader.specs.declared.Read.{Read}
 use Rattle.table_text_reader.specs.Reading.{readInto}
-use Rattle.table_text_laws.specs.Facts.Long.{malformed-alike}
-use Rattle.table_text_laws.specs.Facts.Reads.{as-malformed}
+use Rattle.table_text_reader.specs.Facts.ReadCases.{answer-malformed}
 use Rattle.line_to_listing.specs.Output.{lineLength, lineIn, refusedText, answerFor, blankTable, answerTo}
 
 -- the line has all bytes of the input, or all but one
@@ -31,7 +31,7 @@ start-is s h = take-take 775 (lineLength s) s (omega (arith, length-in s .0))
 
 malformed-answer : (s : List ℕ) (i : ℕ) → formOf (lineIn s) ≡ Malformed i → answerTo s ≡ refusedText (Why.MalformedLine i)
 unfolding answerTo
-malformed-answer s i e = ap (λ (r : Read). answerFor r (readInto (lineIn s) blankTable)) (as-malformed (lineIn s) 2080 i e)
+malformed-answer s i e = ap (λ (r : Read). answerFor r (readInto (lineIn s) blankTable)) (answer-malformed (lineIn s) 2080 i e)
 
 -- the first 65,536 bytes of an input have the same answer as the whole input
 pub answer-first : (input : List ℕ) → answerTo (take 65536 input) ≡ answerTo input

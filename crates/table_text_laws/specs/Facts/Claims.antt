@@ -9,16 +9,17 @@ use lib.ListN.{length, take}
 use Rattle.machine.specs.declared.Machine.{Machine}
 use Rattle.table_laws.specs.WellFormed.{WellFormed}
 use Rattle.table_laws.specs.Facts.CheckExact.{table-check-accepts}
-use Rattle.table_text_reader.specs.declared.Read.the-variants.{Table}
-use Rattle.table_text_writer.specs.declared.Written.the-variants.{Line}
-use Rattle.table_text_reader.specs.Reading.{machineOf, tableSize, readOf, readInto}
-use Rattle.table_text_writer.specs.Writing.{lineSize, writeOf, writeInto}
 use Rattle.table_text_rows.specs.Meaning.{RowUndefined, Lettered, HasLine}
-use Rattle.table_text_laws.specs.Meaning.{GoodLine, DashedRow}
+use Rattle.table_text_reader.specs.declared.Read.the-variants.{Table}
+use Rattle.table_text_reader.specs.Reading.{machineOf, tableSize, readOf, readInto}
+use Rattle.table_text_reader.specs.Meaning.{GoodLine, DashedRow}
+use Rattle.table_text_reader.specs.Facts.Exact.{read-exact}
+use Rattle.table_text_reader.specs.Facts.Reads as Reads
+use Rattle.table_text_writer.specs.declared.Written.the-variants.{Line}
+use Rattle.table_text_writer.specs.Writing.{lineSize, writeOf, writeInto}
+use Rattle.table_text_writer.specs.Facts.Exact.{written-exact}
+use Rattle.table_text_writer.specs.Facts.Writes as Writes
 use Rattle.table_text_laws.specs.Claims.{tableOf, TableRead, LineWritten}
-use Rattle.table_text_laws.specs.Facts.Exact.{read-exact, written-exact}
-use Rattle.table_text_laws.specs.Facts.Reads as Reads
-use Rattle.table_text_laws.specs.Facts.Writes as Writes
 use Rattle.table_text_laws.specs.Facts.WrittenBack as WrittenBack
 use Rattle.table_text_laws.specs.Facts.ReadBack as ReadBack
 

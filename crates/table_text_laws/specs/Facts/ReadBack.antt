@@ -15,14 +15,14 @@ use Rattle.machine.specs.Facts.CheckCases.{stride-one}
 use Rattle.machine.specs.Layout.{entryCount, byteAt, entryAt}
 use Rattle.table_laws.specs.WellFormed.{entryBytes, EntryOf, LaidOut, WellFormed}
 use Rattle.table_laws.specs.Facts.Reading.{entry-read, entry-of-machine}
-use Rattle.table_text_reader.specs.Reading.{machineOf, tableSize, readInto}
-use Rattle.table_text_writer.specs.Writing.{lineSize, writeInto}
-use Rattle.table_text_reader.specs.Facts.Places.{number-is, row-below}
+use Rattle.table_text_form.specs.Facts.Places.{number-is, row-below}
 use Rattle.table_text_rows.specs.Meaning.{RowUndefined, HasLine}
-use Rattle.table_text_laws.specs.Meaning.{GoodLine}
-use Rattle.table_text_laws.specs.Facts.Texts.{same-entry}
-use Rattle.table_text_laws.specs.Facts.Reads as Reads
-use Rattle.table_text_laws.specs.Facts.Writes as Writes
+use Rattle.table_text_reader.specs.Reading.{machineOf, tableSize, readInto}
+use Rattle.table_text_reader.specs.Meaning.{GoodLine}
+use Rattle.table_text_reader.specs.Facts.Texts.{same-entry}
+use Rattle.table_text_reader.specs.Facts.Reads as Reads
+use Rattle.table_text_writer.specs.Writing.{lineSize, writeInto}
+use Rattle.table_text_writer.specs.Facts.Writes as Writes
 
 module _ (m : Machine) (s : List ℕ) (w : WellFormed m s) (z : ℕ) (h : HasLine m s z) (last : z + 1 ≡ m .states) (undefined : RowUndefined (m .symbols) s z)
     (line : List ℕ) (fits : lineSize z (m .symbols) ≤ length line) (table : List ℕ) (room : length s ≤ length table) where

@@ -18,15 +18,15 @@ use Rattle.machine.specs.declared.Entry.the-variants.{Undefined, Defined}
 use Rattle.machine.specs.Layout.{entryAt}
 use Rattle.table_laws.specs.WellFormed.{WellFormed}
 use Rattle.table_text_form.specs.Line.{place}
-use Rattle.table_text_reader.specs.Reading.{machineOf, tableSize, readInto}
-use Rattle.table_text_writer.specs.Writing.{lineSize, writeInto}
-use Rattle.table_text_reader.specs.Facts.Places.{number-is, row-below}
+use Rattle.table_text_form.specs.Facts.Places.{number-is, row-below}
 use Rattle.table_text_rows.specs.Meaning.{HasLine}
-use Rattle.table_text_laws.specs.Meaning.{GoodLine, DashedRow, MoveOf, Says, SaysAt}
-use Rattle.table_text_laws.specs.Facts.Columns.{Column, byte, bar, column}
-use Rattle.table_text_laws.specs.Facts.Texts.{same-text}
-use Rattle.table_text_laws.specs.Facts.Reads as Reads
-use Rattle.table_text_laws.specs.Facts.Writes as Writes
+use Rattle.table_text_reader.specs.Reading.{machineOf, tableSize, readInto}
+use Rattle.table_text_reader.specs.Meaning.{GoodLine, DashedRow, MoveOf, Says, SaysAt}
+use Rattle.table_text_reader.specs.Facts.Columns.{Column, byte, bar, column}
+use Rattle.table_text_reader.specs.Facts.Texts.{same-text}
+use Rattle.table_text_reader.specs.Facts.Reads as Reads
+use Rattle.table_text_writer.specs.Writing.{lineSize, writeInto}
+use Rattle.table_text_writer.specs.Facts.Writes as Writes
 
 no-move : (y : ℕ) (a : Action) → MoveOf y (a .dir0) → ¬ (a .dir0 ≡ N)
 no-move y a h e = subst (MoveOf y) e h

@@ -18,6 +18,7 @@ use Rattle.symbol.specs.Model.{foundOf}
 use Rattle.symbol.specs.declared.position.Found.{Found}
 use Rattle.symbol.specs.declared.position.Found.the-variants.{At, Nothing}
 use Rattle.symbol.specs.declared.Dir.{Dir}
+use Rattle.outcome.specs.declared.Refusal.{Refusal}
 use Rattle.outcome.specs.declared.Refusal.the-variants as Why
 use Rattle.machine.specs.declared.Action.{Action}
 use Rattle.machine.specs.declared.Entry.{Entry}
@@ -31,7 +32,7 @@ use Rattle.table_text_form.specs.Form.{formOf}
 use Rattle.table_text_form.specs.Line.{EntryText, OfForm}
 use Rattle.table_text_reader.specs.declared.Read.{Read}
 use Rattle.table_text_reader.specs.declared.Read.the-variants.{Table, Refused}
-use Rattle.table_text_reader.specs.Reading.{hasByte, machineOf, moveOf, stateIn, entryOf, textPlace, entryIn, movesByte, tableByte, tableSize, roomFor, lacksAt, readAs, readOf, readOn, readInto}
+use Rattle.table_text_reader.specs.Reading.{hasByte, machineOf, moveOf, stateIn, entryOf, textPlace, entryIn, movesByte, tableByte, tableSize, roomFor, readOf, readOn, readInto}
 
 -- ---- an entry
 
@@ -116,36 +117,46 @@ module _ (rows k : ℕ) (line table : List ℕ) where
       let n : rows + 1 - 1 ≡ rows = omega arith in
       (e, p ∙ sym (ap (λ (r : ℕ). fillFrom (tableByte r k line) (tableSize rows k) 0 table) n) ∙ ap (λ (r : Read). readOn r line table) e)
 
-module _ (line table : List ℕ) (s : Scanned) (scanned : s ≡ formOf line) where
-  pub read-malformed : (i : ℕ) → s ≡ Malformed i → (Refused (Why.MalformedLine i) ≡ readOf line (length table)) × (table ≡ readInto line table)
-  unfolding readOf readInto
-  read-malformed i e =
-      let p : Refused (Why.MalformedLine i) ≡ readAs (formOf line) line (length table) = ap (λ (x : Scanned). readAs x line (length table)) (sym e ∙ scanned) in
-      (p, ap (λ (r : Read). readOn r line table) p)
+-- the answer for a line, whatever the buffer's length
+module _ (line : List ℕ) (room : ℕ) where
+  pub answer-malformed : (i : ℕ) → formOf line ≡ Malformed i → readOf line room ≡ Refused (Why.MalformedLine i)
+  unfolding readOf
+  answer-malformed i e = rw e
 
-  module _ (rows k : ℕ) (formed : s ≡ Formed rows k) (f : Found) (found : f ≡ foundOf (firstFail (hasByte rows k line) (length line) 0)) where
-    as-formed : lacksAt (firstFail (hasByte rows k line) (length line) 0) (roomFor rows k (length table)) ≡ readAs (formOf line) line (length table)
-    as-formed = ap (λ (x : Scanned). readAs x line (length table)) (sym formed ∙ scanned)
+  module _ (rows k : ℕ) (formed : formOf line ≡ Formed rows k) where
+    pub answer-lacks : (i : ℕ) → firstFail (hasByte rows k line) (length line) 0 ≡ some i → readOf line room ≡ Refused (Why.LineLacks i)
+    unfolding readOf
+    answer-lacks i e = rw (formed, e)
 
-    pub read-lacks : (i : ℕ) → f ≡ At i → (Refused (Why.LineLacks i) ≡ readOf line (length table)) × (table ≡ readInto line table)
-    unfolding readOf readInto
-    read-lacks i e = (p, ap (λ (r : Read). readOn r line table) p)
-      where
-        by : (x : Option ℕ) → At i ≡ foundOf x → Refused (Why.LineLacks i) ≡ lacksAt x (roomFor rows k (length table))
-        by none g = let z : _≡_ {A = ℕ} 0 1 = cc in absurd (omega arith)
-        by (some j) g = let q : i ≡ j = cc in ap (λ (n : ℕ). Refused (Why.LineLacks n)) q
+    pub answer-has : firstFail (hasByte rows k line) (length line) 0 ≡ none → readOf line room ≡ roomFor rows k room
+    unfolding readOf
+    answer-has e = rw (formed, e)
 
-        p : Refused (Why.LineLacks i) ≡ readAs (formOf line) line (length table)
-        p = by (firstFail (hasByte rows k line) (length line) 0) (sym e ∙ found) ∙ as-formed
+found-some : (x : Option ℕ) (i : ℕ) → At i ≡ foundOf x → x ≡ some i
+found-some none i e = let z : _≡_ {A = ℕ} 0 1 = cc in absurd (omega arith)
+found-some (some j) i e = let q : i ≡ j = cc in ap some (sym q)
 
-    pub read-has : f ≡ Nothing → (r : Read) (out : List ℕ) → r ≡ roomFor rows k (length table) → out ≡ readOn (roomFor rows k (length table)) line table
-        → (r ≡ readOf line (length table)) × (out ≡ readInto line table)
-    unfolding readOf readInto
-    read-has e r out g h = (g ∙ p, h ∙ ap (λ (x : Read). readOn x line table) p)
-      where
-        by : (x : Option ℕ) → Nothing ≡ foundOf x → roomFor rows k (length table) ≡ lacksAt x (roomFor rows k (length table))
-        by none q = refl
-        by (some j) q = let z : _≡_ {A = ℕ} 0 1 = cc in absurd (omega arith)
+found-none : (x : Option ℕ) → Nothing ≡ foundOf x → x ≡ none
+found-none none e = refl
+found-none (some j) e = let z : _≡_ {A = ℕ} 0 1 = cc in absurd (omega arith)
 
-        p : roomFor rows k (length table) ≡ readAs (formOf line) line (length table)
-        p = by (firstFail (hasByte rows k line) (length line) 0) (sym e ∙ found) ∙ as-formed
+module _ (line table : List ℕ) where
+  -- a refused line leaves the table alone
+  alone : (why : Refusal) → readOf line (length table) ≡ Refused why → (Refused why ≡ readOf line (length table)) × (table ≡ readInto line table)
+  unfolding readInto
+  alone why e = (sym e, ap (λ (r : Read). readOn r line table) (sym e))
+
+  module _ (s : Scanned) (scanned : s ≡ formOf line) where
+    pub read-malformed : (i : ℕ) → s ≡ Malformed i → (Refused (Why.MalformedLine i) ≡ readOf line (length table)) × (table ≡ readInto line table)
+    read-malformed i e = alone (Why.MalformedLine i) (answer-malformed line (length table) i (sym scanned ∙ e))
+
+    module _ (rows k : ℕ) (formed : s ≡ Formed rows k) (f : Found) (found : f ≡ foundOf (firstFail (hasByte rows k line) (length line) 0)) where
+      pub read-lacks : (i : ℕ) → f ≡ At i → (Refused (Why.LineLacks i) ≡ readOf line (length table)) × (table ≡ readInto line table)
+      read-lacks i e = alone (Why.LineLacks i) (answer-lacks line (length table) rows k (sym scanned ∙ formed) i (found-some _ i (sym e ∙ found)))
+
+      pub read-has : f ≡ Nothing → (r : Read) (out : List ℕ) → r ≡ roomFor rows k (length table) → out ≡ readOn (roomFor rows k (length table)) line table
+          → (r ≡ readOf line (length table)) × (out ≡ readInto line table)
+      unfolding readInto
+      read-has e r out g h =
+          let p = answer-has line (length table) rows k (sym scanned ∙ formed) (found-none _ (sym e ∙ found)) in
+          (g ∙ sym p, h ∙ ap (λ (x : Read). readOn x line table) (sym p))

@@ -1,0 +1,13 @@
+pub mod First
+pub mod FirstLines
+pub mod FirstPlain
+pub mod FirstChain
+pub mod FirstTimelineSpace
+pub mod FirstTimeline
+pub mod FirstSpace
+pub mod FirstPlainSpace
+pub mod FirstChainSpace
+pub mod FirstPlainTimeline
+pub mod FirstChainTimeline
+pub mod FirstListing
+pub mod FirstNumbers

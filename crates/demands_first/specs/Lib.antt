@@ -1,0 +1,12 @@
+pub mod FirstClaims
+pub mod FirstTests
+pub mod FirstTimeline
+pub mod FirstSpace
+pub mod FirstSlots
+pub mod FirstTables
+pub mod FirstLines
+pub mod FirstPlain
+pub mod FirstChain
+pub mod FirstTimelines
+pub mod FirstListing
+pub mod Facts

@@ -1,0 +1,9 @@
+pub mod PlainQuestions
+pub mod PlainLive
+pub mod PlainAccepts
+pub mod Windows
+pub mod ChainRun
+pub mod ChainAccepts
+pub mod ChainMacros
+pub mod ChainRecords
+pub mod ChainCount
