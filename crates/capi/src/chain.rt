@@ -3,7 +3,7 @@ use machine::Machine;
 ghost use mathlib.Core.Path.{_≡_};
 ghost use Rattle.rle.specs.Model.Engine.{conf};
 ghost use Rattle.rle.specs.Model.Operations.{newAnswer, runAnswer};
-ghost use Rattle.capi_numbers.specs.Model.Engines.{machineOf, ruleOf, chainOf};
+ghost use Rattle.capi_engines.specs.Model.Engines.{machineOf, ruleOf, chainOf};
 ghost use Rattle.capi_rle.specs.Model.Calls.{chainCall, chainNewCall, chainRanCall};
 
 #[no_mangle]

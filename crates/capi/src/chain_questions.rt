@@ -5,7 +5,7 @@ ghost use mathlib.Core.Path.{_≡_};
 ghost use Rattle.rle.specs.Model.Engine.{conf};
 ghost use Rattle.rle.specs.Fits.{engineCheck};
 ghost use Rattle.rle.specs.Model.Questions.{getAnswer, extentAnswer, countAnswer, windowInto};
-ghost use Rattle.capi_numbers.specs.Model.Engines.{machineOf, chainOf};
+ghost use Rattle.capi_engines.specs.Model.Engines.{machineOf, chainOf};
 ghost use Rattle.capi_numbers.specs.Model.Answers.{checkedCode, checkedOut, gotCode, gotOut, countedCode, countedOut, extentCode, extentOut};
 
 // The symbol at a position, in out[0].

@@ -7,7 +7,7 @@ ghost use Rattle.timeline_rule.specs.Model.Timeline.{callFor};
 ghost use Rattle.timeline_rule.specs.Model.Kind.{callOn, newWith};
 ghost use Rattle.rle_slots.specs.Model.Kind.{chainKind};
 ghost use Rattle.rle_timeline.specs.Model.{withLent, tl};
-ghost use Rattle.capi_numbers.specs.Model.Engines.{machineOf, chainOf, timesFrom};
+ghost use Rattle.capi_engines.specs.Model.Engines.{machineOf, chainOf, timesFrom};
 ghost use Rattle.capi_numbers.specs.Model.Timelines.{timelineNew, timelineNewCall};
 ghost use Rattle.capi_rle.specs.Model.Timelines.{chainTimelineCall, chainMovedCall};
 

@@ -1,5 +1,4 @@
 // Tables in the one-line form: reading a line, and writing one.
-use capi_numbers::engines;
 use capi_numbers::parts;
 use table_text::read_line;
 use table_text::write_line;
@@ -7,7 +6,7 @@ ghost use mathlib.Core.Path.{_≡_};
 ghost use lib.ListN.{length};
 ghost use Rattle.table_text_reader.specs.Reading.{readOf, readInto};
 ghost use Rattle.table_text_writer.specs.Writing.{writeOf, writeInto};
-ghost use Rattle.capi_numbers.specs.Model.Engines.{machineOf};
+ghost use Rattle.capi_engines.specs.Model.Engines.{machineOf};
 ghost use Rattle.capi_numbers.specs.Model.Parts.{readCode, readOut, writtenCode, writtenOut};
 
 // The numbers of symbols and of states of the line's table, whose bytes go into the first places of `table`.
@@ -32,7 +31,7 @@ pub extern "C" fn tm_line_write(
 ) -> u8
     ensures { λ r. ⌜ (r ≡ writtenCode (writeOf (machineOf tapes symbols states start) (now (table .entry)) (length (now (line .entry))))) × (now (out .exit) ≡ writtenOut (writeOf (machineOf tapes symbols states start) (now (table .entry)) (length (now (line .entry)))) (now (out .entry))) × (now (line .exit) ≡ writeInto (machineOf tapes symbols states start) (now (table .entry)) (now (line .entry))) ⌝ }
 {
-    let m = engines::machine_of(tapes, symbols, states, start);
+    let m = capi_engines::machine_of(tapes, symbols, states, start);
     let written = write_line(m, table, line);
     parts::put_written(out, written)
 }

@@ -3,7 +3,7 @@ use machine::Machine;
 ghost use mathlib.Core.Path.{_≡_};
 ghost use Rattle.sim.specs.Model.Engine.{conf};
 ghost use Rattle.sim.specs.Model.Operations.{newAnswer, stepAnswer, runAnswer, fastAnswer};
-ghost use Rattle.capi_numbers.specs.Model.Engines.{machineOf, engineOf, ruleOf};
+ghost use Rattle.capi_engines.specs.Model.Engines.{machineOf, engineOf, ruleOf};
 ghost use Rattle.capi_sim.specs.Model.Calls.{call, newCall, stepCall, ranCall};
 
 #[no_mangle]

@@ -5,7 +5,7 @@ ghost use mathlib.Core.Path.{_≡_};
 ghost use Rattle.machine.specs.Layout.{dirOf};
 ghost use Rattle.sim.specs.Model.Engine.{conf};
 ghost use Rattle.sim.specs.Model.Questions.{questionCheck, getAnswer, extentAnswer, countAnswer, windowInto, findAnswer};
-ghost use Rattle.capi_numbers.specs.Model.Engines.{machineOf, engineOf};
+ghost use Rattle.capi_engines.specs.Model.Engines.{machineOf, engineOf};
 ghost use Rattle.capi_numbers.specs.Model.Answers.{checkedCode, checkedOut, gotCode, gotOut, countedCode, countedOut, extentCode, extentOut, locatedCode, locatedOut};
 
 // The symbol at a position, in out[0].

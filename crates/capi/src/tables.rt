@@ -1,6 +1,5 @@
 // The table check, the lookup of an entry, and packing.
 use capi_numbers::answers;
-use capi_numbers::engines;
 use capi_numbers::parts;
 use symbol::State;
 use symbol::Symbol;
@@ -9,7 +8,7 @@ ghost use lib.ListN.{length};
 ghost use Rattle.symbol.specs.Kinds.{symbolOf, stateOf};
 ghost use Rattle.machine.specs.Model.Check.{tableCheck, lookupOf};
 ghost use Rattle.machine.specs.Model.Packing.{packCheck, packInto};
-ghost use Rattle.capi_numbers.specs.Model.Engines.{machineOf};
+ghost use Rattle.capi_engines.specs.Model.Engines.{machineOf};
 ghost use Rattle.capi_numbers.specs.Model.Answers.{checkedCode, checkedOut};
 ghost use Rattle.capi_numbers.specs.Model.Parts.{lookedCode, lookedOut};
 
@@ -24,7 +23,7 @@ pub extern "C" fn tm_check(
 ) -> u8
     ensures { λ r. ⌜ (r ≡ checkedCode (tableCheck (machineOf tapes symbols states start) (now (table .entry)))) × (now (out .exit) ≡ checkedOut (tableCheck (machineOf tapes symbols states start) (now (table .entry))) (now (out .entry))) ⌝ }
 {
-    let m = engines::machine_of(tapes, symbols, states, start);
+    let m = capi_engines::machine_of(tapes, symbols, states, start);
     let checked = m.check(table);
     answers::put_checked(out, checked)
 }
@@ -41,7 +40,7 @@ pub extern "C" fn tm_pack(
 ) -> u8
     ensures { λ r. ⌜ (r ≡ checkedCode (packCheck (machineOf tapes symbols states start) (now (table .entry)) (length (now (words .entry))))) × (now (out .exit) ≡ checkedOut (packCheck (machineOf tapes symbols states start) (now (table .entry)) (length (now (words .entry)))) (now (out .entry))) × (now (words .exit) ≡ packInto (machineOf tapes symbols states start) (now (table .entry)) (now (words .entry))) ⌝ }
 {
-    let m = engines::machine_of(tapes, symbols, states, start);
+    let m = capi_engines::machine_of(tapes, symbols, states, start);
     let checked = m.pack(table, words);
     answers::put_checked(out, checked)
 }
@@ -63,7 +62,7 @@ pub extern "C" fn tm_lookup(
 ) -> u8
     ensures { λ r. ⌜ (r ≡ lookedCode (lookupOf (machineOf tapes symbols states start) (now (table .entry)) (stateOf state) (symbolOf a0) (symbolOf a1) (symbolOf a2))) × (now (out .exit) ≡ lookedOut (lookupOf (machineOf tapes symbols states start) (now (table .entry)) (stateOf state) (symbolOf a0) (symbolOf a1) (symbolOf a2)) (now (out .entry))) ⌝ }
 {
-    let m = engines::machine_of(tapes, symbols, states, start);
+    let m = capi_engines::machine_of(tapes, symbols, states, start);
     let looked = m.lookup(table, State(state), Symbol(a0), Symbol(a1), Symbol(a2));
     parts::put_looked(out, looked)
 }

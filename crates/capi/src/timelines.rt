@@ -7,7 +7,7 @@ ghost use Rattle.timeline_rule.specs.Model.Timeline.{callFor};
 ghost use Rattle.timeline_rule.specs.Model.Kind.{callOn, newWith};
 ghost use Rattle.sim_slots.specs.Model.Kind.{plainKind};
 ghost use Rattle.sim_timeline.specs.Model.{withLent, tl};
-ghost use Rattle.capi_numbers.specs.Model.Engines.{machineOf, engineOf, timesFrom};
+ghost use Rattle.capi_engines.specs.Model.Engines.{machineOf, engineOf, timesFrom};
 ghost use Rattle.capi_numbers.specs.Model.Timelines.{timelineNew, timelineNewCall};
 ghost use Rattle.capi_sim.specs.Model.Timelines.{timelineCall, movedCall};
 

@@ -44,7 +44,7 @@ use Rattle.sim_slots.specs.Model.Kind.{plainKind}
 use Rattle.rle_slots.specs.Model.Kind.{chainKind}
 use Rattle.sim_timeline.specs.Model as PlainTimes
 use Rattle.rle_timeline.specs.Model as ChainTimes
-use Rattle.capi_numbers.specs.Model.Engines.{engineOf, chainOf, timesFrom}
+use Rattle.capi_engines.specs.Model.Engines.{engineOf, chainOf, timesFrom}
 use Rattle.capi_numbers.specs.Model.Answers.{checkedCode, checkedOut, gotCode, gotOut, countedCode, countedOut, extentCode, extentOut, locatedCode, locatedOut}
 use Rattle.capi_numbers.specs.Model.Parts.{lookedCode, lookedOut, readCode, readOut, writtenCode, writtenOut, listedCode, listedOut}
 use Rattle.capi_numbers.specs.Model.Timelines.{TimelineNew, timelineNew, timelineNewCall}

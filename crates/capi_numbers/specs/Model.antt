@@ -1,4 +1,3 @@
-pub mod Engines
 pub mod Answers
 pub mod Parts
 pub mod Timelines

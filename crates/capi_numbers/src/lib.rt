@@ -1,4 +1,3 @@
-// Engines, timelines and answers as numbers, for the functions with C linkage.
+// Answers, entries, packed words and runs as numbers, for the functions with C linkage.
 pub mod answers;
-pub mod engines;
 pub mod parts;

@@ -4,7 +4,6 @@ pub mod questions;
 pub mod timelines;
 
 use capi_numbers::answers;
-use capi_numbers::engines;
 use machine::Machine;
 use rle::ChainSim;
 use rle::Fresh;
@@ -12,7 +11,7 @@ use run_rules::Answer;
 ghost use mathlib.Core.Path.{_≡_};
 ghost use Rattle.rle.specs.Model.Engine.{conf};
 ghost use Rattle.rle.specs.Model.Operations.{newAnswer, runAnswer};
-ghost use Rattle.capi_numbers.specs.Model.Engines.{chainOf, ruleOf};
+ghost use Rattle.capi_engines.specs.Model.Engines.{chainOf, ruleOf};
 ghost use Rattle.capi_rle.specs.Model.Calls.{chainCall, HandedBack, chainNewCall, chainRanCall};
 
 // Makes a fresh engine.
@@ -36,7 +35,7 @@ pub fn new(
         Fresh::Made(sim) => {
             *state = sim.state.0;
             *cur = sim.tape.cur;
-            engines::put_chain(engine, sim);
+            capi_engines::put_chain(engine, sim);
             return 0;
         }
         Fresh::Refused(why) => {
@@ -58,7 +57,7 @@ fn hand_back(
 {
     *state = after.state.0;
     *cur = after.tape.cur;
-    engines::put_chain(engine, after);
+    capi_engines::put_chain(engine, after);
     answers::put_answer(out, answer)
 }
 
@@ -79,8 +78,8 @@ pub fn run(
 ) -> u8
     ensures { λ r. ⌜ chainCall r (now (state .exit)) (now (cur .exit)) (now (engine .exit)) (now (out .exit)) (now (ls .exit)) (now (ll .exit)) (now (rs .exit)) (now (rl .exit)) ≡ chainRanCall (runAnswer m (now (table .entry)) (ruleOf rule) fuel (conf (chainOf (now (state .entry)) (now (cur .entry)) (now (engine .entry))) (now (ls .entry)) (now (ll .entry)) (now (rs .entry)) (now (rl .entry)))) (now (engine .entry)) (now (out .entry)) ⌝ }
 {
-    let sim = engines::chain_of(*state, *cur, engine);
-    let stop = engines::rule_of(rule);
+    let sim = capi_engines::chain_of(*state, *cur, engine);
+    let stop = capi_engines::rule_of(rule);
     let ran = sim.run(m, table, ls, ll, rs, rl, stop, fuel);
     let answer = ran.answer;
     hand_back(ran.sim, answer, state, cur, engine, out)

@@ -1,7 +1,6 @@
 // A timeline over the run-length engine: a new one, and its calls. Its store of slots is lent, as the run places are.
 use super::hand_back;
 use capi_numbers::answers;
-use capi_numbers::engines;
 use machine::Machine;
 use rle_timeline::Begun;
 use rle_timeline::Timeline;
@@ -11,7 +10,7 @@ ghost use Rattle.timeline_rule.specs.Model.Timeline.{callFor};
 ghost use Rattle.timeline_rule.specs.Model.Kind.{callOn, newWith};
 ghost use Rattle.rle_slots.specs.Model.Kind.{chainKind};
 ghost use Rattle.rle_timeline.specs.Model.{withLent, tl};
-ghost use Rattle.capi_numbers.specs.Model.Engines.{chainOf, timesFrom};
+ghost use Rattle.capi_engines.specs.Model.Engines.{chainOf, timesFrom};
 ghost use Rattle.capi_numbers.specs.Model.Timelines.{timelineNew, timelineNewCall};
 ghost use Rattle.capi_rle.specs.Model.Timelines.{chainTimelineCall, chainMovedCall};
 
@@ -33,11 +32,11 @@ pub fn new(
 ) -> u8
     ensures { λ r. ⌜ timelineNew r (now (times .exit)) (now (out .exit)) (now (store .exit)) ≡ timelineNewCall chainKind (newWith chainKind m (now (table .entry)) most every (conf (chainOf state cur (now (engine .entry))) (now (ls .entry)) (now (ll .entry)) (now (rs .entry)) (now (rl .entry))) (now (store .entry))) (now (times .entry)) (now (out .entry)) ⌝ }
 {
-    let sim = engines::chain_of(state, cur, engine);
+    let sim = capi_engines::chain_of(state, cur, engine);
     let begun = Timeline::new(sim, m, table, ls, ll, rs, rl, store, most, every);
     match begun {
         Begun::Made(timeline) => {
-            engines::put_times(times, timeline.times);
+            capi_engines::put_times(times, timeline.times);
             return 0;
         }
         Begun::Refused(why) => {
@@ -65,12 +64,12 @@ pub fn call(
     ensures { λ r. ⌜ chainTimelineCall r (now (state .exit)) (now (cur .exit)) (now (engine .exit)) (now (times .exit)) (now (out .exit)) (now (ls .exit)) (now (ll .exit)) (now (rs .exit)) (now (rl .exit)) (now (store .exit)) ≡ chainMovedCall (callOn chainKind m (now (table .entry)) (withLent (tl (chainOf (now (state .entry)) (now (cur .entry)) (now (engine .entry))) (timesFrom (now (times .entry)))) (now (ls .entry)) (now (ll .entry)) (now (rs .entry)) (now (rl .entry)) (now (store .entry))) (callFor which number)) (now (engine .entry)) (now (times .entry)) (now (out .entry)) ⌝ }
 {
     let timeline = Timeline {
-        engine: engines::chain_of(*state, *cur, engine),
-        times: engines::times_of(times),
+        engine: capi_engines::chain_of(*state, *cur, engine),
+        times: capi_engines::times_of(times),
     };
     let answered = timeline.call(m, table, ls, ll, rs, rl, store, which as u64, number);
     let after = answered.timeline;
     let answer = answered.answer;
-    engines::put_times(times, after.times);
+    capi_engines::put_times(times, after.times);
     hand_back(after.engine, answer, state, cur, engine, out)
 }

@@ -4,7 +4,6 @@ pub mod questions;
 pub mod timelines;
 
 use capi_numbers::answers;
-use capi_numbers::engines;
 use machine::Machine;
 use sim::Answer;
 use sim::Fresh;
@@ -12,7 +11,7 @@ use sim::Simulator;
 ghost use mathlib.Core.Path.{_≡_};
 ghost use Rattle.sim.specs.Model.Engine.{conf};
 ghost use Rattle.sim.specs.Model.Operations.{newAnswer, stepAnswer, runAnswer, fastAnswer};
-ghost use Rattle.capi_numbers.specs.Model.Engines.{engineOf, ruleOf};
+ghost use Rattle.capi_engines.specs.Model.Engines.{engineOf, ruleOf};
 ghost use Rattle.capi_sim.specs.Model.Calls.{call, HandedBack, newCall, stepCall, ranCall};
 
 // Makes a fresh engine.
@@ -33,7 +32,7 @@ pub fn new(
     match fresh {
         Fresh::Made(sim) => {
             *state = sim.state.0;
-            engines::put_engine(engine, sim);
+            capi_engines::put_engine(engine, sim);
             return 0;
         }
         Fresh::Refused(why) => {
@@ -55,12 +54,12 @@ pub fn step(
 ) -> u8
     ensures { λ r. ⌜ call r (now (state .exit)) (now (engine .exit)) (now (out .exit)) (now (c0 .exit)) (now (c1 .exit)) (now (c2 .exit)) ≡ stepCall (stepAnswer m (now (table .entry)) (conf (engineOf (now (state .entry)) (now (engine .entry))) (now (c0 .entry)) (now (c1 .entry)) (now (c2 .entry)))) (now (engine .entry)) (now (out .entry)) ⌝ }
 {
-    let sim = engines::engine_of(*state, engine);
+    let sim = capi_engines::engine_of(*state, engine);
     let stepped = sim.step(m, table, c0, c1, c2);
     let after = stepped.sim;
     let answer = stepped.answer;
     *state = after.state.0;
-    engines::put_engine(engine, after);
+    capi_engines::put_engine(engine, after);
     answers::put_step(out, answer)
 }
 
@@ -75,7 +74,7 @@ fn hand_back(
     ensures { λ r. ⌜ HandedBack after answer (now (engine .entry)) (now (out .entry)) r (now (state .exit)) (now (engine .exit)) (now (out .exit)) ⌝ }
 {
     *state = after.state.0;
-    engines::put_engine(engine, after);
+    capi_engines::put_engine(engine, after);
     answers::put_answer(out, answer)
 }
 
@@ -94,8 +93,8 @@ pub fn run(
 ) -> u8
     ensures { λ r. ⌜ call r (now (state .exit)) (now (engine .exit)) (now (out .exit)) (now (c0 .exit)) (now (c1 .exit)) (now (c2 .exit)) ≡ ranCall (runAnswer m (now (table .entry)) (ruleOf rule) fuel (conf (engineOf (now (state .entry)) (now (engine .entry))) (now (c0 .entry)) (now (c1 .entry)) (now (c2 .entry)))) (now (engine .entry)) (now (out .entry)) ⌝ }
 {
-    let sim = engines::engine_of(*state, engine);
-    let stop = engines::rule_of(rule);
+    let sim = capi_engines::engine_of(*state, engine);
+    let stop = capi_engines::rule_of(rule);
     let ran = sim.run(m, table, c0, c1, c2, stop, fuel);
     let answer = ran.answer;
     hand_back(ran.sim, answer, state, engine, out)
@@ -117,8 +116,8 @@ pub fn run_packed(
 ) -> u8
     ensures { λ r. ⌜ call r (now (state .exit)) (now (engine .exit)) (now (out .exit)) (now (c0 .exit)) (now (c1 .exit)) (now (c2 .exit)) ≡ ranCall (fastAnswer m (now (table .entry)) (now (words .entry)) (ruleOf rule) fuel (conf (engineOf (now (state .entry)) (now (engine .entry))) (now (c0 .entry)) (now (c1 .entry)) (now (c2 .entry)))) (now (engine .entry)) (now (out .entry)) ⌝ }
 {
-    let sim = engines::engine_of(*state, engine);
-    let stop = engines::rule_of(rule);
+    let sim = capi_engines::engine_of(*state, engine);
+    let stop = capi_engines::rule_of(rule);
     let ran = sim.run_packed(m, table, words, c0, c1, c2, stop, fuel);
     let answer = ran.answer;
     hand_back(ran.sim, answer, state, engine, out)

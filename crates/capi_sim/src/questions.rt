@@ -1,12 +1,11 @@
 // Questions about one tape of the plain engine.
 use capi_numbers::answers;
-use capi_numbers::engines;
 use machine::Machine;
 ghost use mathlib.Core.Path.{_≡_};
 ghost use Rattle.machine.specs.Layout.{dirOf};
 ghost use Rattle.sim.specs.Model.Engine.{conf};
 ghost use Rattle.sim.specs.Model.Questions.{questionCheck, getAnswer, extentAnswer, countAnswer, windowInto, findAnswer};
-ghost use Rattle.capi_numbers.specs.Model.Engines.{engineOf};
+ghost use Rattle.capi_engines.specs.Model.Engines.{engineOf};
 ghost use Rattle.capi_numbers.specs.Model.Answers.{checkedCode, checkedOut, gotCode, gotOut, countedCode, countedOut, extentCode, extentOut, locatedCode, locatedOut};
 
 // The symbol at a position, in out[0].
@@ -24,7 +23,7 @@ pub fn get<'a>(
 ) -> u8
     ensures { λ r. ⌜ (r ≡ gotCode (getAnswer m (now (table .entry)) tape at (conf (engineOf state (now (engine .entry))) (now (c0 .entry)) (now (c1 .entry)) (now (c2 .entry))))) × (now (out .exit) ≡ gotOut (getAnswer m (now (table .entry)) tape at (conf (engineOf state (now (engine .entry))) (now (c0 .entry)) (now (c1 .entry)) (now (c2 .entry)))) (now (out .entry))) ⌝ }
 {
-    let sim = engines::engine_of(state, engine);
+    let sim = capi_engines::engine_of(state, engine);
     let answer = sim.get(m, table, c0, c1, c2, tape, at);
     answers::put_got(out, answer)
 }
@@ -43,7 +42,7 @@ pub fn non_blank<'a>(
 ) -> u8
     ensures { λ r. ⌜ (r ≡ extentCode (extentAnswer m (now (table .entry)) tape (conf (engineOf state (now (engine .entry))) (now (c0 .entry)) (now (c1 .entry)) (now (c2 .entry))))) × (now (out .exit) ≡ extentOut (extentAnswer m (now (table .entry)) tape (conf (engineOf state (now (engine .entry))) (now (c0 .entry)) (now (c1 .entry)) (now (c2 .entry)))) (now (out .entry))) ⌝ }
 {
-    let sim = engines::engine_of(state, engine);
+    let sim = capi_engines::engine_of(state, engine);
     let answer = sim.non_blank(m, table, c0, c1, c2, tape);
     answers::put_extent(out, answer)
 }
@@ -62,7 +61,7 @@ pub fn count<'a>(
 ) -> u8
     ensures { λ r. ⌜ (r ≡ countedCode (countAnswer m (now (table .entry)) tape (conf (engineOf state (now (engine .entry))) (now (c0 .entry)) (now (c1 .entry)) (now (c2 .entry))))) × (now (out .exit) ≡ countedOut (countAnswer m (now (table .entry)) tape (conf (engineOf state (now (engine .entry))) (now (c0 .entry)) (now (c1 .entry)) (now (c2 .entry)))) (now (out .entry))) ⌝ }
 {
-    let sim = engines::engine_of(state, engine);
+    let sim = capi_engines::engine_of(state, engine);
     let answer = sim.count_non_blank(m, table, c0, c1, c2, tape);
     answers::put_counted(out, answer)
 }
@@ -83,7 +82,7 @@ pub fn window<'a>(
 ) -> u8
     ensures { λ r. ⌜ (r ≡ checkedCode (questionCheck m (now (table .entry)) tape (conf (engineOf state (now (engine .entry))) (now (c0 .entry)) (now (c1 .entry)) (now (c2 .entry))))) × (now (out .exit) ≡ checkedOut (questionCheck m (now (table .entry)) tape (conf (engineOf state (now (engine .entry))) (now (c0 .entry)) (now (c1 .entry)) (now (c2 .entry)))) (now (out .entry))) × (now (cells .exit) ≡ windowInto m (now (table .entry)) tape from (conf (engineOf state (now (engine .entry))) (now (c0 .entry)) (now (c1 .entry)) (now (c2 .entry))) (now (cells .entry))) ⌝ }
 {
-    let sim = engines::engine_of(state, engine);
+    let sim = capi_engines::engine_of(state, engine);
     let answer = sim.window(m, table, c0, c1, c2, tape, from, cells);
     answers::put_checked(out, answer)
 }
@@ -105,7 +104,7 @@ pub fn find<'a>(
 ) -> u8
     ensures { λ r. ⌜ (r ≡ locatedCode (findAnswer m (now (table .entry)) tape from (dirOf dir) (conf (engineOf state (now (engine .entry))) (now (c0 .entry)) (now (c1 .entry)) (now (c2 .entry))))) × (now (out .exit) ≡ locatedOut (findAnswer m (now (table .entry)) tape from (dirOf dir) (conf (engineOf state (now (engine .entry))) (now (c0 .entry)) (now (c1 .entry)) (now (c2 .entry)))) (now (out .entry))) ⌝ }
 {
-    let sim = engines::engine_of(state, engine);
+    let sim = capi_engines::engine_of(state, engine);
     let answer = sim.find_non_blank(
         m,
         table,

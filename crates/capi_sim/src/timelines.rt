@@ -1,7 +1,6 @@
 // A timeline over the plain engine: a new one, and its calls. Its store of slots is lent, as the cells are.
 use super::hand_back;
 use capi_numbers::answers;
-use capi_numbers::engines;
 use machine::Machine;
 use sim_timeline::Begun;
 use sim_timeline::Timeline;
@@ -11,7 +10,7 @@ ghost use Rattle.timeline_rule.specs.Model.Timeline.{callFor};
 ghost use Rattle.timeline_rule.specs.Model.Kind.{callOn, newWith};
 ghost use Rattle.sim_slots.specs.Model.Kind.{plainKind};
 ghost use Rattle.sim_timeline.specs.Model.{withLent, tl};
-ghost use Rattle.capi_numbers.specs.Model.Engines.{engineOf, timesFrom};
+ghost use Rattle.capi_engines.specs.Model.Engines.{engineOf, timesFrom};
 ghost use Rattle.capi_numbers.specs.Model.Timelines.{timelineNew, timelineNewCall};
 ghost use Rattle.capi_sim.specs.Model.Timelines.{timelineCall, movedCall};
 
@@ -31,11 +30,11 @@ pub fn new(
 ) -> u8
     ensures { λ r. ⌜ timelineNew r (now (times .exit)) (now (out .exit)) (now (store .exit)) ≡ timelineNewCall plainKind (newWith plainKind m (now (table .entry)) most every (conf (engineOf state (now (engine .entry))) (now (c0 .entry)) (now (c1 .entry)) (now (c2 .entry))) (now (store .entry))) (now (times .entry)) (now (out .entry)) ⌝ }
 {
-    let sim = engines::engine_of(state, engine);
+    let sim = capi_engines::engine_of(state, engine);
     let begun = Timeline::new(sim, m, table, c0, c1, c2, store, most, every);
     match begun {
         Begun::Made(timeline) => {
-            engines::put_times(times, timeline.times);
+            capi_engines::put_times(times, timeline.times);
             return 0;
         }
         Begun::Refused(why) => {
@@ -61,12 +60,12 @@ pub fn call(
     ensures { λ r. ⌜ timelineCall r (now (state .exit)) (now (engine .exit)) (now (times .exit)) (now (out .exit)) (now (c0 .exit)) (now (c1 .exit)) (now (c2 .exit)) (now (store .exit)) ≡ movedCall (callOn plainKind m (now (table .entry)) (withLent (tl (engineOf (now (state .entry)) (now (engine .entry))) (timesFrom (now (times .entry)))) (now (c0 .entry)) (now (c1 .entry)) (now (c2 .entry)) (now (store .entry))) (callFor which number)) (now (engine .entry)) (now (times .entry)) (now (out .entry)) ⌝ }
 {
     let timeline = Timeline {
-        engine: engines::engine_of(*state, engine),
-        times: engines::times_of(times),
+        engine: capi_engines::engine_of(*state, engine),
+        times: capi_engines::times_of(times),
     };
     let answered = timeline.call(m, table, c0, c1, c2, store, which as u64, number);
     let after = answered.timeline;
     let answer = answered.answer;
-    engines::put_times(times, after.times);
+    capi_engines::put_times(times, after.times);
     hand_back(after.engine, answer, state, engine, out)
 }

@@ -4,6 +4,8 @@ use machine::Machine;
 use outcome::Refusal;
 use symbol::position::Found;
 use table_text_form::Scanned;
+pub use table_text_reader::Read;
+pub use table_text_writer::Written;
 ghost use mathlib.Core.Path.{_≡_};
 ghost use lib.ListN.{length};
 ghost use Rattle.table_text_reader.specs.Reading.{readOf, readInto};
@@ -12,9 +14,6 @@ ghost use Rattle.table_text_writer.specs.Writing.{writeOf, writeInto};
 mod form;
 mod reading;
 mod writing;
-
-pub use table_text_reader::Read;
-pub use table_text_writer::Written;
 
 // Writes the table of a line into the first places of `table`. Refusal 19, with the place, for a malformed line; 20, with
 // the first place, for a letter or a digit that the line's rows lack; 18 for too short a table.

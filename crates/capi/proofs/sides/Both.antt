@@ -50,7 +50,7 @@ use Rattle.rle_records.specs.declared.Run.{Run}
 use Rattle.rle_records.specs.declared.Listed.{Listed}
 use Rattle.rle.specs.declared.ChainSim.{ChainSim}
 use Rattle.rle.specs.Model.Records.{LeftOrRight}
-use Rattle.capi_numbers.specs.Model.Engines.{machineOf, chainOf}
+use Rattle.capi_engines.specs.Model.Engines.{machineOf, chainOf}
 use Rattle.capi_numbers.specs.Model.Parts.{listedCode, listedOut}
 use Rattle.machine.proofs.Machine as Ma
 use Rattle.machine.proofs.Machine.Laws as Ma′
@@ -62,12 +62,12 @@ use Rattle.rle.proofs.ChainSim as Ch
 use Rattle.rle.proofs.ChainSim.Laws as Ch′
 use Rattle.rle.proofs.ChainSim.left as list
 use Rattle.rle.proofs.BothSides.{word, τ, τ₁, τ₂, ρ, opd, var, Slices, Arg as Arg′, answered, filled, clauses as list-clauses, sv, mach, cval, mval, cvals, mvals}
-use Rattle.capi_numbers.proofs.engines.machine_of as machine-of
-use Rattle.capi_numbers.proofs.engines.machine_of.Symbol as machine-of-def
-use Rattle.capi_numbers.proofs.engines.machine_of.Met as machine-of-thm
-use Rattle.capi_numbers.proofs.engines.chain_of as chain-of
-use Rattle.capi_numbers.proofs.engines.chain_of.Symbol as chain-of-def
-use Rattle.capi_numbers.proofs.engines.chain_of.Met as chain-of-thm
+use Rattle.capi_engines.proofs.machine_of as machine-of
+use Rattle.capi_engines.proofs.machine_of.Symbol as machine-of-def
+use Rattle.capi_engines.proofs.machine_of.Met as machine-of-thm
+use Rattle.capi_engines.proofs.chain_of as chain-of
+use Rattle.capi_engines.proofs.chain_of.Symbol as chain-of-def
+use Rattle.capi_engines.proofs.chain_of.Met as chain-of-thm
 use Rattle.capi_numbers.proofs.parts.put_listed as put-listed
 use Rattle.capi_numbers.proofs.parts.put_listed.Symbol as put-def
 use Rattle.capi_numbers.proofs.parts.put_listed.Met as put-thm

@@ -48,7 +48,7 @@ use Rattle.sim_slots.specs.Model.Kind.{plainKind}
 use Rattle.rle_slots.specs.Model.Kind.{chainKind}
 use Rattle.sim_timeline.specs.Model as PlainTimes
 use Rattle.rle_timeline.specs.Model as ChainTimes
-use Rattle.capi_numbers.specs.Model.Engines.{engineOf, withEngine, chainOf, timesFrom}
+use Rattle.capi_engines.specs.Model.Engines.{engineOf, withEngine, chainOf, timesFrom}
 use Rattle.capi_numbers.specs.Model.Answers.{placeOut, refusedOut}
 use Rattle.capi_numbers.specs.Model.Timelines.{timelineNewCall}
 use Rattle.capi_sim.specs.Model.Calls.{call, newCall, stepCall, ranCall}

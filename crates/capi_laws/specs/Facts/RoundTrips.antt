@@ -4,7 +4,7 @@ use mathlib.Core.Path.{_≡_, refl}
 use mathlib.Core.List.{List}
 use Prim.Native.Nat.{ℕ, _+_}
 use lib.Seq.{set-getD}
-use Rattle.capi_numbers.specs.Model.Engines.{tapeFrom, engineOf, withTape, withEngine, chainOf, withChain, timesFrom, withTimes}
+use Rattle.capi_engines.specs.Model.Engines.{tapeFrom, engineOf, withTape, withEngine, chainOf, withChain, timesFrom, withTimes}
 
 tape-kept : (xs : List ℕ) (i : ℕ) → withTape xs i (tapeFrom xs i) ≡ xs
 unfolding withTape

@@ -6,7 +6,7 @@ use Rattle.outcome.specs.declared.Refusal.{Refusal}
 use Rattle.outcome.specs.Numbers.{refusalNumber}
 use Rattle.timeline_rule.specs.Model.Timeline.{Reply, refused, answered}
 use Rattle.timeline_rule.specs.Model.Kind.{Kind, TimelineOf}
-use Rattle.capi_numbers.specs.Model.Engines.{withTimes}
+use Rattle.capi_engines.specs.Model.Engines.{withTimes}
 use Rattle.capi_numbers.specs.Model.Answers.{refusedOut}
 use Rattle.capi_numbers.specs.Model.Timelines.{timelineNew, timelineNewCall}
 

@@ -5,7 +5,7 @@ use Rattle.outcome.specs.declared.Outcome.{Outcome}
 use Rattle.outcome.specs.Numbers.{refusalNumber, valuesOf}
 use Rattle.timeline_rule.specs.Model.Timeline.{Reply, refused, answered}
 use Rattle.timeline_rule.specs.Model.Kind.{Kind, TimelineOf}
-use Rattle.capi_numbers.specs.Model.Engines.{withTimes}
+use Rattle.capi_engines.specs.Model.Engines.{withTimes}
 use Rattle.capi_numbers.specs.Model.Answers.{refusedOut, valuesOut}
 
 -- ---- the reply of a call: its result, and the answer's values

@@ -10,7 +10,7 @@ use Rattle.rle.specs.declared.Fresh.the-variants as New
 use Rattle.rle.specs.Model.Engine.{conf}
 use Rattle.rle.specs.Model.Operations.{Given, given, Made, made}
 use Rattle.capi_numbers.specs.Model.Answers.{refusedOut}
-use Rattle.capi_numbers.specs.Model.Engines.{withChain}
+use Rattle.capi_engines.specs.Model.Engines.{withChain}
 use Rattle.capi_rle.specs.Model.Calls.{chainCall, HandedBack, chainRanCall, chainNewCall}
 
 pub chain-ran : (v : ChainSim) (ls ll rs rl xs ys out o : List ℕ) (n q c : ℕ) (g : Given) (a : Answer) → given (conf v ls ll rs rl) a ≡ g

@@ -10,7 +10,7 @@ use Rattle.timeline_rule.specs.Model.Kind.{TimelineOf}
 use Rattle.rle_slots.specs.Model.Kind.{chainKind}
 use Rattle.rle_timeline.specs.declared.Timeline.{Timeline}
 use Rattle.rle_timeline.specs.Model.{withLent, replied}
-use Rattle.capi_numbers.specs.Model.Engines.{withTimes}
+use Rattle.capi_engines.specs.Model.Engines.{withTimes}
 use Rattle.capi_rle.specs.Model.Calls.{HandedBack}
 use Rattle.capi_rle.specs.Model.Timelines.{chainTimelineCall, chainMovedCall}
 

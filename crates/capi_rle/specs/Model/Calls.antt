@@ -8,7 +8,7 @@ use Rattle.rle.specs.declared.ChainSim.{ChainSim}
 use Rattle.rle.specs.declared.Fresh.{Fresh}
 use Rattle.rle.specs.declared.Fresh.the-variants as New
 use Rattle.rle.specs.Model.Operations.{Given, Made}
-use Rattle.capi_numbers.specs.Model.Engines.{withChain}
+use Rattle.capi_engines.specs.Model.Engines.{withChain}
 use Rattle.capi_numbers.specs.Model.Answers.{refusedOut, answerCode, answerOut}
 
 -- ---- calls that hand back an engine

@@ -5,7 +5,7 @@ use Rattle.outcome.specs.declared.Outcome.{Outcome}
 use Rattle.timeline_rule.specs.Model.Timeline.{Reply}
 use Rattle.timeline_rule.specs.Model.Kind.{TimelineOf}
 use Rattle.rle_slots.specs.Model.Kind.{chainKind}
-use Rattle.capi_numbers.specs.Model.Engines.{withChain, withTimes}
+use Rattle.capi_engines.specs.Model.Engines.{withChain, withTimes}
 use Rattle.capi_numbers.specs.Model.Timelines.{replyCode, replyOut}
 
 pub record ChainTimelineCall : Type 0 where

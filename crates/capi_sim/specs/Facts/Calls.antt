@@ -10,7 +10,7 @@ use Rattle.sim.specs.declared.StepAnswer.{StepAnswer}
 use Rattle.sim.specs.declared.Fresh.the-variants as New
 use Rattle.sim.specs.Model.Engine.{conf}
 use Rattle.sim.specs.Model.Operations.{Given, given, StepGiven, stepGiven, Made, made}
-use Rattle.capi_numbers.specs.Model.Engines.{withEngine}
+use Rattle.capi_engines.specs.Model.Engines.{withEngine}
 use Rattle.capi_numbers.specs.Model.Answers.{refusedOut, stepCode, stepOut}
 use Rattle.capi_sim.specs.Model.Calls.{call, HandedBack, ranCall, stepCall, newCall}
 

@@ -10,7 +10,7 @@ use Rattle.timeline_rule.specs.Model.Kind.{TimelineOf}
 use Rattle.sim_slots.specs.Model.Kind.{plainKind}
 use Rattle.sim_timeline.specs.declared.Timeline.{Timeline}
 use Rattle.sim_timeline.specs.Model.{withLent, replied}
-use Rattle.capi_numbers.specs.Model.Engines.{withTimes}
+use Rattle.capi_engines.specs.Model.Engines.{withTimes}
 use Rattle.capi_sim.specs.Model.Calls.{HandedBack}
 use Rattle.capi_sim.specs.Model.Timelines.{timelineCall, movedCall}
 

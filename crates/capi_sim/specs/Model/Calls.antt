@@ -8,7 +8,7 @@ use Rattle.sim.specs.declared.Simulator.{Simulator}
 use Rattle.sim.specs.declared.Fresh.{Fresh}
 use Rattle.sim.specs.declared.Fresh.the-variants as New
 use Rattle.sim.specs.Model.Operations.{Given, StepGiven, Made}
-use Rattle.capi_numbers.specs.Model.Engines.{withEngine}
+use Rattle.capi_engines.specs.Model.Engines.{withEngine}
 use Rattle.capi_numbers.specs.Model.Answers.{refusedOut, answerCode, answerOut, stepCode, stepOut}
 
 -- ---- calls that hand back an engine

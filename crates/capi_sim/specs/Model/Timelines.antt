@@ -5,7 +5,7 @@ use Rattle.outcome.specs.declared.Outcome.{Outcome}
 use Rattle.timeline_rule.specs.Model.Timeline.{Reply}
 use Rattle.timeline_rule.specs.Model.Kind.{TimelineOf}
 use Rattle.sim_slots.specs.Model.Kind.{plainKind}
-use Rattle.capi_numbers.specs.Model.Engines.{withEngine, withTimes}
+use Rattle.capi_engines.specs.Model.Engines.{withEngine, withTimes}
 use Rattle.capi_numbers.specs.Model.Timelines.{replyCode, replyOut}
 
 pub record TimelineCall : Type 0 where

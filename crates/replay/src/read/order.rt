@@ -1,6 +1,5 @@
 // The order of a run: its stop rule and its fuel.
 use crate::rows;
-use capi_numbers::engines;
 use sim::StopRule;
 
 pub(crate) struct Order {
@@ -12,7 +11,7 @@ pub(crate) struct Order {
 
 pub(crate) fn read(row: &[u64], at: usize) -> Order {
     Order {
-        rule: engines::rule_of(rows::number(row, at)),
+        rule: capi_engines::rule_of(rows::number(row, at)),
         fuel: rows::number(row, rows::past(at, 1)),
         next: rows::past(at, 2),
     }

@@ -1,7 +1,6 @@
 // Most rows begin with a machine and its table.
 use super::lists;
 use crate::rows;
-use capi_numbers::engines;
 use machine::Machine;
 
 // The most entries of a table, and the bytes of so many.
@@ -87,7 +86,7 @@ fn read_entries(row: &[u64], first: usize, count: usize, width: usize) -> [u8; T
 
 // Reads the machine's four numbers, the number of defined entries, and these entries.
 pub(crate) fn read(row: &[u64]) -> Case {
-    let machine = engines::machine_of(
+    let machine = capi_engines::machine_of(
         rows::number(row, 0),
         rows::number(row, 1),
         rows::number(row, 2),

@@ -11,4 +11,4 @@ pub tm-chain-right-spec : {M : Type 1} → stated.statement M
 unfolding code.routine
 tm-chain-right-spec 𝓤 H 𝓜 𝓖 𝓡 =
     exported 𝓤 H 𝓜 𝓖 𝓡 right list.name code.env #this list.routine (list-thm.met 𝓤 H 𝓜 𝓖 𝓡) (code.unfolded 𝓤 H 𝓜 𝓡)
-    code.calls-capi-numbers·engines·machine-of code.calls-capi-numbers·engines·chain-of code.calls-rle·ChainSim·right code.calls-capi-numbers·parts·put-listed
+    code.calls-capi-engines·machine-of code.calls-capi-engines·chain-of code.calls-rle·ChainSim·right code.calls-capi-numbers·parts·put-listed

@@ -9,7 +9,7 @@ use tape::Tape;
 use timeline_rule::Times;
 ghost use mathlib.Core.Path.{_≡_};
 ghost use Prim.Native.Nat.{_+_, _≤_, _<_};
-ghost use Rattle.capi_numbers.specs.Model.Engines.{machineOf, tapeFrom, engineOf, withTape, withEngine, ruleOf, chainOf, withChain, timesFrom, withTimes};
+ghost use Rattle.capi_engines.specs.Model.Engines.{machineOf, tapeFrom, engineOf, withTape, withEngine, ruleOf, chainOf, withChain, timesFrom, withTimes};
 
 pub fn machine_of(tapes: u64, symbols: u64, states: u64, start: u64) -> Machine
     ensures { λ r. ⌜ r ≡ machineOf tapes symbols states start ⌝ }

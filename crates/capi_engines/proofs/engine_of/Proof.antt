@@ -1,7 +1,7 @@
-use Rattle.capi_numbers.specs.Facts.Engines.{engine-read}
+use Rattle.capi_engines.specs.Facts.Engines.{engine-read}
 use borrow.Author.Needs.{needs}
-use Rattle.capi_numbers.proofs.engines.engine_of.Statement.{statement}
-use Rattle.capi_numbers.proofs.engines.engine_of.Tie as tie
+use Rattle.capi_engines.proofs.engine_of.Statement.{statement}
+use Rattle.capi_engines.proofs.engine_of.Tie as tie
 
 tape-from-requires : tie.Need-tape-from-requires
 tape-from-requires c κs = search needs

@@ -6,7 +6,7 @@ use lib.ListN.{getD, set}
 use Rattle.symbol.specs.Kinds.{stateOf}
 use Rattle.tape.specs.declared.Tape.{Tape}
 use Rattle.sim.specs.declared.Simulator.{Simulator}
-use Rattle.capi_numbers.specs.Model.Engines.{tapeFrom, engineOf, withTape, withEngine}
+use Rattle.capi_engines.specs.Model.Engines.{tapeFrom, engineOf, withTape, withEngine}
 
 pub engine-read : (q : ℕ) (xs : List ℕ) (t0 t1 t2 : Tape) → t0 ≡ tapeFrom xs 1 → t1 ≡ tapeFrom xs 6 → t2 ≡ tapeFrom xs 11
     → _≡_ {A = Simulator} (record { state = stateOf q; steps = getD xs 0 0; t0 = t0; t1 = t1; t2 = t2 }) (engineOf q xs)

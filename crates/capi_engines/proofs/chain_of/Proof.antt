@@ -1,8 +1,8 @@
 use mathlib.Core.Path.{refl}
-use Rattle.capi_numbers.specs.Model.Engines.{chainOf}
+use Rattle.capi_engines.specs.Model.Engines.{chainOf}
 use borrow.Author.Needs.{needs}
-use Rattle.capi_numbers.proofs.engines.chain_of.Statement.{statement}
-use Rattle.capi_numbers.proofs.engines.chain_of.Tie as tie
+use Rattle.capi_engines.proofs.chain_of.Statement.{statement}
+use Rattle.capi_engines.proofs.chain_of.Tie as tie
 
 element-copy-out-t7 : tie.Need-element-copy-out-t7
 element-copy-out-t7 c = search needs

@@ -1,8 +1,8 @@
 use mathlib.Core.Path.{refl}
-use Rattle.capi_numbers.specs.Model.Engines.{timesFrom}
+use Rattle.capi_engines.specs.Model.Engines.{timesFrom}
 use borrow.Author.Needs.{needs}
-use Rattle.capi_numbers.proofs.engines.times_of.Statement.{statement}
-use Rattle.capi_numbers.proofs.engines.times_of.Tie as tie
+use Rattle.capi_engines.proofs.times_of.Statement.{statement}
+use Rattle.capi_engines.proofs.times_of.Tie as tie
 
 element-copy-out-t4 : tie.Need-element-copy-out-t4
 element-copy-out-t4 c = search needs

@@ -1,7 +1,7 @@
 use Rattle.notation.specs.Facts.Tests.{tests}
 use borrow.Author.Needs.{needs}
-use Rattle.capi_numbers.proofs.engines.rule_of.Statement.{statement}
-use Rattle.capi_numbers.proofs.engines.rule_of.Tie as tie
+use Rattle.capi_engines.proofs.rule_of.Statement.{statement}
+use Rattle.capi_engines.proofs.rule_of.Tie as tie
 
 cast-t3 : tie.Need-cast-t3
 cast-t3 c = search needs

@@ -1,7 +1,7 @@
-use Rattle.capi_numbers.specs.Facts.Engines.{engine-stored}
+use Rattle.capi_engines.specs.Facts.Engines.{engine-stored}
 use borrow.Author.Needs.{needs}
-use Rattle.capi_numbers.proofs.engines.put_engine.Statement.{statement}
-use Rattle.capi_numbers.proofs.engines.put_engine.Tie as tie
+use Rattle.capi_engines.proofs.put_engine.Statement.{statement}
+use Rattle.capi_engines.proofs.put_engine.Tie as tie
 
 element-write-xs : tie.Need-element-write-xs
 element-write-xs c = search needs

@@ -1,8 +1,8 @@
-use Rattle.capi_numbers.specs.Model.Engines.{withTape}
+use Rattle.capi_engines.specs.Model.Engines.{withTape}
 use mathlib.Core.Path.{refl}
 use borrow.Author.Needs.{needs}
-use Rattle.capi_numbers.proofs.engines.put_tape.Statement.{statement}
-use Rattle.capi_numbers.proofs.engines.put_tape.Tie as tie
+use Rattle.capi_engines.proofs.put_tape.Statement.{statement}
+use Rattle.capi_engines.proofs.put_tape.Tie as tie
 
 mul-xs : tie.Need-mul-xs
 mul-xs c = search needs
