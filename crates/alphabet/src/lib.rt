@@ -1,4 +1,6 @@
 // The encoder, which turns a word of glyphs into tape symbols.
+#![tactic(auto)]
+
 ghost use Rattle.std.specs.Prelude.{◌≡◌, ◌≤◌, length};
 ghost use Rattle.notation.specs.Fill.{fill_from};
 ghost use Rattle.alphabet.specs.Model.{symbol_for, is_input, allowed_on, byte_on, byte_at, glyphs_check, encode_check, encode_into};

@@ -1,5 +1,7 @@
 // The engines, their timelines, the encoder and the one-line form as functions with C linkage, on numbers and slices. Each returns 0, or
 // the number of its refusal.
+#![tactic(auto)]
+
 pub mod chain;
 pub mod chain_questions;
 pub mod chain_timelines;

@@ -1,4 +1,6 @@
 // Engines as numbers, and a timeline's own numbers, as they cross the C boundary.
+#![tactic(auto)]
+
 ghost use Rattle.std.specs.Prelude.{◌≡◌, ◌+◌, ◌≤◌, ◌<◌};
 ghost use Rattle.capi_engines.specs.Model.Engines.{machine_of, tape_from, engine_of, with_tape, with_engine, rule_of, chain_of, with_chain, times_from, with_times};
 

@@ -56,7 +56,7 @@ pub fn put_answer(xs: &mut [u64; 8], answer: Answer) -> u8
 {
     match answer {
         Answer::Done(outcome) => {
-            put_values(xs, outcome.as_values());
+            put_values(xs, outcome.to_values());
             return 0;
         }
         Answer::Refused(why) => {

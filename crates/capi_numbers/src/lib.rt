@@ -1,3 +1,5 @@
 // Answers, entries, packed words and runs as numbers, for the functions with C linkage.
+#![tactic(auto)]
+
 pub mod answers;
 pub mod parts;

@@ -1,5 +1,7 @@
 // The calls of the run-length engine and of its timeline, on numbers and slices, for the functions with C linkage: a
 // fresh engine, and a run. Each returns 0, or the number of its refusal.
+#![tactic(auto)]
+
 pub mod questions;
 pub mod timelines;
 

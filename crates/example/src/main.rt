@@ -1,4 +1,6 @@
 // How to call the library from Rattle: document 01's listing table on the blank word, by both engines and a timeline.
+#![tactic(auto)]
+
 ghost use Rattle.std.specs.Prelude.{◌<◌};
 
 use machine::Machine;

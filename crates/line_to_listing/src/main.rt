@@ -3,6 +3,8 @@
 // and its place where it has one. It reads at most 65,536 bytes: the first 65,536 have the same answer as the whole input
 // (`answer-first`, in the specs). Where a read fails, it writes nothing to standard output and one line to standard
 // error. Where a write fails, it writes one line to standard error.
+#![tactic(auto)]
+
 ghost use Rattle.std.specs.Prelude.{◌≡◌, ◌≤◌, length};
 ghost use Rattle.io.specs.Counts.{IsPrefixLen};
 ghost use Rattle.listing_text.specs.Model.{Wrote};

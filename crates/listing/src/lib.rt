@@ -1,4 +1,6 @@
 // The listing: makes the calls of an input on the plain engine's timeline, and prints their rows.
+#![tactic(auto)]
+
 ghost use Rattle.std.specs.Prelude.{◌≡◌, length};
 ghost use Rattle.listing.specs.Output.{list_of, PrintedIn};
 

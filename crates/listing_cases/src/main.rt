@@ -1,6 +1,8 @@
 // Runs the listing on each pair of data/: NNN.in is an input, and NNN.out is the output that it must print. Writes a
 // line for each pair that differs, and at the end the number of pairs and the number that differ. A file that cannot be
 // read counts as one that differs. Where the last line cannot be written, it writes one line to standard error.
+#![tactic(auto)]
+
 ghost use Rattle.std.specs.Prelude.{◌<◌};
 ghost use Rattle.io.specs.Counts.{IsPrefixLen};
 

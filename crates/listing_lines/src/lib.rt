@@ -1,4 +1,6 @@
 // The lines of a listing: the fixed ones, and those that contain numbers.
+#![tactic(auto)]
+
 ghost use Rattle.std.specs.Prelude.{◌≡◌};
 ghost use Rattle.listing_text.specs.Pieces.{field, same_list};
 ghost use Rattle.listing_lines.specs.Forms.{first_line, columns_line, word_line, heading_line, machine_ok, machine_line, move, entry_line, call_line};

@@ -1,4 +1,6 @@
 // The reader of a listing: from bytes to a machine, its table, a word and calls, or to the first bad line.
+#![tactic(auto)]
+
 ghost use Rattle.std.specs.Prelude.{◌≡◌};
 ghost use Rattle.listing_reader.specs.Contents.{contents_of};
 

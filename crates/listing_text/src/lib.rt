@@ -1,4 +1,6 @@
 // Text as bytes: decimal numbers, fields of a line, and printing.
+#![tactic(auto)]
+
 ghost use Rattle.std.specs.Prelude.{◌≡◌};
 ghost use Rattle.listing_text.specs.Numbers.{is_digit, digits, number};
 ghost use Rattle.listing_text.specs.Pieces.{same_list};

@@ -1,4 +1,6 @@
 // The machine's numbers, its table of eight-byte entries, the table check, and packed words.
+#![tactic(auto)]
+
 ghost use Rattle.std.specs.Prelude.{◌≡◌, length};
 ghost use Rattle.machine.specs.Layout.{single_of};
 ghost use Rattle.machine.specs.Model.Check.{table_check, lookup_of};

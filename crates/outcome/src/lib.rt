@@ -1,4 +1,6 @@
 // The answers of operations: how a run ended, and why an operation was refused.
+#![tactic(auto)]
+
 ghost use Rattle.std.specs.Prelude.{◌≡◌};
 ghost use Rattle.std.proofs.Math.Option.{some};
 ghost use Rattle.outcome.specs.Numbers.{status_number, proof_number, proof_state, outcome_number, steps_of, is_halted, values, values_of, said_of, refusal_number, place_of};
@@ -114,7 +116,7 @@ impl Outcome {
         self.number() == 0
     }
 
-    pub fn as_values(self) -> Values
+    pub fn to_values(self) -> Values
         ensures { result ≡ values_of self }
     {
         match self {

@@ -1,4 +1,6 @@
 // Input read whole, for programs: a read that fails is no end of input.
+#![tactic(auto)]
+
 ghost use Rattle.io.specs.Counts.{IsPrefixLen};
 
 // How many bytes were read, and whether a read failed after them.

@@ -1,5 +1,7 @@
 // Replays a fixed list of the Rust's answers: each file of the data holds the cases of one kind, a line for each.
 // Prints for each kind how many cases there are, and for how many the port's answers differ.
+#![tactic(auto)]
+
 mod chain;
 mod compare;
 mod plain;

@@ -1,4 +1,6 @@
 // The run-length engine: a machine of one tape, whose tape is two stacks of runs around the cell under the head.
+#![tactic(auto)]
+
 ghost use Rattle.std.specs.Prelude.{◌≡◌};
 ghost use Rattle.rle.specs.Model.Engine.{conf};
 ghost use Rattle.rle.specs.Model.Operations.{given, run_answer, made, new_answer};

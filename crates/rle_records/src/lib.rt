@@ -1,4 +1,6 @@
 // The runs of one side of a tape as records, symbol and length together, in a slice that the caller lends.
+#![tactic(auto)]
+
 use outcome::Refusal;
 use symbol::Symbol;
 

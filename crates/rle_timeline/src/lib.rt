@@ -1,4 +1,6 @@
 // A timeline over the run-length engine: seek, forward and back over slots in a lent store.
+#![tactic(auto)]
+
 ghost use Rattle.std.specs.Prelude.{◌≡◌};
 ghost use Rattle.rle.specs.Model.Engine.{conf};
 ghost use Rattle.timeline_rule.specs.Model.Timeline.{seek, forward, back, call_for};

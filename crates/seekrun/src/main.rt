@@ -2,6 +2,8 @@
 // 65,536 have the same answer as the whole input (`answer-first`, in the specs of listing). Where a read fails, it
 // writes nothing to standard output and one line to standard error. Where a write fails, it writes one line to standard
 // error.
+#![tactic(auto)]
+
 use listing::Listed;
 
 // Writes the answer; where this fails, writes a line to standard error.

@@ -1,4 +1,6 @@
 // The plain engine: one step at a time, on one to three dense tapes.
+#![tactic(auto)]
+
 ghost use Rattle.std.specs.Prelude.{◌≡◌};
 ghost use Rattle.sim.specs.Model.Engine.{conf, status_of};
 ghost use Rattle.sim.specs.Model.Operations.{given, run_answer, fast_answer, step_given, step_answer, step_answer_of, made, new_answer};

@@ -1,4 +1,6 @@
 // A timeline over the plain engine: seek, forward and back over slots in a lent store.
+#![tactic(auto)]
+
 ghost use Rattle.std.specs.Prelude.{◌≡◌};
 ghost use Rattle.sim.specs.Model.Engine.{conf};
 ghost use Rattle.timeline_rule.specs.Model.Timeline.{seek, forward, back, call_for};

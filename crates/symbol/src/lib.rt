@@ -1,4 +1,6 @@
 // Tape symbols, states and head moves.
+#![tactic(auto)]
+
 ghost use Rattle.std.specs.Prelude.{◌≡◌, ◌≤◌, eqb};
 ghost use Rattle.symbol.specs.Kinds.{symbol_of, state_of, dir_number, delta_of, reversed_of};
 

@@ -1,2 +1,4 @@
 // The meaning of a table's bytes, without any type of a machine.
+#![tactic(auto)]
+
 pub mod inner;

@@ -1,4 +1,6 @@
 // Tables of one tape in the one-line form, as `1RB1LB_1LA1RZ`: reading a line, and writing one.
+#![tactic(auto)]
+
 ghost use Rattle.std.specs.Prelude.{◌≡◌, length};
 ghost use Rattle.table_text_reader.specs.Reading.{read_of, read_into};
 ghost use Rattle.table_text_writer.specs.Writing.{write_of, write_into};

@@ -1,6 +1,8 @@
 // The one-line form of a table, as an automaton that reads a line byte by byte: definitions and theorems, no code.
 
 // How much of an entry the bytes before a place have: nothing; its symbol; its symbol and its move; one dash; two dashes.
+#![tactic(auto)]
+
 #[derive(Drop)]
 pub enum Phase {
     Between,

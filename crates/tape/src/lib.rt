@@ -1,4 +1,6 @@
 // One dense tape over a lent slice.
+#![tactic(auto)]
+
 pub mod inner;
 
 // The first `len` of the lent cells are the tape's. The other numbers are indexes into them: of position 0, of the

@@ -1,2 +1,4 @@
 // The cells of a tape by position.
+#![tactic(auto)]
+
 pub mod inner;

@@ -1,5 +1,7 @@
 // A timeline's own numbers, for an engine of either kind: its settings, the number of slots recorded, and the step at
 // which the next slot is due. The specs define the timeline over any engine.
+#![tactic(auto)]
+
 ghost use Rattle.std.specs.Prelude.{◌≡◌};
 ghost use Rattle.timeline_rule.specs.Model.Timeline.{new_ok};
 
