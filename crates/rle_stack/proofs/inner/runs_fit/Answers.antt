@@ -1,0 +1,20 @@
+use Rattle.std.proofs.Common.{rules}
+use Prim.Native.Nat.{◌-◌}
+use mathlib.Core.Path.{◌≡◌, sym, ◌∙◌}
+use borrow.Author.Tests.{not-true, not-false}
+use Rattle.notation.specs.Scan.{all_in}
+use Rattle.notation.specs.Facts.Scan.{all_hit, all_next, all_end}
+use native.Mathlib.Nat.{sub-zero}
+use Rattle.rle_stack.specs.Model.{run_fits, runs_fit}
+use Rattle.rle_stack.proofs.inner.runs_fit.Goals as goal
+
+pub returns-then-not-run_fits : goal.returns-then-not-run_fits
+unfolding runs_fit
+returns-then-not-run_fits c = all_hit _ _ _ _ c.loop-i.invariant c.loop-i-test.true (sym c.run_fits.ensures ∙ c.if-not-run_fits.true)
+
+pub loop-i-preserved : goal.loop-i-preserved
+loop-i-preserved c = all_next _ _ _ _ c.loop-i.invariant c.loop-i-test.true (sym c.run_fits.ensures ∙ c.if-not-run_fits.false)
+
+pub returns : goal.returns
+unfolding runs_fit
+returns c = search all_end

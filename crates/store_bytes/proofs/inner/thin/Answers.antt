@@ -1,0 +1,15 @@
+use Rattle.std.proofs.Common.{rules}
+use Rattle.store_bytes.specs.Facts.LoopCases.{thin_turn, thin_end, thin_room}
+use Rattle.store_bytes.specs.Model.{thin_by, move_slot}
+use lib.ListN.{length}
+use native.Mathlib.Omega.{arith}
+use mathlib.Core.Path.{◌≡◌, refl}
+use Prim.Native.Nat.{◌-◌, ◌≤◌}
+use Rattle.store_bytes.proofs.inner.thin.Goals as goal
+
+pub loop-i-init : goal.loop-i-init
+unfolding thin_by
+loop-i-init c = (omega arith, refl, refl)
+
+pub loop-i-preserved : goal.loop-i-preserved
+loop-i-preserved c = (omega arith, search rules, search thin_turn)

@@ -1,0 +1,20 @@
+use Rattle.std.proofs.Common.{rules}
+use Rattle.notation.specs.Facts.Scan.{first_next}
+use Rattle.symbol.specs.Facts.Found.{first_found, first_nowhere}
+use Rattle.table_bytes.specs.Model.Entries.{entry_for}
+use borrow.Author.Tests.{not-true, not-false}
+use Rattle.notation.specs.Scan.{first_fail}
+use mathlib.Core.Path.{◌≡◌, sym, ◌∙◌}
+use native.Mathlib.Omega.{arith}
+use native.Mathlib.Nat.{sub-zero}
+use Prim.Native.Nat.{◌-◌}
+use Rattle.table_bytes.proofs.inner.first_bad.Goals as goal
+
+pub returns-then-not-entry_ok : goal.returns-then-not-entry_ok
+returns-then-not-entry_ok c = first_found _ _ _ _ c.loop-i.invariant (omega arith) (sym c.entry_ok.ensures ∙ c.if-not-entry_ok.true)
+
+pub loop-i-preserved : goal.loop-i-preserved
+loop-i-preserved c = first_next _ _ _ _ c.loop-i.invariant (omega arith) (sym c.entry_ok.ensures ∙ c.if-not-entry_ok.false)
+
+pub returns : goal.returns
+returns c = search first_nowhere

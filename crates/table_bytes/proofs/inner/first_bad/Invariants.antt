@@ -1,0 +1,16 @@
+use Rattle.notation.specs.Facts.Scan.{first_next}
+use Rattle.symbol.specs.Facts.Found.{first_found, first_nowhere}
+use Rattle.table_bytes.specs.Model.Entries.{entry_for}
+use borrow.Author.Tests.{not-true, not-false}
+use Rattle.notation.specs.Scan.{first_fail}
+use mathlib.Core.Path.{◌≡◌, sym, ◌∙◌}
+use native.Mathlib.Omega.{arith}
+use native.Mathlib.Nat.{sub-zero}
+use Prim.Native.Nat.{◌-◌}
+use Rattle.table_bytes.proofs.inner.first_bad.Given as goal
+
+abbrev pub invariant-loop-i : goal.invariant-loop-i
+invariant-loop-i l = first_fail (entry_for l.n l.t l.k l.table) (l.count - l.i) l.i ≡ first_fail (entry_for l.n l.t l.k l.table) l.count 0
+
+abbrev pub decreases-loop-i : goal.decreases-loop-i
+decreases-loop-i l = l.count - l.i

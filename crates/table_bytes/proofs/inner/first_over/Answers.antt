@@ -1,0 +1,21 @@
+use Rattle.std.proofs.Common.{rules}
+use native.Mathlib.Omega.{arith}
+use Rattle.notation.specs.Facts.Scan.{first_next}
+use Rattle.symbol.specs.Facts.Found.{first_found, first_nowhere}
+use Rattle.symbol.specs.Kinds.{symbol_in}
+use Rattle.notation.specs.Scan.{first_fail}
+use borrow.Author.Tests.{lt-ltb, le-ltb}
+use lib.ListN.{length}
+use native.Mathlib.Nat.{sub-zero}
+use mathlib.Core.Path.{◌≡◌}
+use Prim.Native.Nat.{◌-◌}
+use Rattle.table_bytes.proofs.inner.first_over.Goals as goal
+
+pub returns-then-k-x : goal.returns-then-k-x
+returns-then-k-x c = search (first_found, le-ltb)
+
+pub loop-i-preserved : goal.loop-i-preserved
+loop-i-preserved c = search (first_next, lt-ltb)
+
+pub returns : goal.returns
+returns c = search first_nowhere

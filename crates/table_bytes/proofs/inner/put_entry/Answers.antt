@@ -1,0 +1,8 @@
+use Rattle.std.proofs.Common.{rules}
+use native.Mathlib.Omega.{arith}
+use lib.ListN.{length-set}
+use Rattle.table_bytes.specs.Facts.Written.{entry_written}
+use Rattle.table_bytes.proofs.inner.put_entry.Goals as goal
+
+pub returns : goal.returns
+returns c = entry_written _ _ _ _ _ _ _ c.requires

@@ -1,0 +1,19 @@
+use Rattle.std.proofs.Common.{rules}
+use native.Mathlib.Omega.{arith}
+use Prim.Native.Nat.{◌-◌}
+use mathlib.Core.Path.{◌≡◌}
+use Rattle.notation.specs.Scan.{all_in}
+use Rattle.notation.specs.Facts.Scan.{all_hit, all_next, all_end}
+use Rattle.notation.specs.Facts.Tests.{tests}
+use native.Mathlib.Nat.{sub-zero}
+use Rattle.symbol.specs.Kinds.{symbol_in}
+use Rattle.tape_cells.proofs.inner.all_below.Goals as goal
+
+pub returns-then-k-x : goal.returns-then-k-x
+returns-then-k-x c = search (all_hit, tests)
+
+pub loop-i-preserved : goal.loop-i-preserved
+loop-i-preserved c = search (all_next, tests)
+
+pub returns : goal.returns
+returns c = search all_end

@@ -1,0 +1,17 @@
+use Rattle.std.proofs.Common.{rules}
+use Prim.Native.Nat.{◌-◌}
+use mathlib.Core.Path.{◌≡◌, refl}
+use Rattle.notation.specs.Scan.{all_in}
+use Rattle.notation.specs.Facts.Scan.{all_hit, all_next, all_end}
+use Rattle.notation.specs.Facts.Tests.{tests}
+use Rattle.tape_cells.specs.Model.{blank_at}
+use Rattle.tape_cells.proofs.inner.all_blank.Goals as goal
+
+pub returns-then-cells-i-ne0 : goal.returns-then-cells-i-ne0
+returns-then-cells-i-ne0 c = search (all_hit, tests)
+
+pub loop-i-preserved : goal.loop-i-preserved
+loop-i-preserved c = search (all_next, tests)
+
+pub returns : goal.returns
+returns c = search all_end

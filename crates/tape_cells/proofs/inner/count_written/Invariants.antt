@@ -1,0 +1,14 @@
+use Prim.Native.Nat.{◌≤◌, ◌-◌}
+use mathlib.Core.Path.{◌≡◌, refl}
+use Rattle.notation.specs.ScanDown.{count_fails}
+use Rattle.notation.specs.Facts.ScanDown.{count_turn, count_end}
+use Rattle.tape_cells.specs.Model.{blank_at}
+use native.Mathlib.Omega.{arith}
+use Rattle.tape_cells.proofs.inner.count_written.Given as goal
+
+abbrev pub invariant-loop-i : goal.invariant-loop-i
+invariant-loop-i l =
+    (l.i ≤ l.n) × (l.count ≤ l.i) × (l.count ≡ count_fails (blank_at l.cells) l.i)
+
+abbrev pub decreases-loop-i : goal.decreases-loop-i
+decreases-loop-i l = l.n - l.i

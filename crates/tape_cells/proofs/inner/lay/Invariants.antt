@@ -1,0 +1,17 @@
+use Prim.Native.Nat.{◌≤◌, ◌+◌, ◌-◌}
+use mathlib.Core.Path.{◌≡◌, refl}
+use lib.ListN.{length, length-set}
+use Rattle.notation.specs.Fill.{fill_from}
+use Rattle.notation.specs.Facts.Fill.{fill_next, fill_end}
+use Rattle.notation.specs.Facts.Tests.{tests}
+use Rattle.tape_cells.specs.Facts.LoopCases.{lay-start}
+use Rattle.tape_cells.specs.Model.{placed, laid}
+use native.Mathlib.Omega.{arith}
+use Rattle.tape_cells.proofs.inner.lay.Given as goal
+
+abbrev pub invariant-loop-i : goal.invariant-loop-i
+invariant-loop-i l =
+    (l.to ≡ l.at + length l.word) × (l.at ≤ l.i) × (length l.cells ≡ length l.initial.cells) × (fill_from (placed l.at l.word) (l.to - l.i) l.i l.cells ≡ laid l.at l.word l.initial.cells)
+
+abbrev pub decreases-loop-i : goal.decreases-loop-i
+decreases-loop-i l = l.to - l.i
