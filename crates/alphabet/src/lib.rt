@@ -14,7 +14,7 @@ use symbol::Symbol;
 const MOST_SYMBOLS: usize = 256;
 
 // The symbol of a glyph, if it has one.
-#[derive(Drop)]
+#[derive(Clone, Copy)]
 pub enum Named {
     Missing,
     Found(Symbol),

@@ -13,7 +13,7 @@ mod printed;
 const OUTPUT: usize = 8743;
 
 // The number of bytes printed into the output, or the refusal.
-#[derive(Drop)]
+#[derive(Clone, Copy)]
 pub enum Listed {
     Printed(usize),
     Refused(Refusal),

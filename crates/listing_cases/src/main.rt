@@ -9,7 +9,7 @@ ghost use Rattle.io.specs.Counts.{IsPrefixLen};
 use listing::Listed;
 
 // The result for one number.
-#[derive(Drop)]
+#[derive(Clone, Copy)]
 enum Pair {
     Same,
     Differs,

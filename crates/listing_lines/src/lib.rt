@@ -11,14 +11,14 @@ use machine::Machine;
 
 pub mod inner;
 
-#[derive(Drop)]
+#[derive(Clone, Copy)]
 pub enum MachineLine {
     Of(Machine),
     Bad,
 }
 
 // An entry line's numbers; `dir` is 0 for L, 1 for R, 2 for N.
-#[derive(Drop)]
+#[derive(Clone, Copy)]
 pub struct Rule {
     pub state: u64,
     pub read: u64,
@@ -27,27 +27,27 @@ pub struct Rule {
     pub next: u64,
 }
 
-#[derive(Drop)]
+#[derive(Clone, Copy)]
 pub enum EntryLine {
     Of(Rule),
     Bad,
 }
 
 // The number of symbols in a word line.
-#[derive(Drop)]
+#[derive(Clone, Copy)]
 pub enum Count {
     Of(usize),
     Bad,
 }
 
 // A call line's numbers; `kind` is 0 for seek, 1 for forward, 2 for back.
-#[derive(Drop)]
+#[derive(Clone, Copy)]
 pub struct CallCode {
     pub kind: u64,
     pub number: u64,
 }
 
-#[derive(Drop)]
+#[derive(Clone, Copy)]
 pub enum CallLine {
     Of(CallCode),
     Bad,

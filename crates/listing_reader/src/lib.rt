@@ -10,7 +10,7 @@ mod lines;
 mod turns;
 
 // The kind of line that is due.
-#[derive(Drop)]
+#[derive(Clone, Copy)]
 pub enum Due {
     Names,
     Numbers,
@@ -22,7 +22,7 @@ pub enum Due {
 }
 
 // The content of the lines so far, beside the lent table, word and calls. There are `word` symbols and `calls` calls.
-#[derive(Drop)]
+#[derive(Clone, Copy)]
 pub struct Reader {
     pub due: Due,
     pub machine: Machine,
@@ -31,14 +31,14 @@ pub struct Reader {
 }
 
 // The result of one line.
-#[derive(Drop)]
+#[derive(Clone, Copy)]
 pub(crate) enum Turn {
     On(Reader),
     Bad,
 }
 
 // What the whole input asks for, or the number of its first bad line.
-#[derive(Drop)]
+#[derive(Clone, Copy)]
 pub enum Parsed {
     Refused(u64),
     Asked(Reader),
@@ -47,7 +47,7 @@ pub enum Parsed {
 // The content of a whole input: what it asks for, its table, and its word and its calls in the first places of their
 // arrays. The other places hold 0. After a bad line the arrays hold what was read before it, and a bad word line's
 // symbols before the first bad one.
-#[derive(Drop)]
+#[derive(Clone, Copy)]
 pub struct Contents {
     pub parsed: Parsed,
     pub table: [u8; 4096],

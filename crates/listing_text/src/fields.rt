@@ -8,7 +8,7 @@ ghost use Rattle.listing_text.specs.Model.{IsField};
 use super::{Num, inner, read_number, same};
 
 // From index `start` to before `end`.
-#[derive(Drop)]
+#[derive(Clone, Copy)]
 pub(crate) struct Span {
     pub start: usize,
     pub end: usize,

@@ -10,7 +10,7 @@ pub mod fields;
 pub mod inner;
 
 // A number that was read.
-#[derive(Drop)]
+#[derive(Clone, Copy)]
 pub enum Num {
     Value(u64),
     Bad,

@@ -16,7 +16,7 @@ pub mod packed;
 pub mod word;
 
 // With t tapes, k symbols and n states the table has n × k^t entries of eight bytes.
-#[derive(Drop)]
+#[derive(Clone, Copy)]
 pub struct Machine {
     pub tapes: u64,
     pub symbols: u64,
@@ -26,7 +26,7 @@ pub struct Machine {
 
 // The action of a step: the next state and, for each tape, the symbol written and the move of the head.
 // For a tape that the machine lacks, the symbol is blank and the move is N.
-#[derive(Drop)]
+#[derive(Clone, Copy)]
 pub struct Action {
     pub next: State,
     pub write0: Symbol,
@@ -55,21 +55,21 @@ impl Action {
 }
 
 // An entry of the table.
-#[derive(Drop)]
+#[derive(Clone, Copy)]
 pub enum Entry {
     Undefined,
     Defined(Action),
 }
 
 // The answer of a check of a table or a word, and of packing and encoding.
-#[derive(Drop)]
+#[derive(Clone, Copy)]
 pub enum Checked {
     Accepted,
     Refused(Refusal),
 }
 
 // The answer of a lookup.
-#[derive(Drop)]
+#[derive(Clone, Copy)]
 pub enum Looked {
     Found(Entry),
     Refused(Refusal),

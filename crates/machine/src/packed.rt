@@ -8,7 +8,7 @@ use table_bytes::inner as bytes;
 
 // Byte 0 is the move, byte 1 the symbol written, bytes 2 and 3 the next state and bytes 4 to 7 the number
 // of that state's first entry, its row.
-#[derive(Drop)]
+#[derive(Clone, Copy)]
 pub struct Packed(pub u64);
 
 impl Packed {

@@ -8,7 +8,7 @@ ghost use Rattle.outcome.specs.Numbers.{status_number, proof_number, proof_state
 use symbol::{Dir, State};
 
 // The result of one step.
-#[derive(Drop)]
+#[derive(Clone, Copy)]
 pub enum Status {
     // An entry was defined, and the step was made.
     Running,
@@ -31,7 +31,7 @@ impl Status {
 }
 
 // The pattern, one of two, that shows that the machine never halts.
-#[derive(Drop)]
+#[derive(Clone, Copy)]
 pub enum NonHaltProof {
     // The entry keeps the state, and every tape stays and rewrites the symbol read.
     StayLoop { state: State },
@@ -61,7 +61,7 @@ impl NonHaltProof {
 }
 
 // How a run ended. `steps` is the whole step count since the start.
-#[derive(Drop)]
+#[derive(Clone, Copy)]
 pub enum Outcome {
     // No entry is defined in `state` for the symbols read.
     Halted { steps: u64, state: State },
@@ -76,7 +76,7 @@ pub enum Outcome {
 }
 
 // The number of an outcome and its values as numbers; a value that the outcome lacks is 0.
-#[derive(Drop)]
+#[derive(Clone, Copy)]
 pub struct Values {
     pub number: u8,
     pub steps: u64,
@@ -147,7 +147,7 @@ fn made(number: u8, steps: u64, state: u16, pattern: u8, dir: u8) -> Values
 }
 
 // Why an operation was refused: document 01's refusals and then document 02's, in the order of their numbers, 1 to 21.
-#[derive(Drop)]
+#[derive(Clone, Copy)]
 pub enum Refusal {
     // The number of tapes is not 1 to 3.
     Tapes,
@@ -194,14 +194,14 @@ pub enum Refusal {
 }
 
 // The place that a refusal gives, where it gives one.
-#[derive(Drop)]
+#[derive(Clone, Copy)]
 pub enum Place {
     At(u64),
     Unsaid,
 }
 
 // What a refusal says: its number, and its place.
-#[derive(Drop)]
+#[derive(Clone, Copy)]
 struct Said(u8, Place);
 
 impl Refusal {

@@ -11,7 +11,7 @@ use rle::{ChainSim, Fresh};
 use sim::StopRule;
 
 // What the engine does in a case.
-#[derive(Drop)]
+#[derive(Clone, Copy)]
 pub(crate) enum Act {
     Run,
     Ask,

@@ -15,7 +15,7 @@ use read::{lines, lists, table};
 use rows::PLACES;
 
 // The kind of the cases in a file.
-#[derive(Drop)]
+#[derive(Clone, Copy)]
 enum Kind {
     On(Engine),
     Pack,
@@ -23,14 +23,14 @@ enum Kind {
 }
 
 // The engine, and what it does in a case.
-#[derive(Drop)]
+#[derive(Clone, Copy)]
 enum Engine {
     Plain(plain::Act),
     Chain(chain::Act),
 }
 
 // Where the next line begins, how many cases there were, and how many differ.
-#[derive(Drop)]
+#[derive(Clone, Copy)]
 struct Tally {
     at: usize,
     cases: u64,

@@ -10,7 +10,7 @@ use machine::Machine;
 use sim::{Fresh, Simulator, StopRule};
 
 // What the engine does in a case.
-#[derive(Drop)]
+#[derive(Clone, Copy)]
 pub(crate) enum Act {
     Run,
     Fast,

@@ -13,7 +13,7 @@ pub(crate) const DIFFERS: usize = 4096;
 pub(crate) const STORE: usize = 524288;
 
 // A list in a row: the number of its items, the place of its first item, and the place past its last one.
-#[derive(Drop)]
+#[derive(Clone, Copy)]
 pub(crate) struct Items {
     pub count: usize,
     pub first: usize,

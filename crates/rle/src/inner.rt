@@ -20,14 +20,14 @@ use run_rules::StopRule;
 use symbol::State;
 
 // What comes next in a run, before the test for space: the run's end, or an entry to follow.
-#[derive(Drop)]
+#[derive(Clone, Copy)]
 pub enum Turn {
     Ends(Outcome),
     Takes(Step),
 }
 
 // An engine after a run, and how the run ended.
-#[derive(Drop)]
+#[derive(Clone, Copy)]
 pub struct Ran {
     pub sim: ChainSim,
     pub outcome: Outcome,

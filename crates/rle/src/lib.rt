@@ -20,7 +20,7 @@ mod sides;
 
 // The tape. The runs of each side lie in lent places; `left` and `right` are the numbers of live runs. The head's
 // position is raised by 2^63.
-#[derive(Drop)]
+#[derive(Clone, Copy)]
 pub struct RunTape {
     pub left: usize,
     pub cur: u8,
@@ -30,7 +30,7 @@ pub struct RunTape {
 
 // The engine's value: state, steps, macro steps, tape, and the lowest and the highest head so far, also raised by 2^63.
 // The places are lent to each call: symbols `ls` and lengths `ll` of the left side, `rs` and `rl` of the right.
-#[derive(Drop)]
+#[derive(Clone, Copy)]
 pub struct ChainSim {
     pub state: State,
     pub steps: u64,
@@ -41,14 +41,14 @@ pub struct ChainSim {
 }
 
 // A fresh engine, or why there is none.
-#[derive(Drop)]
+#[derive(Clone, Copy)]
 pub enum Fresh {
     Made(ChainSim),
     Refused(Refusal),
 }
 
 // The engine handed back, with the answer.
-#[derive(Drop)]
+#[derive(Clone, Copy)]
 pub struct Answered {
     pub sim: ChainSim,
     pub answer: Answer,

@@ -8,14 +8,14 @@ pub mod inner;
 
 // A run: a symbol, and how many cells in a row hold it. A slice of runs crosses the C boundary.
 #[repr(C)]
-#[derive(Drop)]
+#[derive(Clone, Copy)]
 pub struct Run {
     pub symbol: Symbol,
     pub len: u64,
 }
 
 // The number of runs of the side, all written into the slice; or why the slice is unchanged.
-#[derive(Drop)]
+#[derive(Clone, Copy)]
 pub enum Listed {
     Filled(u64),
     Refused(Refusal),

@@ -23,14 +23,14 @@ use store_bytes::inner as little;
 use timeline_rule::inner::is_spent;
 
 // An engine after an advance, and the outcome there.
-#[derive(Drop)]
+#[derive(Clone, Copy)]
 pub struct Advanced {
     pub sim: ChainSim,
     pub outcome: Outcome,
 }
 
 // What a slot holds: no fitting engine, or an engine.
-#[derive(Drop)]
+#[derive(Clone, Copy)]
 pub enum Found {
     Nothing,
     Holds(ChainSim),

@@ -22,21 +22,21 @@ mod turns;
 
 // The engine's value and the timeline's own numbers. The table, the engine's buffers and the store of slots are lent to
 // each call.
-#[derive(Drop)]
+#[derive(Clone, Copy)]
 pub struct Timeline {
     pub engine: ChainSim,
     pub times: Times,
 }
 
 // The timeline handed back, with the answer.
-#[derive(Drop)]
+#[derive(Clone, Copy)]
 pub struct Answered {
     pub timeline: Timeline,
     pub answer: Answer,
 }
 
 // A new timeline, or the refusal.
-#[derive(Drop)]
+#[derive(Clone, Copy)]
 pub enum Begun {
     Made(Timeline),
     Refused(Refusal),

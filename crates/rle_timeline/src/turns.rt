@@ -18,7 +18,7 @@ use rle_slots::inner::Advanced;
 use timeline_rule::{Times, inner as sums};
 
 // The timeline after a turn, the outcome of its advance, and whether the turn is the last.
-#[derive(Drop)]
+#[derive(Clone, Copy)]
 pub(crate) struct Turn {
     pub timeline: Timeline,
     pub outcome: Outcome,
@@ -26,7 +26,7 @@ pub(crate) struct Turn {
 }
 
 // The timeline after the loop, and the outcome of the last advance.
-#[derive(Drop)]
+#[derive(Clone, Copy)]
 pub(crate) struct Sought {
     pub timeline: Timeline,
     pub outcome: Outcome,

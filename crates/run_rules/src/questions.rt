@@ -4,28 +4,28 @@ use symbol::Symbol;
 use tape::{Span, Spot};
 
 // The symbol at a position.
-#[derive(Drop)]
+#[derive(Clone, Copy)]
 pub enum Got {
     Found(Symbol),
     Refused(Refusal),
 }
 
 // The positions of the lowest and the highest non-blank cell.
-#[derive(Drop)]
+#[derive(Clone, Copy)]
 pub enum Extent {
     Found(Span),
     Refused(Refusal),
 }
 
 // How many cells are not blank.
-#[derive(Drop)]
+#[derive(Clone, Copy)]
 pub enum Counted {
     Found(u64),
     Refused(Refusal),
 }
 
 // The nearest non-blank cell.
-#[derive(Drop)]
+#[derive(Clone, Copy)]
 pub enum Located {
     Found(Spot),
     Refused(Refusal),

@@ -21,7 +21,7 @@ mod small;
 
 // The engine's value. The caller lends its cells, one buffer for each tape. Fields and buffers of tapes that the
 // machine lacks are neither read nor changed.
-#[derive(Drop)]
+#[derive(Clone, Copy)]
 pub struct Simulator {
     pub state: State,
     pub steps: u64,
@@ -31,27 +31,27 @@ pub struct Simulator {
 }
 
 // The engine after the operation, and the answer.
-#[derive(Drop)]
+#[derive(Clone, Copy)]
 pub struct Answered {
     pub sim: Simulator,
     pub answer: Answer,
 }
 
 // The status after a step, or the refusal.
-#[derive(Drop)]
+#[derive(Clone, Copy)]
 pub enum StepAnswer {
     Done(Status),
     Refused(Refusal),
 }
 
-#[derive(Drop)]
+#[derive(Clone, Copy)]
 pub struct Stepped {
     pub sim: Simulator,
     pub answer: StepAnswer,
 }
 
 // A fresh engine, or the refusal.
-#[derive(Drop)]
+#[derive(Clone, Copy)]
 pub enum Fresh {
     Made(Simulator),
     Refused(Refusal),

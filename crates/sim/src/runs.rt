@@ -18,14 +18,14 @@ use symbol::State;
 use tape::Tape;
 
 // An engine after a run, and how the run ended.
-#[derive(Drop)]
+#[derive(Clone, Copy)]
 pub struct Ran {
     pub sim: Simulator,
     pub outcome: Outcome,
 }
 
 // An engine after a burst, and the fuel left.
-#[derive(Drop)]
+#[derive(Clone, Copy)]
 pub struct Ahead {
     pub sim: Simulator,
     pub left: u64,

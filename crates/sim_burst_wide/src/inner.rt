@@ -12,7 +12,7 @@ use notation::index;
 use tape::Tape;
 
 // The numbers of a burst: its tapes, the state, and the fuel left.
-#[derive(Drop)]
+#[derive(Clone, Copy)]
 pub struct WideBurstState {
     pub t0: Tape,
     pub t1: Tape,
@@ -22,7 +22,7 @@ pub struct WideBurstState {
 }
 
 // A decoded entry. Where `known` is true, it is no proved loop. The moves are given by their numbers.
-#[derive(Drop)]
+#[derive(Clone, Copy)]
 pub struct Decoded {
     pub known: bool,
     pub next: u16,
@@ -35,14 +35,14 @@ pub struct Decoded {
 }
 
 // A tape after a move, and whether the move stays inside the cells.
-#[derive(Drop)]
+#[derive(Clone, Copy)]
 pub struct MovedTape {
     pub tape: Tape,
     pub inside: bool,
 }
 
 // The burst after the step, and whether all moves stay inside the cells.
-#[derive(Drop)]
+#[derive(Clone, Copy)]
 pub struct Next {
     pub at: WideBurstState,
     pub inside: bool,

@@ -21,7 +21,7 @@ use tape::Tape;
 use timeline_rule::inner::is_spent;
 
 // An engine after an advance, and how the advance ended.
-#[derive(Drop)]
+#[derive(Clone, Copy)]
 pub struct Advanced {
     pub sim: Simulator,
     pub outcome: Outcome,
@@ -70,7 +70,7 @@ pub fn advance(
 }
 
 // What a slot holds: nothing that fits, or an engine, whose cells are now in the buffers.
-#[derive(Drop)]
+#[derive(Clone, Copy)]
 pub enum Found {
     Nothing,
     Holds(Simulator),

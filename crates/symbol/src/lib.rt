@@ -9,7 +9,7 @@ pub mod position;
 // A tape symbol, by its number. Number 0 is the blank, which fills every cell that was never written.
 // The layout is C's, since the record of a run contains a symbol and crosses the C boundary.
 #[repr(C)]
-#[derive(Drop)]
+#[derive(Clone, Copy)]
 pub struct Symbol(pub u8);
 
 impl Symbol {
@@ -36,7 +36,7 @@ impl Symbol {
 }
 
 // A control state, by its number.
-#[derive(Drop)]
+#[derive(Clone, Copy)]
 pub struct State(pub u16);
 
 impl State {
@@ -54,7 +54,7 @@ impl State {
 }
 
 // The move of a head after writing: one cell left, one cell right, or none.
-#[derive(Drop)]
+#[derive(Clone, Copy)]
 pub enum Dir {
     L,
     R,

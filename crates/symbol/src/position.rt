@@ -11,7 +11,7 @@ use notation::limits;
 const BEFORE_ZERO: u64 = 9223372036854775807;
 
 // An index into a buffer, where there is one.
-#[derive(Drop)]
+#[derive(Clone, Copy)]
 pub enum Found {
     At(usize),
     Nothing,

@@ -3,7 +3,7 @@
 // How much of an entry the bytes before a place have: nothing; its symbol; its symbol and its move; one dash; two dashes.
 #![tactic(auto)]
 
-#[derive(Drop)]
+#[derive(Clone, Copy)]
 pub enum Phase {
     Between,
     Wrote,
@@ -14,7 +14,7 @@ pub enum Phase {
 
 // The bytes before a place as a part of a line: `rows` whole rows with their underscores, then `col` whole entries, then
 // the part of an entry that `phase` says. `width` is the number of entries of the first row, or 0 in that row.
-#[derive(Drop)]
+#[derive(Clone, Copy)]
 pub struct Spot {
     pub width: u64,
     pub rows: u64,
@@ -23,14 +23,14 @@ pub struct Spot {
 }
 
 // Where a byte leads.
-#[derive(Drop)]
+#[derive(Clone, Copy)]
 pub enum Next {
     On(Spot),
     Stop,
 }
 
 // Whether a line is of the form: its rows and symbols, or the place where it is malformed.
-#[derive(Drop)]
+#[derive(Clone, Copy)]
 pub enum Scanned {
     Formed { rows: u64, symbols: u64 },
     Malformed(u64),

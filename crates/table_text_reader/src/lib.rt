@@ -5,7 +5,7 @@ use machine::Machine;
 use outcome::Refusal;
 
 // The answer of reading: the numbers of the machine whose table was written.
-#[derive(Drop)]
+#[derive(Clone, Copy)]
 pub enum Read {
     Table(Machine),
     Refused(Refusal),

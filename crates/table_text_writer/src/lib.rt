@@ -4,7 +4,7 @@
 use outcome::Refusal;
 
 // The answer of writing: how many bytes the line has.
-#[derive(Drop)]
+#[derive(Clone, Copy)]
 pub enum Written {
     Line(u64),
     Refused(Refusal),

@@ -5,7 +5,7 @@ pub mod inner;
 
 // The first `len` of the lent cells are the tape's. The other numbers are indexes into them: of position 0, of the
 // head, and of the lowest and the highest head so far. A tape that the machine lacks has 0 in every field.
-#[derive(Drop)]
+#[derive(Clone, Copy)]
 pub struct Tape {
     pub len: usize,
     pub origin: usize,
@@ -15,14 +15,14 @@ pub struct Tape {
 }
 
 // The positions of the lowest and the highest non-blank cell.
-#[derive(Drop)]
+#[derive(Clone, Copy)]
 pub enum Span {
     Empty,
     Cells { from: i64, to: i64 },
 }
 
 // The result of a search for a cell: its position, or nowhere.
-#[derive(Drop)]
+#[derive(Clone, Copy)]
 pub enum Spot {
     At(i64),
     Nowhere,

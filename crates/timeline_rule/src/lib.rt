@@ -7,7 +7,7 @@ ghost use Rattle.timeline_rule.specs.Model.Timeline.{new_ok};
 
 pub mod inner;
 
-#[derive(Drop)]
+#[derive(Clone, Copy)]
 pub struct Times {
     // The largest number of slots kept; there is one more before thinning.
     pub most: u64,

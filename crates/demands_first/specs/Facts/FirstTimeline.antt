@@ -100,10 +100,10 @@ module _ (X : Kind) (numbers : List ℕ) (engine_tests : Machine → (table : Li
       unfolding go_on
       on_goes t v = refl
 
-      from_slot : (t : ℕ) (x : Option X.State) → GoesTo t (is_there x) (from_slot P t w x)
+      from_slot_lem : (t : ℕ) (x : Option X.State) → GoesTo t (is_there x) (from_slot P t w x)
       unfolding numbers_of first_of pick
-      from_slot t none = record { numbered = refl; first = refl; unchanged = λ why h. let q : Why.Slot ≡ why = cc in ap (λ r. (refused r, w)) q }
-      from_slot t (some e) = goes t true _ refl (on_goes t _)
+      from_slot_lem t none = record { numbered = refl; first = refl; unchanged = λ why h. let q : Why.Slot ≡ why = cc in ap (λ r. (refused r, w)) q }
+      from_slot_lem t (some e) = goes t true _ refl (on_goes t _)
 
       stay_goes : of_reply (stay P w).0 ≡ Accepted
       unfolding stay
@@ -111,7 +111,7 @@ module _ (X : Kind) (numbers : List ℕ) (engine_tests : Machine → (table : Li
 
       back_turns : (t : ℕ) → GoesTo t (is_there (P.restore (slot_for t w.times) (slot_step t w.times) w.engine w.store)) (go_back P t w)
       unfolding go_back
-      back_turns t = from_slot t (P.restore (slot_for t w.times) (slot_step t w.times) w.engine w.store)
+      back_turns t = from_slot_lem t (P.restore (slot_for t w.times) (slot_step t w.times) w.engine w.store)
 
       to_turns : (t : ℕ) → GoesTo t (slot_holds X m w t) (go_to P t w)
       unfolding go_to

@@ -205,9 +205,9 @@ module _ (X : Kind) (M : Meaning X) (m : Machine) (s : List ℕ) (E : Engine X M
       abbrev bytes : List ℕ
       bytes = slot_of (X.slot_size m w.engine) (slot_for t w.times) w.store
 
-      from_slot : (x : Option X.State) → X.unpack m bytes (slot_step t w.times) w.engine ≡ x → Says t (slot_engine X M m w t) (from_slot P t w x)
-      from_slot none u q = absurd (not_refused _ w q)
-      from_slot (some r) u q =
+      from_slot_lem : (x : Option X.State) → X.unpack m bytes (slot_step t w.times) w.engine ≡ x → Says t (slot_engine X M m w t) (from_slot P t w x)
+      from_slot_lem none u q = absurd (not_refused _ w q)
+      from_slot_lem (some r) u q =
           let b = E.reads bytes (slot_step t w.times) w.engine r accepted u in
           let l : X.now r ≤ t = omega (arith, b.at_step, back_small w.times t (slot_for t w.times) refl start) in
           subst (λ c. StopsFull (table_of m s) c (M.config m w'.engine) t n (M.NextFull m s w'.engine))
@@ -216,7 +216,7 @@ module _ (X : Kind) (M : Meaning X) (m : Machine) (s : List ℕ) (E : Engine X M
 
       back_stops : Says t (slot_engine X M m w t) (go_back P t w)
       unfolding go_back
-      back_stops = from_slot _ refl
+      back_stops = from_slot_lem _ refl
 
       stay_stops : (e : X.State) → Says t e (stay P w)
       unfolding stay

@@ -7,7 +7,7 @@ use sim::{Answer, StopRule};
 pub(crate) const RUNS: usize = 48;
 
 // The engine, with the symbols and the lengths of the left and of the right side.
-#[derive(Drop)]
+#[derive(Clone, Copy)]
 pub(crate) struct ChainEngine {
     pub sim: ChainSim,
     pub ls: [u8; RUNS],
@@ -17,7 +17,7 @@ pub(crate) struct ChainEngine {
 }
 
 // The engine after a run, and the answer.
-#[derive(Drop)]
+#[derive(Clone, Copy)]
 pub(crate) struct Ran {
     pub engine: ChainEngine,
     pub answer: Answer,

@@ -9,7 +9,7 @@ use machine::Machine;
 use rle_timeline::{Begun, Timeline};
 
 // A timeline after some calls, the sides of its engine, and the places of the next call and of its answer.
-#[derive(Drop)]
+#[derive(Clone, Copy)]
 struct Walk {
     timeline: Timeline,
     ls: [u8; RUNS],

@@ -6,7 +6,7 @@ use crate::read::lists;
 use tape::Tape;
 
 // A run of equal cells that is being counted, and its place in the row.
-#[derive(Drop)]
+#[derive(Clone, Copy)]
 struct Run {
     at: usize,
     symbol: u8,

@@ -7,7 +7,7 @@ pub(crate) const MANY_CELLS: usize = 512;
 
 pub(crate) const FEW_CELLS: usize = 128;
 
-#[derive(Drop)]
+#[derive(Clone, Copy)]
 pub(crate) struct PlainEngine {
     pub sim: Simulator,
     pub c0: [u8; MANY_CELLS],
@@ -16,7 +16,7 @@ pub(crate) struct PlainEngine {
 }
 
 // The engine after a run, and the answer.
-#[derive(Drop)]
+#[derive(Clone, Copy)]
 pub(crate) struct Ran {
     pub engine: PlainEngine,
     pub answer: Answer,

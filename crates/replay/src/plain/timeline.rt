@@ -9,7 +9,7 @@ use machine::Machine;
 use sim_timeline::{Begun, Timeline};
 
 // A timeline after some calls, the cells of its engine, and the places of the next call and of its answer.
-#[derive(Drop)]
+#[derive(Clone, Copy)]
 struct Walk {
     timeline: Timeline,
     c0: [u8; MANY_CELLS],

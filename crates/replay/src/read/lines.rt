@@ -8,7 +8,7 @@ const TENTH: u64 = 1844674407370955161;
 
 // A row that is being read: how many numbers it has, the digits and the sign of the next one, and whether every number
 // so far fits in 64 bits and has a place.
-#[derive(Drop)]
+#[derive(Clone, Copy)]
 struct Reading {
     count: usize,
     value: u64,
@@ -18,7 +18,7 @@ struct Reading {
 
 // How many numbers a line has, where the next line begins, and whether every number fits in 64 bits and has a place.
 // A line that is not good counts as a difference.
-#[derive(Drop)]
+#[derive(Clone, Copy)]
 pub(crate) struct Line {
     pub count: usize,
     pub next: usize,

@@ -3,7 +3,7 @@ use crate::rows;
 use crate::rows::PLACES;
 
 // A list as bytes and as glyphs, the number of its items, and the place past it.
-#[derive(Drop)]
+#[derive(Clone, Copy)]
 pub(crate) struct List {
     pub bytes: [u8; PLACES],
     pub glyphs: [u32; PLACES],

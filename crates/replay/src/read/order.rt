@@ -2,7 +2,7 @@
 use crate::rows;
 use sim::StopRule;
 
-#[derive(Drop)]
+#[derive(Clone, Copy)]
 pub(crate) struct Order {
     pub rule: StopRule,
     pub fuel: u64,

@@ -1,7 +1,7 @@
 // A question: its number, the tape, a position, and a length or a move. A question to the run-length engine has no tape.
 use crate::rows;
 
-#[derive(Drop)]
+#[derive(Clone, Copy)]
 pub(crate) struct Question {
     pub which: u64,
     pub tape: u64,
@@ -10,7 +10,7 @@ pub(crate) struct Question {
 }
 
 // The places of the next question and of its answer.
-#[derive(Drop)]
+#[derive(Clone, Copy)]
 pub(crate) struct Places {
     pub question: usize,
     pub answer: usize,

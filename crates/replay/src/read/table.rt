@@ -14,7 +14,7 @@ const STAY: u64 = 2;
 const BLANK: u64 = 0;
 
 // A machine, its table and how many bytes of it are used, and the place where the row continues.
-#[derive(Drop)]
+#[derive(Clone, Copy)]
 pub(crate) struct Case {
     pub machine: Machine,
     pub table: [u8; TABLE],

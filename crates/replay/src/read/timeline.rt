@@ -3,7 +3,7 @@ use crate::rows;
 
 // The most slots, the steps between two of them at first; the number of calls, the place of the first call, and the
 // place past the last.
-#[derive(Drop)]
+#[derive(Clone, Copy)]
 pub(crate) struct Settings {
     pub most: u64,
     pub every: u64,
@@ -13,7 +13,7 @@ pub(crate) struct Settings {
 }
 
 // A call: 0 seek, 1 forward, else back; and its number.
-#[derive(Drop)]
+#[derive(Clone, Copy)]
 pub(crate) struct Call {
     pub which: u64,
     pub number: u64,

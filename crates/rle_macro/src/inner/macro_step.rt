@@ -12,7 +12,7 @@ use rle_stack::inner as stack;
 use symbol::{Dir, State};
 
 // The entry that a macro step makes, whether it keeps the state, and whether it is a proved loop.
-#[derive(Drop)]
+#[derive(Clone, Copy)]
 pub struct Step {
     pub write: u8,
     pub dir: Dir,
@@ -23,7 +23,7 @@ pub struct Step {
 
 // After a macro step: the numbers of live runs behind and ahead, the symbol under the head, and the number of steps,
 // 0 where the push had no place.
-#[derive(Drop)]
+#[derive(Clone, Copy)]
 pub struct Gone {
     pub behind: usize,
     pub cur: u8,
@@ -32,7 +32,7 @@ pub struct Gone {
 }
 
 // The same by left and right.
-#[derive(Drop)]
+#[derive(Clone, Copy)]
 pub struct Moved {
     pub left: usize,
     pub cur: u8,

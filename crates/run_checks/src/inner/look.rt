@@ -11,7 +11,7 @@ use symbol::{Dir, State};
 use tape::Tape;
 
 // The result of the lookup and the never test before a step: no entry, a proved loop, or the entry to follow.
-#[derive(Drop)]
+#[derive(Clone, Copy)]
 pub enum Look {
     Halt,
     Never(NonHaltProof),
@@ -19,7 +19,7 @@ pub enum Look {
 }
 
 // The decision before a step of a run: the run ends here, or this entry is followed.
-#[derive(Drop)]
+#[derive(Clone, Copy)]
 pub enum Choice {
     Stop(Outcome),
     Go(Action),

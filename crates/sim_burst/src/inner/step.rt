@@ -7,7 +7,7 @@ ghost use Rattle.sim_burst.specs.Model.Burst.{LeftSeen, RightSeen, OrdinaryIf, O
 use notation::index;
 
 // The numbers of a burst: the head, the lowest and the highest head so far, the state, and the fuel left.
-#[derive(Drop)]
+#[derive(Clone, Copy)]
 pub struct BurstState {
     pub head: usize,
     pub low: usize,
@@ -17,7 +17,7 @@ pub struct BurstState {
 }
 
 // A decoded entry. Where `known` is true, it is defined and moves no other tape. `dir` is the number of the move.
-#[derive(Drop)]
+#[derive(Clone, Copy)]
 pub struct Decoded {
     pub known: bool,
     pub write: u8,
@@ -26,7 +26,7 @@ pub struct Decoded {
 }
 
 // A cell on each side of the head that was not blank when it was found, and whether the step is surely no proved loop.
-#[derive(Drop)]
+#[derive(Clone, Copy)]
 pub struct Hints {
     pub left: usize,
     pub right: usize,
@@ -34,7 +34,7 @@ pub struct Hints {
 }
 
 // The burst after a step, and whether the step stays on the cells.
-#[derive(Drop)]
+#[derive(Clone, Copy)]
 pub struct Landing {
     pub inside: bool,
     pub at: BurstState,

@@ -19,7 +19,7 @@ use Rattle.timeline_laws.specs.Automaton.{Automaton}
 use Rattle.timeline_laws.specs.Laws.{Laws, Advance, went, full}
 use Rattle.timeline_laws.specs.Facts.Steps.{base, at}
 use Rattle.timeline_laws.specs.Facts.Invariant.{Slot, Inv, now_at, slot_now}
-use Rattle.timeline_laws.specs.Facts.Loop.{Way, there, go_on, from_at, gone}
+use Rattle.timeline_laws.specs.Facts.Loop.{Way, there, go_on_lem, from_at, gone}
 
 within_is : (a b x : ℕ) → a ≤ x → x ≤ b → within a b x ≡ true
 within_is a b x l h = both_true (le-leb a x l) (le-leb x b h)
@@ -70,7 +70,7 @@ module _ {M : Automaton} {O : Ops M.Out} (E : Laws M O) (x : E.Mean) (good : E.G
   goes_on w p t i l h = record {
     out = (advance_to O (gas_for O t w) t w).0;
     says = refl;
-    way = go_on E x good (gas_for O t w) t w p i l h (omega (arith, now_at E x good w.engine p i.engine_at));
+    way = go_on_lem E x good (gas_for O t w) t w p i l h (omega (arith, now_at E x good w.engine p i.engine_at));
   }
 
   -- the slot to go back to is not past the target

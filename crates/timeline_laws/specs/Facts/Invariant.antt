@@ -207,9 +207,9 @@ module _ {M : Automaton} {O : Ops M.Out} (E : Laws M O) (x : E.Mean) (good : E.G
         later = omega (arith, i.tidy.every_low);
       }
 
-  pub record_due : (w : TimelineOver O) (p : ℕ) → Inv w p → Recorded (record_due O w) p
+  pub record_due_lem : (w : TimelineOver O) (p : ℕ) → Inv w p → Recorded (record_due O w) p
   unfolding record_due
-  record_due w p i = pick_cases (eqb (O.now w.engine) (due w.times)) (recorded O w) w (λ v. Recorded v p) at_once not_yet
+  record_due_lem w p i = pick_cases (eqb (O.now w.engine) (due w.times)) (recorded O w) w (λ v. Recorded v p) at_once not_yet
     where
       at_once : eqb (O.now w.engine) (due w.times) ≡ true → Recorded (recorded O w) p
       at_once q = record_now w p i (sym (now_at w.engine p i.engine_at) ∙ eqb-true (O.now w.engine) (due w.times) q)

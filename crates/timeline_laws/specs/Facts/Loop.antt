@@ -12,7 +12,7 @@ use Rattle.timeline_rule.specs.Model.Timeline.{TimelineOver, due, record_due, wi
 use Rattle.timeline_laws.specs.Automaton.{Automaton, iterate}
 use Rattle.timeline_laws.specs.Laws.{Laws, Advance, went, full}
 use Rattle.timeline_laws.specs.Facts.Steps.{base, at, at_add, Room, pos, settle, exact, pos_no_room, climb_to, good_at, halted_to, halted_room, pos_of, pos_is}
-use Rattle.timeline_laws.specs.Facts.Invariant.{Inv, now_at, arrive, record_due}
+use Rattle.timeline_laws.specs.Facts.Invariant.{Inv, now_at, arrive, record_due_lem}
 
 module _ {M : Automaton} {O : Ops M.Out} (E : Laws M O) (x : E.Mean) (good : E.Good x) where
   -- How the loop to t ends: at t or at the halt before it, or at a full step
@@ -128,13 +128,13 @@ module _ {M : Automaton} {O : Ops M.Out} (E : Laws M O) (x : E.Mean) (good : E.G
       (λ q. goes t p o w r e y g (subst (λ a. (O.now w.engine < t) × ¬ (O.now w.engine ≡ a)) m (not_done t (O.now w.engine) n q)) ih)
 
   -- the loop, with enough gas
-  pub go_on : (gas t : ℕ) (w : TimelineOver O) (p : ℕ) → Inv E x good w p → p ≤ t → t ≤ steps_most → t < gas + p
+  pub go_on_lem : (gas t : ℕ) (w : TimelineOver O) (p : ℕ) → Inv E x good w p → p ≤ t → t ≤ steps_most → t < gas + p
       → Way t (advance_to O gas t w).0 (advance_to O gas t w).1
   unfolding advance_to
-  go_on zero t w p i l h g = absurd (omega arith)
-  go_on (suc gas) t w p i l h g =
+  go_on_lem zero t w p i l h g = absurd (omega arith)
+  go_on_lem (suc gas) t w p i l h g =
       turn t p (O.now w.engine) (stride O t (record_due O w)).0 (turned O t w)
       (advance_to O gas t (turned O t w))
       (now_at E x good w.engine p i.engine_at) i.engine_at.low l i.engine_at.exactly
-      (one_advance t (record_due O w) p (record_due E x good w p i).inv (record_due E x good w p i).later l h)
-      (λ q j a b. go_on gas t (turned O t w) q j a h (omega arith))
+      (one_advance t (record_due O w) p (record_due_lem E x good w p i).inv (record_due_lem E x good w p i).later l h)
+      (λ q j a b. go_on_lem gas t (turned O t w) q j a h (omega arith))

@@ -75,8 +75,8 @@ module _ (X : EngineMeaning) (m : Machine) (s : List ℕ) (e : X.kind.State) (I 
   unfolding runs
   runs_is n = ap (λ (y : Config). iterate (step (table_of m s)) (n - y.steps) y) (I.same_config e) ∙ iterate-run (table_of m s) (n - c.steps) c
 
-  pub reach_in : (t : ℕ) → reach M (E.config (E.mean e)) t ≡ reach_in m s c t
-  reach_in t = ap (λ (c : Config). c.steps) (runs_is t)
+  pub reach_in_lem : (t : ℕ) → reach M (E.config (E.mean e)) t ≡ reach_in m s c t
+  reach_in_lem t = ap (λ (c : Config). c.steps) (runs_is t)
 
   pub base_is : base E (E.mean e) ≡ c.steps
   base_is = ap (λ (y : Config). y.steps) (I.same_config e)
@@ -216,7 +216,7 @@ module _ (X : EngineMeaning) (m : Machine) (s : List ℕ) (e : X.kind.State) (I 
 
     -- p after a call that reached its target
     reach_aim : reach M (E.config (E.mean e)) (aim E (E.mean e) (E.fits_good e I.fits) p k) ≡ reach_in m s c t
-    reach_aim = reach_in (aim E (E.mean e) (E.fits_good e I.fits) p k) ∙ ap (reach_in m s c) (aim_is p k)
+    reach_aim = reach_in_lem (aim E (E.mean e) (E.fits_good e I.fits) p k) ∙ ap (reach_in m s c) (aim_is p k)
 
     claimed : TimelineAt u p → Ended → Claimed
     claimed n (over l q) = refused_result l q

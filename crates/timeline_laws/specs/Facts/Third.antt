@@ -29,7 +29,7 @@ use Rattle.timeline_laws.specs.Notes.{noting, bare, NotedOf, new_noted, call_not
 use Rattle.timeline_laws.specs.Facts.Notes.{call_bare, noted}
 use Rattle.timeline_laws.specs.Statement.{or_halt, place_by, HaltedAt, HaltsIn, reach_in, goal_in, moved_in, place_in, steps_if, stopped_at, after_on, place_on, place_after, RoomFor, Roomy, Twice, FullFrom, SlotGives, WholeList, DemandFrom, Demand}
 use Rattle.timeline_laws.specs.Instance.{Instance, Instances, Beginnings}
-use Rattle.timeline_laws.specs.Facts.Results.{TimelineAt, runs_is, reach_in, base_is, timeline_now, timeline_low, timeline_held, result, next_at}
+use Rattle.timeline_laws.specs.Facts.Results.{TimelineAt, runs_is, reach_in_lem, base_is, timeline_now, timeline_low, timeline_held, result, next_at}
 use Rattle.timeline_laws.specs.Facts.Twice.{twice_is}
 
 -- after an answer other than full, the rule gives p
@@ -64,8 +64,8 @@ module _ (X : EngineMeaning) (m : Machine) (s : List ℕ) (e : X.kind.State) (I 
   not_halted j q = subst (λ y. ¬ Halted (table_of m s) y) (sym (runs_is X m s e I j)) q
 
   reach_by : (h : Option ℕ) → HaltsIn m s c h → (t : ℕ) → c.steps ≤ t → reach_in m s c t ≡ or_halt t h
-  reach_by none q t l = sym (reach_in X m s e I t) ∙ reach_runs M (E.config (E.mean e)) t (omega (arith, first_is)) (λ j a b. not_halted j (q j (omega (arith, first_is))))
-  reach_by (some h) q t l = sym (reach_in X m s e I t)
+  reach_by none q t l = sym (reach_in_lem X m s e I t) ∙ reach_runs M (E.config (E.mean e)) t (omega (arith, first_is)) (λ j a b. not_halted j (q j (omega (arith, first_is))))
+  reach_by (some h) q t l = sym (reach_in_lem X m s e I t)
       ∙ reach_halts M (E.config (E.mean e)) h t (omega (arith, first_is, q.0)) (omega (arith, first_is))
       (subst (Halted (table_of m s)) (sym (runs_is X m s e I h)) q.1) (λ j a b. not_halted j (q.2 j (omega (arith, first_is)) b))
 

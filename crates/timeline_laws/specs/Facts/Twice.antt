@@ -17,7 +17,7 @@ use Rattle.timeline_laws.specs.TableRun.{machine}
 use Rattle.timeline_laws.specs.Meaning.{EngineMeaning}
 use Rattle.timeline_laws.specs.Statement.{after_steps, reach_in, goal_in, held_on, RoomFor, Twice, Stuck, Result}
 use Rattle.timeline_laws.specs.Instance.{Instance}
-use Rattle.timeline_laws.specs.Facts.Results.{runs_is, reach_in, base_is}
+use Rattle.timeline_laws.specs.Facts.Results.{runs_is, reach_in_lem, base_is}
 
 module _ (X : EngineMeaning) (m : Machine) (s : List ℕ) (e : X.kind.State) (I : Instance X m s e) where
   abbrev c : Config
@@ -38,14 +38,14 @@ module _ (X : EngineMeaning) (m : Machine) (s : List ℕ) (e : X.kind.State) (I 
   reach_low : (t : ℕ) → c.steps ≤ t → (c.steps ≤ reach_in m s c t) × (reach_in m s c t ≤ t)
   reach_low t l =
       let r = run_reach M d t (omega (arith, same_first)) in
-      (omega (arith, same_first, r.0, reach_in X m s e I t), omega (arith, r.1, reach_in X m s e I t))
+      (omega (arith, same_first, r.0, reach_in_lem X m s e I t), omega (arith, r.1, reach_in_lem X m s e I t))
 
   reached_run : (t : ℕ) → c.steps ≤ t → after_steps m s c (reach_in m s c t) ≡ after_steps m s c t
-  reached_run t l = ap (after_steps m s c) (sym (reach_in X m s e I t))
+  reached_run t l = ap (after_steps m s c) (sym (reach_in_lem X m s e I t))
       ∙ (sym (runs_is X m s e I (reach M d t)) ∙ ((run_reach M d t (omega (arith, same_first))).2 ∙ runs_is X m s e I t))
 
   onward_run : (t n : ℕ) → c.steps ≤ t → after_steps m s c (n + reach_in m s c t) ≡ after_steps m s c (n + t)
-  onward_run t n l = ap (λ j. after_steps m s c (n + j)) (sym (reach_in X m s e I t))
+  onward_run t n l = ap (λ j. after_steps m s c (n + j)) (sym (reach_in_lem X m s e I t))
       ∙ (sym (runs_is X m s e I (n + reach M d t)) ∙ (run_on_holds M d t n (omega (arith, same_first)) ∙ runs_is X m s e I (n + t)))
 
   -- ---- the three calls

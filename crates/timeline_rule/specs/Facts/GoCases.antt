@@ -81,18 +81,18 @@ module _ (X : Kind) (m : Machine) (s : List ℕ) (size : ℕ) where
   -- ---- the refusals of a call and of a new timeline: the engine's, then the others
 
   module _ (t : ℕ) (e : X.State) (v : Times) (b : List ℕ) (r : Checked) (checked : r ≡ X.check m s e) where
-    pub call_check : (why : Refusal) → r ≡ Refused why → Refused why ≡ call_check O (timeline_of X e b v) t
+    pub call_check_lem : (why : Refusal) → r ≡ Refused why → Refused why ≡ call_check O (timeline_of X e b v) t
     unfolding call_check
-    call_check why z = rw (← checked, z)
+    call_check_lem why z = rw (← checked, z)
 
     pub call_later : (n : ℕ) (x : Checked) → n ≡ size → r ≡ Accepted → x ≡ later_check v (X.now e) (length b / n) t → x ≡ call_check O (timeline_of X e b v) t
     unfolding call_check
     call_later n x k z q = q ∙ (ap (λ i. later_check v (X.now e) (length b / i) t) k ∙ ap (λ c. checked_on c (later_check v (X.now e) (length b / size) t)) (sym z ∙ checked))
 
   module _ (most every : ℕ) (e : X.State) (b : List ℕ) (r : Checked) (checked : r ≡ X.check m s e) where
-    pub new_check : (why : Refusal) → r ≡ Refused why → Refused why ≡ new_check O most every e b
+    pub new_check_lem : (why : Refusal) → r ≡ Refused why → Refused why ≡ new_check O most every e b
     unfolding new_check
-    new_check why z = rw (← checked, z)
+    new_check_lem why z = rw (← checked, z)
 
     pub new_first : (n : ℕ) (x : Checked) → n ≡ size → r ≡ Accepted → x ≡ first_check most every (length b / n) → x ≡ new_check O most every e b
     unfolding new_check

@@ -1,0 +1,18 @@
+use Rattle.std.proofs.Common.{rules}
+use Rattle.alphabet.specs.Facts.EncodeCases.{glyph_over, glyph_next, glyphs_end}
+use Rattle.alphabet.specs.Model.{allowed_at}
+use Rattle.notation.specs.Scan.{first_fail}
+use lib.ListN.{length}
+use native.Mathlib.Nat.{sub-zero}
+use mathlib.Core.Path.{◌≡◌}
+use Prim.Native.Nat.{◌-◌}
+use Rattle.alphabet.proofs.check_glyphs.Goals as goal
+
+pub returns-then-not-allowed : goal.returns-then-not-allowed
+returns-then-not-allowed c = search glyph_over
+
+pub loop-i-preserved : goal.loop-i-preserved
+loop-i-preserved c = search glyph_next
+
+pub returns : goal.returns
+returns c = search glyphs_end

@@ -1,0 +1,19 @@
+use Rattle.std.proofs.Common.{rules}
+use Rattle.alphabet.specs.Facts.EncodeCases.{symbol_found, symbol_next, symbol_missing}
+use Rattle.alphabet.specs.Model.{differs}
+use Rattle.notation.specs.Scan.{first_fail}
+use lib.ListN.{length}
+use native.Mathlib.Nat.{sub-zero}
+use native.Mathlib.Omega.{arith}
+use mathlib.Core.Path.{◌≡◌}
+use Prim.Native.Nat.{◌-◌, min}
+use Rattle.alphabet.proofs.symbol_for.Goals as goal
+
+pub returns-then-glyphs-at : goal.returns-then-glyphs-at
+returns-then-glyphs-at c = search symbol_found
+
+pub loop-at-preserved : goal.loop-at-preserved
+loop-at-preserved c = (omega arith, search symbol_next)
+
+pub returns : goal.returns
+returns c = search symbol_missing

@@ -1,0 +1,17 @@
+use Rattle.alphabet.specs.Facts.EncodeCases.{write_turn}
+use Rattle.alphabet.specs.Model.{byte_at}
+use Rattle.notation.specs.Fill.{fill_from}
+use Rattle.notation.specs.Facts.Fill.{fill_end}
+use native.Mathlib.Omega.{arith}
+use lib.ListN.{length, length-set}
+use native.Mathlib.Nat.{sub-zero}
+use mathlib.Core.Path.{◌≡◌, refl}
+use Prim.Native.Nat.{◌-◌}
+use Rattle.alphabet.proofs.write_symbols.Given as goal
+
+abbrev pub invariant-loop-i : goal.invariant-loop-i
+invariant-loop-i l =
+    (length l.out ≡ length l.initial.out) × (fill_from (byte_at l.glyphs l.word) (length l.word - l.i) l.i l.out ≡ fill_from (byte_at l.glyphs l.word) (length l.word) 0 l.initial.out)
+
+abbrev pub decreases-loop-i : goal.decreases-loop-i
+decreases-loop-i l = length l.word - l.i

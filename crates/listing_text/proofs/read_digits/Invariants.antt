@@ -1,0 +1,14 @@
+use mathlib.Core.Path.{◌≡◌, refl}
+use Prim.Native.Nat.{◌≤◌, ◌<◌, ◌-◌, ◌^◌}
+use native.Mathlib.Omega.{arith}
+use lib.ListN.{length, drop}
+use Rattle.listing_text.specs.Facts.NumberCases.{digits_fit, digits_next, digits_stop, digits-end}
+use Rattle.listing_text.specs.Numbers.{digits}
+use Rattle.listing_text.proofs.read_digits.Given as goal
+
+abbrev pub invariant-loop-i : goal.invariant-loop-i
+invariant-loop-i l =
+    (l.i ≤ length l.s) × (l.v < 2 ^ 64) × (digits l.v (drop l.i l.s) ≡ digits 0 l.s)
+
+abbrev pub decreases-loop-i : goal.decreases-loop-i
+decreases-loop-i l = length l.s - l.i

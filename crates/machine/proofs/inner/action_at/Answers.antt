@@ -1,0 +1,6 @@
+use Rattle.std.proofs.Common.{rules}
+use Rattle.machine.specs.Facts.CheckCases.{action_made}
+use Rattle.machine.proofs.inner.action_at.Goals as goal
+
+pub returns : goal.returns
+returns c = search action_made

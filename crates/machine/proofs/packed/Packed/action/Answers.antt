@@ -1,0 +1,6 @@
+use Rattle.std.proofs.Common.{rules}
+use Rattle.machine.specs.Facts.PackingCases.{action_of_holds}
+use Rattle.machine.proofs.packed.Packed.action.Goals as goal
+
+pub returns : goal.returns
+returns c = search action_of_holds

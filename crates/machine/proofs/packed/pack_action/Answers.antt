@@ -1,0 +1,6 @@
+use Rattle.std.proofs.Common.{rules}
+use Rattle.machine.specs.Facts.PackingCases.{word_made}
+use Rattle.machine.proofs.packed.pack_action.Goals as goal
+
+pub returns : goal.returns
+returns c = search word_made

@@ -1,0 +1,18 @@
+use Rattle.std.proofs.Common.{rules}
+use Rattle.run_checks.specs.Facts.SizesCases.{word_differs, word_agrees}
+use Rattle.run_checks.specs.Model.Sizes.{word_right}
+use Rattle.notation.specs.Facts.Scan.{all_end}
+use Rattle.notation.specs.Scan.{all_in}
+use native.Mathlib.Nat.{sub-zero}
+use mathlib.Core.Path.{◌≡◌}
+use Prim.Native.Nat.{◌-◌}
+use Rattle.run_checks.proofs.inner.words.same_words.Goals as goal
+
+pub returns-then-words-at : goal.returns-then-words-at
+returns-then-words-at c = search word_differs
+
+pub loop-i-preserved : goal.loop-i-preserved
+loop-i-preserved c = search word_agrees
+
+pub returns : goal.returns
+returns c = search all_end

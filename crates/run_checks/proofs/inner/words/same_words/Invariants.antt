@@ -1,0 +1,14 @@
+use Rattle.run_checks.specs.Facts.SizesCases.{word_differs, word_agrees}
+use Rattle.run_checks.specs.Model.Sizes.{word_right}
+use Rattle.notation.specs.Facts.Scan.{all_end}
+use Rattle.notation.specs.Scan.{all_in}
+use native.Mathlib.Nat.{sub-zero}
+use mathlib.Core.Path.{◌≡◌}
+use Prim.Native.Nat.{◌-◌}
+use Rattle.run_checks.proofs.inner.words.same_words.Given as goal
+
+abbrev pub invariant-loop-i : goal.invariant-loop-i
+invariant-loop-i l = all_in (word_right l.table l.stride l.words) (l.count - l.i) l.i ≡ all_in (word_right l.table l.stride l.words) l.count 0
+
+abbrev pub decreases-loop-i : goal.decreases-loop-i
+decreases-loop-i l = l.count - l.i

@@ -1,0 +1,32 @@
+use Rattle.std.proofs.Common.{rules}
+use mathlib.Core.Path.{◌∙◌}
+use native.Mathlib.Omega.{arith}
+use borrow.Author.Tests.{not-false}
+use Rattle.sim_burst.specs.Model.Burst.{Reached, Is}
+use Rattle.sim_burst.specs.Facts.BurstCases.{decoded_says}
+use Rattle.sim_burst.specs.Facts.Burst.{reached_start, reached_again, reached_on, went_less, went_asks}
+use Rattle.sim_burst.proofs.inner.table.burst.Goals as goal
+
+pub loop-at-init : goal.loop-at-init
+loop-at-init c = search reached_start
+
+pub returns-then-at-eq0 : goal.returns-then-at-eq0
+returns-then-at-eq0 c = reached_on _ _ _ _ _ _ _ _ _ c.loop-at.invariant _ _ c.stretch-at.ensures
+
+pub returns-then-at-stop : goal.returns-then-at-stop
+returns-then-at-stop c = reached_on _ _ _ _ _ _ _ _ _ c.loop-at.invariant _ _ c.stretch-at.ensures
+
+pub returns-then-not-decoded : goal.returns-then-not-decoded
+returns-then-not-decoded c = reached_on _ _ _ _ _ _ _ _ _ c.loop-at.invariant _ _ c.stretch-at.ensures
+
+pub returns-then-not-hints : goal.returns-then-not-hints
+returns-then-not-hints c = reached_on _ _ _ _ _ _ _ _ _ c.loop-at.invariant _ _ c.stretch-at.ensures
+
+pub returns-then-not-next : goal.returns-then-not-next
+returns-then-not-next c = reached_on _ _ _ _ _ _ _ _ _ c.loop-at.invariant _ _ c.stretch-at.ensures
+
+pub loop-at-preserved : goal.loop-at-preserved
+loop-at-preserved c =
+    reached_again _ _ _ _ _ _ _ _ _ (reached_on _ _ _ _ _ _ _ _ _ c.loop-at.invariant _ _ c.stretch-at.ensures) _ _ _ _ _ c.if-at-eq0.false c.if-at-stop.false
+    (decoded_says _ _ _ _ c.decoded-decoded.ensures (c.if-not-decoded.false) c.number.ensures.0) c.decoded-decoded.ensures.small
+    (c.ordinary-hints.ensures.ordinary (c.if-not-hints.false)) c.went-next.ensures (c.if-not-next.false)

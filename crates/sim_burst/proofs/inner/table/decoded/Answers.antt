@@ -1,0 +1,6 @@
+use Rattle.std.proofs.Common.{rules}
+use Rattle.sim_burst.specs.Facts.BurstCases.{tells_none, tells_entry}
+use Rattle.sim_burst.proofs.inner.table.decoded.Goals as goal
+
+pub returns : goal.returns
+returns c = search tells_entry

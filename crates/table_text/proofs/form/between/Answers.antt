@@ -1,0 +1,9 @@
+use Rattle.std.proofs.Common.{rules}
+use Rattle.table_text_form.specs.Facts.Cases.{row_ended, row_goes_on}
+use Rattle.table_text.proofs.form.between.Goals as goal
+
+pub returns-then-row_ends : goal.returns-then-row_ends
+returns-then-row_ends c = search (row_ended, row_goes_on) depth 9
+
+pub returns : goal.returns
+returns c = search (row_ended, row_goes_on) depth 9

@@ -1,0 +1,20 @@
+use Rattle.std.proofs.Common.{rules}
+use Rattle.table_text_reader.specs.Facts.ReadCases.{read_malformed, read_lacks, read_has}
+use Rattle.table_text_form.specs.Facts.Columns.{formed_of_form}
+use mathlib.Core.Path.{sym, ◌∙◌}
+use Rattle.table_text.proofs.read_line.Goals as goal
+
+pub returns-in-Malformed : goal.returns-in-Malformed
+returns-in-Malformed c = read_malformed _ _ _ c.scan-scanned.ensures _ c.in-Malformed.is
+
+pub first_lacking-lacks-requires : goal.first_lacking-lacks-requires
+first_lacking-lacks-requires c = let f = formed_of_form _ _ _ (sym c.scan-scanned.ensures ∙ c.in-Formed.is) in (f.rows_are.1, f.symbols_are.1)
+
+pub returns-in-At : goal.returns-in-At
+returns-in-At c = read_lacks _ _ _ c.scan-scanned.ensures _ _ c.in-Formed.is _ c.first_lacking-lacks.ensures _ c.in-At.is
+
+pub read_formed-requires : goal.read_formed-requires
+read_formed-requires c = formed_of_form _ _ _ (sym c.scan-scanned.ensures ∙ c.in-Formed.is)
+
+pub returns-in-Nothing : goal.returns-in-Nothing
+returns-in-Nothing c = read_has _ _ _ c.scan-scanned.ensures _ _ c.in-Formed.is _ c.first_lacking-lacks.ensures c.in-Nothing.is _ _ c.read_formed.ensures.0 c.read_formed.ensures.1

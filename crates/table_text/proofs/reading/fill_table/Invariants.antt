@@ -1,0 +1,16 @@
+use Rattle.table_text_reader.specs.Reading.{table_byte}
+use Rattle.notation.specs.Facts.Fill.{fill_next, fill_end}
+use Rattle.notation.specs.Fill.{fill_from}
+use native.Mathlib.Nat.{sub-zero}
+use native.Mathlib.Omega.{arith}
+use lib.ListN.{length, length-set}
+use mathlib.Core.Path.{◌≡◌, refl}
+use Prim.Native.Nat.{◌-◌}
+use Rattle.table_text.proofs.reading.fill_table.Given as goal
+
+abbrev pub invariant-loop-j : goal.invariant-loop-j
+invariant-loop-j l =
+    (length l.table ≡ length l.initial.table) × (fill_from (table_byte l.rows l.symbols l.line) (l.size - l.j) l.j l.table ≡ fill_from (table_byte l.rows l.symbols l.line) l.size 0 l.initial.table)
+
+abbrev pub decreases-loop-j : goal.decreases-loop-j
+decreases-loop-j l = l.size - l.j

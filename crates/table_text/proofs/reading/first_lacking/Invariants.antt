@@ -1,0 +1,17 @@
+use Rattle.table_text_reader.specs.Reading.{has_byte}
+use Rattle.symbol.specs.Facts.Found.{first_found, first_nowhere}
+use Rattle.notation.specs.Facts.Scan.{first_next}
+use Rattle.notation.specs.Scan.{first_fail}
+use borrow.Author.Tests.{not-true, not-false}
+use mathlib.Core.Path.{◌≡◌, sym, ◌∙◌}
+use native.Mathlib.Nat.{sub-zero}
+use native.Mathlib.Omega.{arith}
+use lib.ListN.{length}
+use Prim.Native.Nat.{◌-◌}
+use Rattle.table_text.proofs.reading.first_lacking.Given as goal
+
+abbrev pub invariant-loop-i : goal.invariant-loop-i
+invariant-loop-i l = first_fail (has_byte l.rows l.symbols l.line) (length l.line - l.i) l.i ≡ first_fail (has_byte l.rows l.symbols l.line) (length l.line) 0
+
+abbrev pub decreases-loop-i : goal.decreases-loop-i
+decreases-loop-i l = length l.line - l.i

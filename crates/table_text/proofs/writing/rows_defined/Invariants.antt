@@ -1,0 +1,15 @@
+use Rattle.table_text_writer.specs.Facts.WriteCases.{defined_not, defined_yes}
+use Rattle.table_text_rows.specs.Rows.{row_defined}
+use Rattle.notation.specs.Scan.{all_in}
+use native.Mathlib.Nat.{sub-zero}
+use Prim.Native.Nat.{◌-◌}
+use mathlib.Core.Path.{◌≡◌}
+use Rattle.notation.specs.Facts.Scan.{all_hit, all_next, all_end}
+use native.Mathlib.Omega.{arith}
+use Rattle.table_text.proofs.writing.rows_defined.Given as goal
+
+abbrev pub invariant-loop-q : goal.invariant-loop-q
+invariant-loop-q l = all_in (row_defined l.symbols l.table) (l.count - l.q) l.q ≡ all_in (row_defined l.symbols l.table) l.count 0
+
+abbrev pub decreases-loop-q : goal.decreases-loop-q
+decreases-loop-q l = l.count - l.q

@@ -1,0 +1,16 @@
+use Rattle.table_text_writer.specs.Writing.{line_byte}
+use Rattle.notation.specs.Facts.Fill.{fill_next, fill_end}
+use Rattle.notation.specs.Fill.{fill_from}
+use native.Mathlib.Nat.{sub-zero}
+use native.Mathlib.Omega.{arith}
+use lib.ListN.{length, length-set}
+use mathlib.Core.Path.{◌≡◌, refl}
+use Prim.Native.Nat.{◌-◌}
+use Rattle.table_text.proofs.writing.write_bytes.Given as goal
+
+abbrev pub invariant-loop-p : goal.invariant-loop-p
+invariant-loop-p l =
+    (length l.line ≡ length l.initial.line) × (fill_from (line_byte l.rows l.symbols l.table) (l.size - l.p) l.p l.line ≡ fill_from (line_byte l.rows l.symbols l.table) l.size 0 l.initial.line)
+
+abbrev pub decreases-loop-p : goal.decreases-loop-p
+decreases-loop-p l = l.size - l.p

@@ -1,0 +1,18 @@
+use Rattle.std.proofs.Common.{rules}
+use Rattle.tape.specs.Facts.MoveCases.{grow_fits, grow_left, grow_right, grow_none}
+use Rattle.tape.proofs.Tape.grow.Goals as goal
+
+pub open_left-requires : goal.open_left-requires
+open_left-requires c = search grow_fits
+
+pub blank-requires : goal.blank-requires
+blank-requires c = search grow_fits
+
+pub returns-in-L : goal.returns-in-L
+returns-in-L c = search grow_left
+
+pub returns-in-R : goal.returns-in-R
+returns-in-R c = search grow_right
+
+pub returns-in-N : goal.returns-in-N
+returns-in-N c = search grow_none

@@ -1,0 +1,17 @@
+use Rattle.std.proofs.Common.{rules}
+use mir.ValLaws.{to_z-of_z}
+use mir.Syntax.{w64}
+use Rattle.tape.specs.Facts.QuestionCases.{find_none, find_left, find_right, find_here}
+use Rattle.tape.proofs.inner.find_non_blank.Goals as goal
+
+pub returns-then-get-eq0 : goal.returns-then-get-eq0
+returns-then-get-eq0 c = search (find_none, to_z-of_z)
+
+pub returns-in-L : goal.returns-in-L
+returns-in-L c = search (find_left, to_z-of_z)
+
+pub returns-in-R : goal.returns-in-R
+returns-in-R c = search (find_right, to_z-of_z)
+
+pub returns-else-get-eq0 : goal.returns-else-get-eq0
+returns-else-get-eq0 c = rw (to_z-of_z w64 c.args.from c.ranges.from) (search (find_here, to_z-of_z))

@@ -1,0 +1,6 @@
+use Rattle.std.proofs.Common.{rules}
+use Rattle.tape.specs.Facts.MoveCases.{fresh-held}
+use Rattle.tape.proofs.inner.fresh.Goals as goal
+
+pub returns : goal.returns
+returns c = fresh-held _ _ _ c.fresh.ensures

@@ -1,0 +1,7 @@
+use Rattle.std.proofs.Common.{rules}
+use mir.ValLaws.{to_z-of_z}
+use Rattle.tape.specs.Facts.QuestionCases.{window_is}
+use Rattle.tape.proofs.inner.window.Goals as goal
+
+pub returns : goal.returns
+returns c = search (window_is, to_z-of_z)

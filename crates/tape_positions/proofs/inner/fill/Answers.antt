@@ -1,0 +1,17 @@
+use Rattle.std.proofs.Common.{rules}
+use Prim.Native.Nat.{◌-◌}
+use mathlib.Core.Path.{◌≡◌, refl}
+use native.Mathlib.Nat.{sub-zero}
+use lib.ListN.{length, length-set}
+use Rattle.notation.specs.Fill.{fill_from}
+use Rattle.notation.specs.Facts.Fill.{fill_end}
+use Rattle.tape_positions.specs.Model.{place_of, window_from}
+use Rattle.tape_positions.specs.Facts.Cases.{window_turn}
+use native.Mathlib.Omega.{arith}
+use Rattle.tape_positions.proofs.inner.fill.Goals as goal
+
+pub loop-j-preserved : goal.loop-j-preserved
+loop-j-preserved c = (search rules, simp length-set (omega arith), search window_turn)
+
+pub returns : goal.returns
+returns c = search fill_end

@@ -1,0 +1,10 @@
+use Rattle.std.proofs.Common.{rules}
+use native.Mathlib.Omega.{arith}
+use Rattle.timeline_rule.specs.Facts.DueCases.{thin_keep, thin_half, half_room}
+use Rattle.timeline_rule.proofs.Times.thinned.Goals as goal
+
+pub returns-then-n-self : goal.returns-then-n-self
+returns-then-n-self c = thin_keep _ _ _ c.if-n-self.true
+
+pub returns : goal.returns
+returns c = thin_half _ _ _ _ c.if-n-self.false c.thin.ensures

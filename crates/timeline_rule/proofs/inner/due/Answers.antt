@@ -1,0 +1,7 @@
+use Rattle.std.proofs.Common.{rules}
+use native.Mathlib.Omega.{arith}
+use Rattle.timeline_rule.specs.Facts.DueCases.{due_product, due-near}
+use Rattle.timeline_rule.proofs.inner.due.Goals as goal
+
+pub returns : goal.returns
+returns c = search (rules, due-near)

@@ -1,0 +1,10 @@
+use Rattle.std.proofs.Common.{rules}
+use native.Mathlib.Omega.{arith}
+use Rattle.timeline_rule.specs.Facts.DueCases.{due_small, due_yes, due_no}
+use Rattle.timeline_rule.proofs.inner.far_due.Goals as goal
+
+pub returns-then-count-room : goal.returns-then-count-room
+returns-then-count-room c = due_yes c.args.first c.args.count c.args.every (search rules)
+
+pub returns-else-count-room : goal.returns-else-count-room
+returns-else-count-room c = due_no c.args.first c.args.count c.args.every (search rules)

@@ -1,0 +1,13 @@
+use Rattle.std.proofs.Common.{rules}
+use Rattle.timeline_rule.specs.Facts.CheckCases.{first_settings, first_store, first_passed}
+use borrow.Author.Tests.{not-true, not-false}
+use Rattle.timeline_rule.proofs.inner.first_check.Goals as goal
+
+pub returns-then-not-new_ok : goal.returns-then-not-new_ok
+returns-then-not-new_ok c = search (first_settings, not-true)
+
+pub returns-then-slots-most : goal.returns-then-slots-most
+returns-then-slots-most c = search (first_store, not-false)
+
+pub returns : goal.returns
+returns c = search (first_passed, not-false)

@@ -1,0 +1,16 @@
+use Rattle.std.proofs.Common.{rules}
+use Rattle.timeline_rule.specs.Facts.CheckCases.{later_settings_holds, later_store, later_limit, later_passed}
+use borrow.Author.Tests.{not-true, not-false}
+use Rattle.timeline_rule.proofs.inner.later_check.Goals as goal
+
+pub returns-then-not-ok : goal.returns-then-not-ok
+returns-then-not-ok c = search (later_settings_holds, not-true)
+
+pub returns-then-slots-t : goal.returns-then-slots-t
+returns-then-slots-t c = search (later_store, not-false)
+
+pub returns-then-target-gt-STEPS : goal.returns-then-target-gt-STEPS
+returns-then-target-gt-STEPS c = search (later_limit, not-false)
+
+pub returns : goal.returns
+returns c = search (later_passed, not-false)

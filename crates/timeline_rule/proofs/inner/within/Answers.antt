@@ -1,0 +1,9 @@
+use Rattle.std.proofs.Common.{rules}
+use Rattle.notation.specs.Facts.Tests.{tests}
+use Rattle.timeline_rule.proofs.inner.within.Goals as goal
+
+pub returns-then-x-low : goal.returns-then-x-low
+returns-then-x-low c = search tests depth 9
+
+pub returns : goal.returns
+returns c = search tests depth 9
