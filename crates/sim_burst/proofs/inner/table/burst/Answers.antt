@@ -19,8 +19,12 @@ returns-then-at-stop c = reached_on _ _ _ _ _ _ _ _ _ c.loop-at.invariant _ _ c.
 pub returns-then-not-decoded : goal.returns-then-not-decoded
 returns-then-not-decoded c = reached_on _ _ _ _ _ _ _ _ _ c.loop-at.invariant _ _ c.stretch-at.ensures
 
+-- LEFT same-length-4: same-length-4 c = c.before.before.before.before.before.before.before.before.before.before.before.before.before.before.before.stretch.ensures.lens ∙ c.before.before.before.before.before.before.before.before.before.before.before.before.before.before.before.before.before.loop.invariant.lens
+
 pub returns-then-not-hints : goal.returns-then-not-hints
 returns-then-not-hints c = reached_on _ _ _ _ _ _ _ _ _ c.loop-at.invariant _ _ c.stretch-at.ensures
+
+-- LEFT same-length-5: same-length-5 c = c.before.before.before.before.before.before.before.before.before.before.before.before.before.before.before.before.before.before.stretch.ensures.lens ∙ c.before.before.before.before.before.before.before.before.before.before.before.before.before.before.before.before.before.before.before.before.loop.invariant.lens
 
 pub returns-then-not-next : goal.returns-then-not-next
 returns-then-not-next c = reached_on _ _ _ _ _ _ _ _ _ c.loop-at.invariant _ _ c.stretch-at.ensures
@@ -28,5 +32,5 @@ returns-then-not-next c = reached_on _ _ _ _ _ _ _ _ _ c.loop-at.invariant _ _ c
 pub loop-at-preserved : goal.loop-at-preserved
 loop-at-preserved c =
     reached_again _ _ _ _ _ _ _ _ _ (reached_on _ _ _ _ _ _ _ _ _ c.loop-at.invariant _ _ c.stretch-at.ensures) _ _ _ _ _ c.if-at-eq0.false c.if-at-stop.false
-    (decoded_says _ _ _ _ c.decoded-decoded.ensures (c.if-not-decoded.false) c.number.ensures.0) c.decoded-decoded.ensures.small
-    (c.ordinary-hints.ensures.ordinary (c.if-not-hints.false)) c.went-next.ensures (c.if-not-next.false)
+    (decoded_says _ _ _ _ c.decoded-decoded.ensures (not-false _ c.if-not-decoded.false) c.number.ensures.0) c.decoded-decoded.ensures.small
+    (c.ordinary-hints.ensures.ordinary (not-false _ c.if-not-hints.false)) c.went-next.ensures (not-false _ c.if-not-next.false)

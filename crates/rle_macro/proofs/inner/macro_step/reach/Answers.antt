@@ -1,0 +1,18 @@
+use Rattle.std.proofs.Common.{rules, ap, not}
+use Rattle.rle_stack.specs.Model.{side}
+use native.Mathlib.Omega.{arith}
+use Rattle.rle_stack.specs.Facts.Sides.{ahead_within}
+use Rattle.rle_macro.specs.Facts.MacroStepCases.{reach_all, reach_one, reach_chain}
+use Rattle.rle_macro.proofs.inner.macro_step.reach.Goals as goal
+
+pub returns-then-loops : goal.returns-then-loops
+returns-then-loops c = search reach_all
+
+pub returns-then-not-keeps : goal.returns-then-not-keeps
+returns-then-not-keeps c = search reach_one
+
+pub overflow_add-run : goal.overflow_add-run
+overflow_add-run c = omega (arith, c.requires.count_bound, c.ahead-run.ensures, ahead_within c.args.cur (side c.args.symbols.now c.args.lengths.now c.args.count))
+
+pub returns : goal.returns
+returns c = reach_chain _ _ _ _ _ c.if-loops.false (ap not c.if-not-keeps.false) _ _ c.ahead-run.ensures c.min.ensures

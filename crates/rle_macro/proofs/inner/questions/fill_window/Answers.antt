@@ -1,0 +1,21 @@
+use Rattle.std.proofs.Common.{rules}
+use native.Mathlib.Omega.{arith}
+use Prim.Native.Nat.{◌-◌}
+use mathlib.Core.Path.{◌≡◌, refl}
+use native.Mathlib.Nat.{sub-zero}
+use lib.ListN.{length, length-set}
+use Rattle.notation.specs.Fill.{fill_from}
+use Rattle.notation.specs.Facts.Fill.{fill_next, fill_end}
+use Rattle.rle_stack.specs.Model.{side}
+use Rattle.rle_macro.specs.Model.Questions.{window_on, window_all}
+use Rattle.rle_macro.proofs.inner.questions.fill_window.Goals as goal
+
+pub loop-j-init : goal.loop-j-init
+unfolding window_all
+loop-j-init c = (refl, refl, rw sub-zero)
+
+pub loop-j-preserved : goal.loop-j-preserved
+loop-j-preserved c = (search rules, simp length-set (omega arith), search fill_next)
+
+pub returns : goal.returns
+returns c = search fill_end

@@ -1,0 +1,6 @@
+use Rattle.std.proofs.Common.{rules}
+use Rattle.sim_burst_wide.specs.Facts.BurstCases.{moved_tape_off, moved_tape_left}
+use Rattle.sim_burst_wide.proofs.inner.left.Goals as goal
+
+pub returns : goal.returns
+returns c = moved_tape_left _ _ c.if-t-eq0.false c.min.ensures
