@@ -128,16 +128,16 @@ module _ (Known : List ℕ → Type 0) (m : Machine) (s : List ℕ) (known : Kno
 
   -- ---- a walk
 
-  less : (x y : BurstState) (c d : List ℕ) → Walk Known p stop m.symbols v.t0.len x c y d → y.left ≤ x.left
-  less x y c d here = omega arith
-  less x y c d (more z e w next to walk st) = let h : z.left ≤ x.left = less x z c e walk in omega arith
+  less : (x : BurstState) (c : List ℕ) (y : BurstState) (d : List ℕ) → Walk Known p stop m.symbols v.t0.len x c y d → y.left ≤ x.left
+  less x c y d here = omega arith
+  less x c y d (more z e w next to walk st) = let h : z.left ≤ x.left = less x c z e walk in omega arith
 
   -- the run from the walk's end has the answer of the run from its start: the fuel used is the number of steps made
-  pub walked : (x y : BurstState) (c d : List ℕ) → Walk Known p stop m.symbols v.t0.len x c y d → (steps : ℕ)
+  pub walked : (x : BurstState) (c : List ℕ) (y : BurstState) (d : List ℕ) → Walk Known p stop m.symbols v.t0.len x c y d → (steps : ℕ)
       → run_of job y.left (conf (into v (steps + (x.left - y.left)) y) d c1 c2) ≡ run_of job x.left (conf (into v steps x) c c1 c2)
-  walked x y c d here steps = let z : steps + (x.left - x.left) ≡ steps = omega arith in rw z refl
-  walked x y c d (more z e w next to walk st) steps =
-      let h : z.left ≤ x.left = less x z c e walk in
+  walked x c y d here steps = let z : steps + (x.left - x.left) ≡ steps = omega arith in rw z refl
+  walked x c y d (more z e w next to walk st) steps =
+      let h : z.left ≤ x.left = less x c z e walk in
       let f : z.left ≡ 0 → ⊥ = st.fuel in
       let n : steps + (x.left - (z.left - 1)) ≡ steps + (x.left - z.left) + 1 = omega arith in
-      rw n (ran_on z e w next to st (steps + (x.left - z.left)) ∙ walked x z c e walk steps)
+      rw n (ran_on z e w next to st (steps + (x.left - z.left)) ∙ walked x c z e walk steps)

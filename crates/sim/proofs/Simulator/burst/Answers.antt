@@ -1,0 +1,13 @@
+use Rattle.std.proofs.Common.{rules}
+use Rattle.sim.specs.Facts.BurstCases.{burst_asks, same_run_one, words-none, words-given}
+use Rattle.sim.specs.Facts.WideBurstSteps.{wide_asks, onward_asks, same_run_several}
+use Rattle.sim.proofs.Simulator.burst.Goals as goal
+
+pub returns-then-packed : goal.returns-then-packed
+returns-then-packed c = same_run_one _ _ _ _ _ _ _ _ _ _ _ _ c.burst_one.ensures
+
+pub returns-then-m-eq1 : goal.returns-then-m-eq1
+returns-then-m-eq1 c = same_run_one _ _ _ _ _ _ _ _ _ _ _ _ c.burst_one-then-m-eq1.ensures
+
+pub returns : goal.returns
+returns c = same_run_several _ _ _ _ _ _ _ _ _ _ _ _ _ _ _ _ _ c.if-m-eq1.false c.requires.run_ok c.wide-start.ensures c.burst_several-at.ensures c.onward.ensures

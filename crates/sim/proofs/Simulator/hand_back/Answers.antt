@@ -1,0 +1,8 @@
+use Rattle.std.proofs.Common.{rules}
+use Rattle.sim.specs.Model.Operations.{hand_back}
+use mathlib.Core.Path.{refl}
+use Rattle.sim.proofs.Simulator.hand_back.Goals as goal
+
+pub returns : goal.returns
+unfolding hand_back
+returns c = rw (← c.tape_or-t1.ensures, ← c.tape_or-t2.ensures) refl

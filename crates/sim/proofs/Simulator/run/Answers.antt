@@ -1,0 +1,6 @@
+use Rattle.std.proofs.Common.{rules}
+use Rattle.sim.specs.Facts.AnswerCases.{run_cleared, run_answers}
+use Rattle.sim.proofs.Simulator.run.Goals as goal
+
+pub returns : goal.returns
+returns c = run_answers _ _ _ _ _ _ _ c.run_checked.ensures c.run_check-checked.ensures

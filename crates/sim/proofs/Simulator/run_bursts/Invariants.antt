@@ -1,0 +1,13 @@
+use mathlib.Core.Path.{refl}
+use native.Mathlib.Omega.{arith}
+use Rattle.sim.specs.Model.Engine.{task, conf}
+use Rattle.sim.specs.Facts.TurnCases.{RunInv, loop_stop, loop_ok, loop_pos, loop_last, loop_next, len_then}
+use Rattle.sim.specs.Facts.BurstCases.{same_run_inv}
+use Rattle.sim.proofs.Simulator.run_bursts.Given as goal
+
+abbrev pub invariant-loop-outcome : goal.invariant-loop-outcome
+invariant-loop-outcome l =
+    RunInv (task l.m l.table l.proves l.rule) l.stride l.fuel (conf l.initial.self l.initial.c0 l.initial.c1 l.initial.c2) l.self l.c0 l.c1 l.c2 l.left
+
+abbrev pub decreases-loop-outcome : goal.decreases-loop-outcome
+decreases-loop-outcome l = l.left

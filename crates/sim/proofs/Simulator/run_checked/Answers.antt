@@ -1,0 +1,13 @@
+use Rattle.std.proofs.Common.{rules}
+use Rattle.sim.specs.Facts.AnswerCases.{ran_refused, ran_done}
+use Rattle.sim.specs.Facts.OperationCases.{stride_ok, run_says, run_ok}
+use Rattle.sim.proofs.Simulator.run_checked.Goals as goal
+
+pub stride-stride-requires : goal.stride-stride-requires
+stride-stride-requires c = stride_ok _ _ _ _ (c.requires.runs c.in-Accepted.is)
+
+pub run_over-ran-requires-clause-run_ok : goal.run_over-ran-requires-clause-run_ok
+run_over-ran-requires-clause-run_ok c = run_ok _ _ _ _ _ _ _ _ _ (c.requires.runs c.in-Accepted.is) c.bare-bare.ensures c.stride-stride.ensures.0 c.stride-stride.ensures.1
+
+pub run_over-ran-requires-clause-table_value : goal.run_over-ran-requires-clause-table_value
+run_over-ran-requires-clause-table_value c = (run_says _ _ _ _ (c.requires.runs c.in-Accepted.is)).0.table

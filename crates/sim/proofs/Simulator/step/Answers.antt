@@ -1,0 +1,6 @@
+use Rattle.std.proofs.Common.{rules}
+use Rattle.sim.specs.Facts.AnswerCases.{run_cleared, step_answers}
+use Rattle.sim.proofs.Simulator.step.Goals as goal
+
+pub returns : goal.returns
+returns c = step_answers _ _ _ _ _ _ _ _ _ _ _ _ _ c.run_check-checked.ensures c.run_checked-ran.ensures c.step_answer.ensures
