@@ -1,3 +1,2 @@
 pub mod Model
 pub mod Glyphs
-pub mod Facts

@@ -1,3 +1,1 @@
 pub mod Refusals
-pub mod Exports
-pub mod Facts

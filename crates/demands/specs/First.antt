@@ -1,12 +1,18 @@
 -- THE FIRST DEMAND: "Every operation takes every table, word, buffer, engine value, fuel and target, returns, and wraps no counter. A refusal carries its number
 -- from document 01 and changes no state, tape, run stack or store. Lack of space stops a run before the step that needs it, earlier steps kept."
 -- The check of the crates proves that every operation takes everything, returns and wraps nothing: no public operation has a `requires`. The rest is here.
-use Rattle.demands_first.specs.FirstTables.{TableOperations, table_operations}
-use Rattle.demands_first.specs.FirstLines.{LineOperations, line_operations}
-use Rattle.demands_first.specs.FirstPlain.{PlainOperations, plain_operations}
-use Rattle.demands_first.specs.FirstChain.{ChainOperations, chain_operations}
-use Rattle.demands_first.specs.FirstTimelines.{BothTimelines, both_timelines}
-use Rattle.demands_first.specs.FirstListing.{ListingOperation, listing_operation}
+use Rattle.demands_first.specs.FirstTables.{TableOperations}
+use Rattle.demands_first.proofs.FirstTables.{table_operations}
+use Rattle.demands_first.specs.FirstLines.{LineOperations}
+use Rattle.demands_first.proofs.FirstLines.{line_operations}
+use Rattle.demands_first.specs.FirstPlain.{PlainOperations}
+use Rattle.demands_first.proofs.FirstPlain.{plain_operations}
+use Rattle.demands_first.specs.FirstChain.{ChainOperations}
+use Rattle.demands_first.proofs.FirstChain.{chain_operations}
+use Rattle.demands_first.specs.FirstTimelines.{BothTimelines}
+use Rattle.demands_first.proofs.FirstTimelines.{both_timelines}
+use Rattle.demands_first.specs.FirstListing.{ListingOperation}
+use Rattle.demands_first.proofs.FirstListing.{listing_operation}
 
 pub record FirstDemand : Type 0 where
   -- "A refusal carries its number from document 01 and changes no state, tape, run stack or store.": the table check, the lookup, packing, the word's check,

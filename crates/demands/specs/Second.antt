@@ -6,11 +6,13 @@ use Rattle.machine.specs.declared.Machine.{Machine}
 use Rattle.machine.specs.declared.Entry.{Entry}
 use Rattle.machine.specs.Model.Packing.{pack_word, word_entry}
 use Rattle.table_laws.specs.WellFormed.{EntryOf, WellFormed}
-use Rattle.table_laws.specs.Facts.RoundTrip.{packed_entry_unpacks}
+use Rattle.table_laws.proofs.Facts.RoundTrip.{packed_entry_unpacks}
 use Rattle.demands_second.specs.Accepts.{Packs}
-use Rattle.demands_second.specs.Facts.PlainAccepts.{packs}
-use Rattle.demands_second.specs.SecondPlain.{PlainEngine, plain_engine_lem}
-use Rattle.demands_second.specs.SecondChain.{ChainEngine, chain_engine_lem}
+use Rattle.demands_second.proofs.Facts.PlainAccepts.{packs}
+use Rattle.demands_second.specs.SecondPlain.{PlainEngine}
+use Rattle.demands_second.proofs.SecondPlain.{plain_engine_lem}
+use Rattle.demands_second.specs.SecondChain.{ChainEngine}
+use Rattle.demands_second.proofs.SecondChain.{chain_engine_lem}
 
 pub record SecondDemand : Type 0 where
   -- "For every table, word and engine value that document 01 accepts, with step totals up to 2^62 and while space lasts, answers and tapes equal the Rust's in

@@ -9,11 +9,11 @@
 -- `chain_kind`.
 use Rattle.timeline_laws.specs.Meaning.{EngineMeaning}
 use Rattle.timeline_laws.specs.Statement.{Demand, DemandFrom}
-use Rattle.timeline_laws.specs.Facts.Third.{demand, demand_from}
+use Rattle.timeline_laws.proofs.Facts.Third.{demand, demand_from}
 use Rattle.sim_timeline_laws.specs.Meaning.{plain_engine}
-use Rattle.sim_timeline_laws.specs.Facts.Instance.{plain_instances, plain-begins}
+use Rattle.sim_timeline_laws.proofs.Facts.Instance.{plain_instances, plain-begins}
 use Rattle.rle_timeline_laws.specs.Meaning.{chain_engine}
-use Rattle.rle_timeline_laws.specs.Facts.Instance.{chain_instances, chain-begins}
+use Rattle.rle_timeline_laws.proofs.Facts.Instance.{chain_instances, chain-begins}
 
 -- the kind of engine
 pub data Kinds : Type 0 where

@@ -24,14 +24,12 @@ use Rattle.rle.specs.Model.Questions.{get_answer, extent_answer, count_answer, w
 use Rattle.rle.specs.Model.Records.{left_answer, left_into, right_answer, right_into}
 use Rattle.rle_refines.specs.Meaning.{Stack, empty, config_of, ChainFits, left_end, right_end, Near, Alike}
 use Rattle.rle_refines.specs.Full.{height, Stacked}
-use Rattle.rle_refines.specs.Facts.Fits.{fits_holds, holds_fits, ends-near}
-use Rattle.demands_second.specs.Facts.ChainRun.{full_stays, full_there}
+use Rattle.rle_refines.proofs.Facts.Fits.{fits_holds, holds_fits, ends-near}
+use Rattle.demands_second.proofs.Facts.ChainRun.{full_stays, full_there}
 use Rattle.demands_second.specs.Space.{GoesOn, ChainFull}
 use Rattle.demands_first.specs.FirstClaims.{TurnsAway, of_chain, of_answer, of_got, of_extent, of_counted, of_listed}
 use Rattle.demands_first.specs.FirstTests.{chain_new_tests, chain_run_tests, chain_ask_tests, chain_list_tests}
 use Rattle.demands_first.specs.FirstSpace.{EndsFull}
-use Rattle.demands_first.specs.Facts.FirstChain.{chain_new_turns, chain_engine_turns, chain_run_turns, chain_get_turns, chain_extent_turns, chain_count_turns, chain_window_turns, chain_left_turns, chain_right_turns, chain_new_stack, chain_new_sizes}
-use Rattle.demands_first.specs.Facts.FirstChainSpace.{chain_full, chain_onward}
 
 pub record ChainOperations : Type 0 where
   -- ---- "A refusal carries its number from document 01 and changes no state, tape, run stack or store."
@@ -93,23 +91,3 @@ pub record ChainOperations : Type 0 where
   pub full_onward : (m : Machine) (s : List ℕ) → Bytes s → (rule : StopRule) (a b : ℕ) (σ τ : Conf) (n : ℕ) → run_answer m s rule a σ ≡ given τ (Ans.Done (OutOfFuel n))
       → run_check m s (a + b) σ ≡ Accepted → 0 < b → matches rule τ.sim.state ≡ false → ChainFull m s τ
       → (ω : Conf) × (run_answer m s rule (a + b) σ ≡ given ω (Ans.Done (Full n))) × Alike τ ω
-
-pub chain_operations : ChainOperations
-chain_operations = record {
-  new = chain_new_turns;
-  engine_check_holds = chain_engine_turns;
-  run = chain_run_turns;
-  get = chain_get_turns;
-  non_blank = chain_extent_turns;
-  count_non_blank = chain_count_turns;
-  window = chain_window_turns;
-  left = chain_left_turns;
-  right = chain_right_turns;
-  new_stack = chain_new_stack;
-  new_sizes = chain_new_sizes;
-  fits = λ m σ. (fits_holds m σ, holds_fits m σ);
-  near = ends-near;
-  full = chain_full;
-  full_exact = λ m s b rule fuel σ c l v r. (full_there m s b rule fuel σ σ σ.sim.steps, full_stays m s b fuel σ c rule l v r);
-  full_onward = chain_onward;
-}

@@ -10,7 +10,6 @@ use Rattle.table_text_writer.specs.declared.Written.TheVariants as Written
 use Rattle.table_text_writer.specs.Writing.{write_of, write_into}
 use Rattle.demands_first.specs.FirstClaims.{TurnsAway, of_read, of_written}
 use Rattle.demands_first.specs.FirstTests.{read_tests, write_tests}
-use Rattle.demands_first.specs.Facts.FirstLines.{read_turns, write_turns}
 
 pub record LineOperations : Type 0 where
   -- ---- "A refusal carries its number from document 01 and changes no state, tape, run stack or store."
@@ -23,6 +22,3 @@ pub record LineOperations : Type 0 where
   pub write : (m : Machine) (s line : List ℕ)
       → TurnsAway (1 ∷ 2 ∷ 3 ∷ 4 ∷ 5 ∷ 6 ∷ 21 ∷ 18 ∷ []) (write_tests m s (length line)) (λ (x : Written × List ℕ). of_written x.0) (λ why. (Written.Refused why, line))
       (write_of m s (length line), write_into m s line)
-
-pub line_operations : LineOperations
-line_operations = record { read = read_turns; write = write_turns }

@@ -7,7 +7,6 @@ use Rattle.listing.specs.declared.Listed.TheVariants as Did
 use Rattle.listing.specs.Output.{answer_to, list_of}
 use Rattle.demands_first.specs.FirstClaims.{TurnsAway, of_printed}
 use Rattle.demands_first.specs.FirstTests.{list_tests}
-use Rattle.demands_first.specs.Facts.FirstListing.{is_long, is_short, short_only, list_turns}
 
 pub record ListingOperation : Type 0 where
   -- ---- "A refusal carries its number from document 01 and changes no state, tape, run stack or store."
@@ -19,10 +18,3 @@ pub record ListingOperation : Type 0 where
   pub short : (input out : List ℕ) → (list_of input out ≡ (Did.Refused Why.OutputSize, out)) ↔ (length out < 8743)
   pub long : (input out : List ℕ) → 8743 ≤ length out
       → list_of input out ≡ (Did.Printed (length (answer_to input)), answer_to input ++ drop (length (answer_to input)) out)
-
-pub listing_operation : ListingOperation
-listing_operation = record {
-  list = list_turns;
-  short = λ input out. (short_only input out, is_short input out);
-  long = is_long;
-}

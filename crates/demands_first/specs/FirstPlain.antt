@@ -20,17 +20,15 @@ use Rattle.sim.specs.Model.Engine.{Conf}
 use Rattle.sim.specs.Model.Operations.{bare_of, sim_fits, words_right, engine_check, run_check, Given, given, run_answer, fast_answer, StepGiven, step_given, step_answer, Made, made, new_answer}
 use Rattle.sim.specs.Model.Questions.{question_check, get_answer, extent_answer, count_answer, window_into, find_answer}
 use Rattle.sim_refines.specs.Meaning.{config_of, EngineFits}
-use Rattle.sim_refines.specs.Facts.MissingTapes.{bare_fits, fits_bare}
-use Rattle.sim_refines.specs.Facts.Operations.{fast_done}
+use Rattle.sim_refines.proofs.Facts.MissingTapes.{bare_fits, fits_bare}
+use Rattle.sim_refines.proofs.Facts.Operations.{fast_done}
 use Rattle.demands_second.specs.Space.{GoesOn}
 use Rattle.demands_second.specs.Accepts.{PackedOf}
-use Rattle.demands_second.specs.Facts.PlainAccepts.{words_pass, words_say}
+use Rattle.demands_second.proofs.Facts.PlainAccepts.{words_pass, words_say}
 use Rattle.demands_first.specs.FirstClaims.{TurnsAway, of_fresh, of_answer, of_step, of_got, of_extent, of_counted, of_located}
 use Rattle.demands_first.specs.FirstTests.{plain_new_tests, plain_run_tests, plain_fast_tests, plain_ask_tests}
 use Rattle.demands_first.specs.FirstTimeline.{plain_engine_tests}
 use Rattle.demands_first.specs.FirstSpace.{EndsFull, PlainFull}
-use Rattle.demands_first.specs.Facts.FirstPlain.{plain_new_turns, plain_engine_turns, plain_step_turns, plain_run_turns, plain_fast_turns, plain_get_turns, plain_extent_turns, plain_count_turns, plain_window_turns, plain_find_turns}
-use Rattle.demands_first.specs.Facts.FirstPlainSpace.{plain_full, plain_stays, plain_onward, plain_step_full, plain_step_stays}
 
 pub record PlainOperations : Type 0 where
   -- ---- "A refusal carries its number from document 01 and changes no state, tape, run stack or store."
@@ -90,25 +88,3 @@ pub record PlainOperations : Type 0 where
   -- "full exactly when that passes the buffer, on any tape": an accepted step answers full exactly where it is full; it does not test for a proved loop
   pub step_full_exact : (m : Machine) (s : List ℕ) → Bytes s → (σ : Conf) → run_check m s 1 σ ≡ Accepted
       → (step_answer m s σ ≡ step_given σ (StepAns.Done Step.Full)) ↔ PlainFull m s σ
-
-pub plain_operations : PlainOperations
-plain_operations = record {
-  new = plain_new_turns;
-  engine_check_holds = plain_engine_turns;
-  step = plain_step_turns;
-  run = plain_run_turns;
-  fast = plain_fast_turns;
-  get = plain_get_turns;
-  non_blank = plain_extent_turns;
-  count_non_blank = plain_count_turns;
-  window = plain_window_turns;
-  find_non_blank = plain_find_turns;
-  packed_words = λ m s words t. (words_say m s words t, words_pass m s words t);
-  fits = λ m σ. (bare_fits m σ, fits_bare m σ);
-  full = plain_full;
-  fast_full = λ m s words b rule fuel σ τ n e. plain_full m s b rule fuel σ τ n (fast_done m s words rule fuel σ τ (Full n) e);
-  full_exact = plain_stays;
-  full_onward = plain_onward;
-  step_full = plain_step_full;
-  step_full_exact = plain_step_stays;
-}

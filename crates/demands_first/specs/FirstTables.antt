@@ -12,13 +12,12 @@ use Rattle.machine.specs.Model.Check.{table_check, lookup_of}
 use Rattle.machine.specs.Model.Packing.{pack_check, pack_into}
 use Rattle.machine.specs.Model.Word.{word_check}
 use Rattle.table_laws.specs.WellFormed.{Bytes, WellFormed, FirstRefusal}
-use Rattle.table_laws.specs.Facts.CheckExact.{table_check_refuses_first, table_check_accepted, table_check_accepts}
+use Rattle.table_laws.proofs.Facts.CheckExact.{table_check_refuses_first, table_check_accepted, table_check_accepts}
 use Rattle.alphabet.specs.Model.{symbol_for, allowed_at, encode_check, encode_into}
 use Rattle.alphabet.specs.Glyphs.{First, Absent, named_numbers, Allowed, FirstNotAllowed}
-use Rattle.alphabet.specs.Facts.Glyphs.{symbol_place, symbol_none, allowed_exact, refused_exact}
+use Rattle.alphabet.proofs.Facts.Glyphs.{symbol_place, symbol_none, allowed_exact, refused_exact}
 use Rattle.demands_first.specs.FirstClaims.{TurnsAway, of_looked}
 use Rattle.demands_first.specs.FirstTests.{table_tests, pack_tests, word_tests, encode_tests}
-use Rattle.demands_first.specs.Facts.FirstPlain.{table_turns, lookup_turns, pack_turns, word_turns, word_place, encode_turns}
 
 pub record TableOperations : Type 0 where
   -- ---- "A refusal carries its number from document 01 and changes no state, tape, run stack or store."
@@ -50,19 +49,3 @@ pub record TableOperations : Type 0 where
   pub encode_glyph : (glyphs flags word : List ℕ) (i : ℕ) → (allowed_at glyphs flags word i ≡ true) ↔ Allowed glyphs flags (get_or word i 0)
   -- "17 glyph not allowed (first place)" (FirstNotAllowed), exactly there: no place below 256 holds the glyph, or the first such place is neither 0 nor flagged
   pub encode_first : (glyphs flags word : List ℕ) (room i : ℕ) → (encode_check glyphs flags word room ≡ Refused (Why.Glyph i)) ↔ FirstNotAllowed glyphs flags word i
-
-pub table_operations : TableOperations
-table_operations = record {
-  check = table_turns;
-  check_first = table_check_refuses_first;
-  check_none = λ m s b. (table_check_accepted m s b, table_check_accepts m s);
-  lookup = lookup_turns;
-  pack = pack_turns;
-  word = word_turns;
-  word_first = word_place;
-  symbol_for_holds = symbol_place;
-  symbol_none = symbol_none;
-  encode = encode_turns;
-  encode_glyph = allowed_exact;
-  encode_first = refused_exact;
-}

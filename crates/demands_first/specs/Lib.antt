@@ -9,4 +9,3 @@ pub mod FirstPlain
 pub mod FirstChain
 pub mod FirstTimelines
 pub mod FirstListing
-pub mod Facts

@@ -4,4 +4,3 @@ pub mod PlainClaims
 pub mod SecondPlain
 pub mod ChainClaims
 pub mod SecondChain
-pub mod Facts

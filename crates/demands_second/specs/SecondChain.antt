@@ -35,18 +35,12 @@ use Rattle.rle_refines.specs.Meaning.{Stack, empty, stack_of, tape_of, config_of
 use Rattle.rle_refines.specs.Full.{height, Stacked}
 use Rattle.rle_refines.specs.Statement.{FullWithin}
 use Rattle.rle_refines.specs.Operations.{RunHolds}
-use Rattle.rle_refines.specs.Facts.Patterns.{empty_exact}
-use Rattle.rle_refines.specs.Facts.Operations.{engine_says, run_holds, run_never_halts, new_holds}
-use Rattle.rle_refines.specs.Facts.Rule.{run_off}
-use Rattle.rle_refines.specs.Facts.Questions.{get_is, extent_is, window_into_holds}
+use Rattle.rle_refines.proofs.Facts.Patterns.{empty_exact}
+use Rattle.rle_refines.proofs.Facts.Operations.{engine_says, run_holds, run_never_halts, new_holds}
+use Rattle.rle_refines.proofs.Facts.Rule.{run_off}
+use Rattle.rle_refines.proofs.Facts.Questions.{get_is, extent_is, window_into_holds}
 use Rattle.demands_second.specs.Accepts.{WordOf, FreshPlaces, ChainTaken}
 use Rattle.demands_second.specs.ChainClaims.{MacroStep, Macros, Lists}
-use Rattle.demands_second.specs.Facts.ChainCount.{chain_counts}
-use Rattle.demands_second.specs.Facts.ChainRun.{macro_step, space_exact, cut_same}
-use Rattle.demands_second.specs.Facts.ChainAccepts.{right_stack, chain_new_answers, chain_run_answers, chain_get_answers, chain_span_answers, chain_count_answers, chain_asked}
-use Rattle.demands_second.specs.Facts.ChainMacros.{own_stacks, run_macros, macros_one}
-use Rattle.demands_second.specs.Facts.ChainRecords.{left_lists, right_lists, left_answers, right_answers}
-use Rattle.demands_second.specs.Facts.Windows.{chain_window_past}
 
 pub record ChainEngine : Type 0 where
   -- ---- "For every table, word and engine value that document 01 accepts, with step totals up to 2^62 and while space lasts, answers and tapes equal the Rust's in
@@ -124,35 +118,3 @@ pub record ChainEngine : Type 0 where
   -- where the position z + j is 2^63 or more, the place holds 0
   pub windows_past : (m : Machine) (s : List ℕ) (σ : Conf) → engine_check m s σ ≡ Accepted → (z : ℤ) → dn z ≤ 2 ^ 63 → (out : List ℕ) (j : ℕ) → j < length out
       → pos (2 ^ 63) ≤ℤ (z +ℤ pos j) → get_or (window_into m s z σ out) j 0 ≡ 0
-
-pub chain_engine_lem : ChainEngine
-chain_engine_lem = record {
-  accepts_new = chain_new_answers;
-  right_stacks = right_stack;
-  accepts_run = chain_run_answers;
-  accepts_get = chain_get_answers;
-  accepts_span = chain_span_answers;
-  accepts_count = chain_count_answers;
-  accepts_window = chain_asked;
-  accepts_left = λ m s σ t out h. left_answers m s σ out (chain_asked m s σ t) h;
-  accepts_right = λ m s σ t out h. right_answers m s σ out (chain_asked m s σ t) h;
-  fresh = λ m s w ls ll rs rl v rs' rl' e. let h = new_holds m s w ls ll rs rl v rs' rl' e in (h.holds, h.accepted);
-  runs = run_holds;
-  rules = run_off;
-  never = λ m s b rule fuel σ τ n p e. run_never_halts m s b rule fuel σ τ (NeverHalts n p) e n p refl;
-  macro_steps = macro_step;
-  macros = run_macros;
-  macros_one = λ m d fuel n n' c e x y. macros_one m d x y refl;
-  cuts = cut_same;
-  space = space_exact;
-  empty_left = λ m s σ c. empty_exact m σ (engine_says m s σ c).fits L tt;
-  empty_right = λ m s σ c. empty_exact m σ (engine_says m s σ c).fits R tt;
-  stacks = λ m s σ c. own_stacks m σ (engine_says m s σ c).fits;
-  lefts = left_lists;
-  rights = right_lists;
-  gets = get_is;
-  spans = extent_is;
-  counts = chain_counts;
-  windows = window_into_holds;
-  windows_past = chain_window_past;
-}

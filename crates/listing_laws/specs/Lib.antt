@@ -1,3 +1,2 @@
 pub mod EntryLines
 pub mod Rows
-pub mod Facts

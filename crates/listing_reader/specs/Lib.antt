@@ -1,4 +1,3 @@
 pub mod Listing
 pub mod Contents
 pub mod Invariants
-pub mod Facts

@@ -3,4 +3,3 @@ pub mod Pieces
 pub mod Numbers
 pub mod Show
 pub mod Model
-pub mod Facts

@@ -4,4 +4,3 @@ pub mod Scan
 pub mod ScanDown
 pub mod Fill
 pub mod Position
-pub mod Facts

@@ -12,14 +12,14 @@ use Rattle.table_text_rows.specs.Meaning.{RowUndefined, HasLine}
 use Rattle.table_text_reader.specs.declared.Read.TheVariants as Read
 use Rattle.table_text_reader.specs.Reading.{read_of, read_into}
 use Rattle.table_text_reader.specs.Meaning.{FirstLacking, GoodLine, DashedRow}
-use Rattle.table_text_reader.specs.Facts.Exact.{malformed_exact, lacking_exact, short_exact, accepted_exact}
+use Rattle.table_text_reader.proofs.Facts.Exact.{malformed_exact, lacking_exact, short_exact, accepted_exact}
 use Rattle.table_text_writer.specs.declared.Written.TheVariants as Written
 use Rattle.table_text_writer.specs.Writing.{write_of, write_into}
-use Rattle.table_text_writer.specs.Facts.Exact.{refused_exact, none_exact, small_exact, enough_exact}
+use Rattle.table_text_writer.proofs.Facts.Exact.{refused_exact, none_exact, small_exact, enough_exact}
 use Rattle.table_text_laws.specs.Claims.{table_of, TableRead, LineWritten}
 use Rattle.table_text_laws.specs.Example.{example_line, example_machine, example_table}
-use Rattle.table_text_laws.specs.Facts.Examples.{line_read, line_written}
-use Rattle.table_text_laws.specs.Facts.Claims as Claims
+use Rattle.table_text_laws.proofs.Facts.Examples.{line_read, line_written}
+use Rattle.table_text_laws.proofs.Facts.Claims as Claims
 
 pub record OneLineForm : Type 0 where
   -- "Contributors exchange machines as lines such as `1RB1LB_1LA1RZ`.": the table of this line is that of document 01's listing

@@ -54,7 +54,7 @@ use Rattle.rle_records.specs.Model.{records_of, written_of}
 use Rattle.rle.specs.declared.ChainSim.{ChainSim}
 use Rattle.rle.specs.Model.Engine.{Conf, conf}
 use Rattle.rle.specs.Model.Records.{LeftOrRight, left, right, by_side, side_of, answer_of, into_of}
-use Rattle.rle.specs.Facts.RecordCases.{list_fine}
+use Rattle.rle.proofs.Facts.RecordCases.{list_fine}
 use Rattle.machine.specs.contracts.Machine as Ma
 use Rattle.machine.proofs.Machine.TheLaws as Ma'
 use Rattle.rle_records.specs.contracts.Run as T

@@ -1,1 +1,2 @@
 pub mod BothSides
+pub mod Facts

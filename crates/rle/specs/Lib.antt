@@ -1,4 +1,3 @@
 pub mod Model
 pub mod Fits
 pub mod Invariants
-pub mod Facts

@@ -2,4 +2,3 @@ pub mod Meaning
 pub mod Full
 pub mod Statement
 pub mod Operations
-pub mod Facts

@@ -1,3 +1,2 @@
 pub mod Model
 pub mod Simulation
-pub mod Facts

@@ -3,4 +3,3 @@ pub mod Statement
 pub mod Operations
 pub mod Counts
 pub mod Lent
-pub mod Facts

@@ -10,8 +10,8 @@ use lib.Signed.{non_neg, le_z}
 use mir.Syntax.{w64}
 use mir.Val.{Fits, SFits}
 use Rattle.notation.specs.Position.{up, dn, ◌⊖◌}
-use Rattle.notation.specs.Facts.Position.{ints, diff-⊖}
-use Rattle.notation.specs.Facts.Tests.{clash}
+use Rattle.notation.proofs.Facts.Position.{ints, diff-⊖}
+use Rattle.notation.proofs.Facts.Tests.{clash}
 
 -- what follows from the test of a signed number z against 0, for z and for the number that the code then computes: z itself, or −1 − z
 pub record Up (z : ℤ) : Type 0 where

@@ -1,4 +1,3 @@
 pub mod TableMachine
 pub mod Tables
 pub mod Beside
-pub mod Facts

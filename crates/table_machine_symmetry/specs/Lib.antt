@@ -3,4 +3,3 @@ pub mod Renaming
 pub mod Bytes
 pub mod Claims
 pub mod OneTape
-pub mod Facts

@@ -5,7 +5,7 @@ ghost use Rattle.notation.specs.Scan.{all_in};
 ghost use Rattle.table_bytes.specs.Model.Entries.{within};
 ghost use Rattle.table_text_rows.specs.Rows.{is_undefined, row_undefined, lettered_rows, is_moving, moves_or, moves_at, row_defined, has_line};
 ghost use Rattle.table_text_writer.specs.Writing.{move_text, letter_text, action_text, entry_text, line_byte};
-ghost use Rattle.table_text_writer.specs.Facts.Fits.{Printable, AllPrintable};
+ghost use Rattle.table_text_writer.specs.Fits.{Printable, AllPrintable};
 
 use machine::inner::entry_at;
 use machine::{Action, Entry, Machine};

@@ -1,3 +1,2 @@
 pub mod Claims
 pub mod Example
-pub mod Facts

@@ -1,4 +1,3 @@
 pub mod Model
 pub mod Fits
 pub mod Answers
-pub mod Facts

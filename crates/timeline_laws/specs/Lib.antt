@@ -2,7 +2,7 @@ pub mod Meaning
 pub mod Notes
 pub mod Statement
 pub mod Automaton
+pub mod TableRunFacts
 pub mod TableRun
 pub mod Laws
 pub mod Instance
-pub mod Facts

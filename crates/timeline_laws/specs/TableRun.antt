@@ -5,10 +5,10 @@ use Rattle.outcome.specs.Numbers.{steps_of}
 use Rattle.machine.specs.declared.Machine.{Machine}
 use Rattle.table_machine.specs.TableMachine.{Config, step, Halted, Verdict}
 use Rattle.table_machine.specs.Tables.{table_of, TableOf, Bare}
-use Rattle.table_machine.specs.Facts.Run.{step_halted, step_steps, dec_halted}
-use Rattle.table_machine.specs.Facts.Tape.{bare_step}
+use Rattle.table_machine.proofs.Facts.Run.{step_halted, step_steps, dec_halted}
+use Rattle.table_machine.proofs.Facts.Tape.{bare_step}
 use Rattle.timeline_laws.specs.Automaton.{Automaton, IsFull, IsNever}
-use Rattle.timeline_laws.specs.Facts.TableRun.{verdict_not_full, never_on}
+use Rattle.timeline_laws.specs.TableRunFacts.{verdict_not_full, never_on}
 
 abbrev pub machine : (m : Machine) (s : List ℕ) → TableOf m (table_of m s) → Automaton
 machine m s table =

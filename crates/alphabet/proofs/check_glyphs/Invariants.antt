@@ -1,4 +1,4 @@
-use Rattle.alphabet.specs.Facts.EncodeCases.{glyph_over, glyph_next, glyphs_end}
+use Rattle.alphabet.proofs.Facts.EncodeCases.{glyph_over, glyph_next, glyphs_end}
 use Rattle.alphabet.specs.Model.{allowed_at}
 use Rattle.notation.specs.Scan.{first_fail}
 use lib.ListN.{length}

@@ -1,5 +1,5 @@
 use Rattle.std.proofs.Common.{rules}
-use Rattle.alphabet.specs.Facts.EncodeCases.{encodes_refused, encodes_short, encodes_whole}
+use Rattle.alphabet.proofs.Facts.EncodeCases.{encodes_refused, encodes_short, encodes_whole}
 use Rattle.alphabet.proofs.encode.Goals as goal
 
 pub returns-in-Refused : goal.returns-in-Refused

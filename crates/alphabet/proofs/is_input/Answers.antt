@@ -1,5 +1,5 @@
 use Rattle.std.proofs.Common.{rules}
-use Rattle.alphabet.specs.Facts.EncodeCases.{input_unset, input_flag}
+use Rattle.alphabet.proofs.Facts.EncodeCases.{input_unset, input_flag}
 use Rattle.alphabet.proofs.is_input.Goals as goal
 
 pub returns-then-at-flags : goal.returns-then-at-flags

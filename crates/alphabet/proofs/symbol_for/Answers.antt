@@ -1,5 +1,5 @@
 use Rattle.std.proofs.Common.{rules}
-use Rattle.alphabet.specs.Facts.EncodeCases.{symbol_found, symbol_next, symbol_missing}
+use Rattle.alphabet.proofs.Facts.EncodeCases.{symbol_found, symbol_next, symbol_missing}
 use Rattle.alphabet.specs.Model.{differs}
 use Rattle.notation.specs.Scan.{first_fail}
 use lib.ListN.{length}

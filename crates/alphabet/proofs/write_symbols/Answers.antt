@@ -1,8 +1,8 @@
 use Rattle.std.proofs.Common.{rules}
-use Rattle.alphabet.specs.Facts.EncodeCases.{write_turn}
+use Rattle.alphabet.proofs.Facts.EncodeCases.{write_turn}
 use Rattle.alphabet.specs.Model.{byte_at}
 use Rattle.notation.specs.Fill.{fill_from}
-use Rattle.notation.specs.Facts.Fill.{fill_end}
+use Rattle.notation.proofs.Facts.Fill.{fill_end}
 use native.Mathlib.Omega.{arith}
 use lib.ListN.{length, length-set}
 use native.Mathlib.Nat.{sub-zero}

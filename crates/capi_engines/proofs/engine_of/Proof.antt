@@ -1,4 +1,4 @@
-use Rattle.capi_engines.specs.Facts.Engines.{engine_read}
+use Rattle.capi_engines.proofs.Facts.Engines.{engine_read}
 use borrow.Author.Rules.{rules}
 use Rattle.capi_engines.proofs.engine_of.Statement.{statement}
 use Rattle.capi_engines.proofs.engine_of.Tie as tie

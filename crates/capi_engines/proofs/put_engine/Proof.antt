@@ -1,4 +1,4 @@
-use Rattle.capi_engines.specs.Facts.Engines.{engine_stored}
+use Rattle.capi_engines.proofs.Facts.Engines.{engine_stored}
 use borrow.Author.Rules.{rules}
 use Rattle.capi_engines.proofs.put_engine.Statement.{statement}
 use Rattle.capi_engines.proofs.put_engine.Tie as tie

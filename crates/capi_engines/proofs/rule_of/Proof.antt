@@ -1,4 +1,4 @@
-use Rattle.notation.specs.Facts.Tests.{tests}
+use Rattle.notation.proofs.Facts.Tests.{tests}
 use borrow.Author.Rules.{rules}
 use Rattle.capi_engines.proofs.rule_of.Statement.{statement}
 use Rattle.capi_engines.proofs.rule_of.Tie as tie

@@ -1,4 +1,4 @@
-use Rattle.capi_rle.specs.Facts.Calls.{chain_made, chain_turned}
+use Rattle.capi_rle.proofs.Facts.Calls.{chain_made, chain_turned}
 use borrow.Author.Rules.{rules}
 use Rattle.capi_rle.proofs.new.Statement.{statement}
 use Rattle.capi_rle.proofs.new.Tie as tie

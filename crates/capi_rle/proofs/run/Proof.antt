@@ -1,4 +1,4 @@
-use Rattle.capi_rle.specs.Facts.Calls.{chain_ran}
+use Rattle.capi_rle.proofs.Facts.Calls.{chain_ran}
 use borrow.Author.Rules.{rules}
 use Rattle.capi_rle.proofs.run.Statement.{statement}
 use Rattle.capi_rle.proofs.run.Tie as tie

@@ -1,4 +1,4 @@
-use Rattle.capi_sim.specs.Facts.Calls.{new_called, new_turned}
+use Rattle.capi_sim.proofs.Facts.Calls.{new_called, new_turned}
 use borrow.Author.Rules.{rules}
 use Rattle.capi_sim.proofs.new.Statement.{statement}
 use Rattle.capi_sim.proofs.new.Tie as tie

@@ -1,4 +1,4 @@
-use Rattle.capi_sim.specs.Facts.Calls.{ran_called}
+use Rattle.capi_sim.proofs.Facts.Calls.{ran_called}
 use borrow.Author.Rules.{rules}
 use Rattle.capi_sim.proofs.run_packed.Statement.{statement}
 use Rattle.capi_sim.proofs.run_packed.Tie as tie

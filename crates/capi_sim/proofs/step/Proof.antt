@@ -1,4 +1,4 @@
-use Rattle.capi_sim.specs.Facts.Calls.{step_called}
+use Rattle.capi_sim.proofs.Facts.Calls.{step_called}
 use borrow.Author.Rules.{rules}
 use Rattle.capi_sim.proofs.step.Statement.{statement}
 use Rattle.capi_sim.proofs.step.Tie as tie

@@ -1,4 +1,4 @@
-use Rattle.line_to_listing.specs.Facts.AnswerCases.{line-none, line_less, line_all}
+use Rattle.line_to_listing.proofs.Facts.AnswerCases.{line-none, line_less, line_all}
 use borrow.Author.Rules.{rules}
 use Rattle.line_to_listing.proofs.line_length.Statement.{statement}
 use Rattle.line_to_listing.proofs.line_length.Tie as tie

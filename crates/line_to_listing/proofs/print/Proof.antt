@@ -1,6 +1,6 @@
 use mathlib.Core.Path.{sym}
 use lib.Seq.{length-take-le}
-use Rattle.line_to_listing.specs.Facts.AnswerCases.{table_fits, table_printed, refused_printed}
+use Rattle.line_to_listing.proofs.Facts.AnswerCases.{table_fits, table_printed, refused_printed}
 use borrow.Author.Rules.{rules}
 use Rattle.line_to_listing.proofs.print.Statement.{statement}
 use Rattle.line_to_listing.proofs.print.Tie as tie

@@ -1,6 +1,6 @@
 use native.Mathlib.Omega.{arith}
-use Rattle.listing_text.specs.Facts.PrintCases.{wrote_long}
-use Rattle.listing.specs.Facts.OutputCases.{list_short, list_long}
+use Rattle.listing_text.proofs.Facts.PrintCases.{wrote_long}
+use Rattle.listing.proofs.Facts.OutputCases.{list_short, list_long}
 use borrow.Author.Rules.{rules}
 use Rattle.listing.proofs.list.Statement.{statement}
 use Rattle.listing.proofs.list.Tie as tie

@@ -1,7 +1,7 @@
 use borrow.Author.Rules.{rules}
 use Rattle.listing_lines.specs.Forms.{entry_line}
 use Rattle.listing_lines.specs.Model.{rule_in}
-use Rattle.listing_text.specs.Facts.Chain.{chain}
+use Rattle.listing_text.proofs.Facts.Chain.{chain}
 use Rattle.listing_lines.proofs.entry_line.Statement.{statement}
 use Rattle.listing_lines.proofs.entry_line.Tie as tie
 

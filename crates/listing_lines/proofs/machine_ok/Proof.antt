@@ -2,7 +2,7 @@ use Prim.Native.Nat.{◌≤◌, ◌*◌}
 use native.Mathlib.Nat.{mul-le-mul}
 use native.Mathlib.Omega.{arith}
 use Rattle.listing_lines.specs.Forms.{machine_ok}
-use Rattle.listing_text.specs.Facts.Chain.{chain}
+use Rattle.listing_text.proofs.Facts.Chain.{chain}
 use Rattle.listing_lines.proofs.machine_ok.Statement.{statement}
 use Rattle.listing_lines.proofs.machine_ok.Tie as tie
 

@@ -1,6 +1,6 @@
 use borrow.Author.Rules.{rules}
 use Rattle.listing_lines.specs.Forms.{move}
-use Rattle.listing_text.specs.Facts.Chain.{chain}
+use Rattle.listing_text.proofs.Facts.Chain.{chain}
 use Rattle.listing_lines.proofs.move_at.Statement.{statement}
 use Rattle.listing_lines.proofs.move_at.Tie as tie
 

@@ -1,7 +1,7 @@
 use Rattle.std.proofs.Common.{rules}
 use native.Mathlib.Omega.{arith}
 use borrow.Author.Tests.{not-true, not-false}
-use Rattle.listing_text.specs.Facts.NumberCases.{digit_low, add_no, add_over, add_full, add_good}
+use Rattle.listing_text.proofs.Facts.NumberCases.{digit_low, add_no, add_over, add_full, add_good}
 use Rattle.listing_text.proofs.add_digit.Goals as goal
 
 pub returns-then-not-is_digit : goal.returns-then-not-is_digit

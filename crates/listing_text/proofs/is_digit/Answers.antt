@@ -1,5 +1,5 @@
 use Rattle.std.proofs.Common.{rules}
-use Rattle.notation.specs.Facts.Tests.{tests}
+use Rattle.notation.proofs.Facts.Tests.{tests}
 use Rattle.listing_text.proofs.is_digit.Goals as goal
 
 pub returns-then-b-lt48 : goal.returns-then-b-lt48

@@ -3,7 +3,7 @@ use mathlib.Core.Path.{◌≡◌, refl}
 use Prim.Native.Nat.{◌≤◌, ◌<◌, ◌-◌, ◌^◌}
 use native.Mathlib.Omega.{arith}
 use lib.ListN.{length, drop}
-use Rattle.listing_text.specs.Facts.NumberCases.{digits_fit, digits_next, digits_stop, digits-end}
+use Rattle.listing_text.proofs.Facts.NumberCases.{digits_fit, digits_next, digits_stop, digits-end}
 use Rattle.listing_text.specs.Numbers.{digits}
 use Rattle.listing_text.proofs.read_digits.Goals as goal
 

@@ -1,5 +1,5 @@
 use Rattle.std.proofs.Common.{rules}
-use Rattle.listing_text.specs.Facts.NumberCases.{number-none, number_zero, number_digits}
+use Rattle.listing_text.proofs.Facts.NumberCases.{number-none, number_zero, number_digits}
 use Rattle.listing_text.proofs.read_number.Goals as goal
 
 pub returns-then-s-eq0 : goal.returns-then-s-eq0

@@ -1,7 +1,7 @@
 use mathlib.Core.Path.{sym}
 use native.Mathlib.Omega.{arith}
 use lib.Seq.{length-take-le}
-use Rattle.listing_to_line.specs.Facts.AnswerCases.{line_fits, line_room, line_printed, table_refused}
+use Rattle.listing_to_line.proofs.Facts.AnswerCases.{line_fits, line_room, line_printed, table_refused}
 use borrow.Author.Rules.{rules}
 use Rattle.listing_to_line.proofs.line.Statement.{statement}
 use Rattle.listing_to_line.proofs.line.Tie as tie

@@ -1,6 +1,6 @@
 use native.Mathlib.Omega.{arith}
-use Rattle.listing_text.specs.Facts.PrintCases.{wrote_then}
-use Rattle.listing_to_line.specs.Facts.AnswerCases.{put_first, then_newline}
+use Rattle.listing_text.proofs.Facts.PrintCases.{wrote_then}
+use Rattle.listing_to_line.proofs.Facts.AnswerCases.{put_first, then_newline}
 use borrow.Author.Rules.{rules}
 use Rattle.listing_to_line.proofs.numbered_line.Statement.{statement}
 use Rattle.listing_to_line.proofs.numbered_line.Tie as tie

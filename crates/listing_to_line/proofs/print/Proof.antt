@@ -1,7 +1,7 @@
 use mathlib.Core.Path.{sym}
 use native.Mathlib.Omega.{arith}
 use lib.Seq.{length-take-le}
-use Rattle.listing_to_line.specs.Facts.AnswerCases.{few_entries, table_holds, bad_printed, asked_printed}
+use Rattle.listing_to_line.proofs.Facts.AnswerCases.{few_entries, table_holds, bad_printed, asked_printed}
 use borrow.Author.Rules.{rules}
 use Rattle.listing_to_line.proofs.print.Statement.{statement}
 use Rattle.listing_to_line.proofs.print.Tie as tie

@@ -1,5 +1,5 @@
 use native.Mathlib.Omega.{arith}
-use Rattle.listing_to_line.specs.Facts.AnswerCases.{put_first, then_newline}
+use Rattle.listing_to_line.proofs.Facts.AnswerCases.{put_first, then_newline}
 use borrow.Author.Rules.{rules}
 use Rattle.listing_to_line.proofs.text_line.Statement.{statement}
 use Rattle.listing_to_line.proofs.text_line.Tie as tie

@@ -1,6 +1,6 @@
 use mathlib.Core.Path.{sym}
 use lib.Seq.{length-take-le}
-use Rattle.listing.specs.Facts.OutputCases.{printed_in}
+use Rattle.listing.proofs.Facts.OutputCases.{printed_in}
 use borrow.Author.Rules.{rules}
 use Rattle.seekrun.proofs.answer.Statement.{statement}
 use Rattle.seekrun.proofs.answer.Tie as tie

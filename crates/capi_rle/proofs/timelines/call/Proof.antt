@@ -1,4 +1,4 @@
-use Rattle.capi_rle.specs.Facts.Timelines.{chain_timeline_called}
+use Rattle.capi_rle.proofs.Facts.Timelines.{chain_timeline_called}
 use borrow.Author.Rules.{rules}
 use Rattle.capi_rle.proofs.timelines.call.Statement.{statement}
 use Rattle.capi_rle.proofs.timelines.call.Tie as tie

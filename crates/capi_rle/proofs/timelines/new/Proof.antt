@@ -1,4 +1,4 @@
-use Rattle.capi_numbers.specs.Facts.Timelines.{timeline_made, timeline_turned}
+use Rattle.capi_numbers.proofs.Facts.Timelines.{timeline_made, timeline_turned}
 use borrow.Author.Rules.{rules}
 use Rattle.capi_rle.proofs.timelines.new.Statement.{statement}
 use Rattle.capi_rle.proofs.timelines.new.Tie as tie

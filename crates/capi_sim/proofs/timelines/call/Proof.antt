@@ -1,4 +1,4 @@
-use Rattle.capi_sim.specs.Facts.Timelines.{timeline_called}
+use Rattle.capi_sim.proofs.Facts.Timelines.{timeline_called}
 use borrow.Author.Rules.{rules}
 use Rattle.capi_sim.proofs.timelines.call.Statement.{statement}
 use Rattle.capi_sim.proofs.timelines.call.Tie as tie

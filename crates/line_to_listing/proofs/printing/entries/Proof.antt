@@ -1,8 +1,8 @@
 use Prim.Native.Nat.{◌+◌, ◌*◌, ◌-◌, ◌≤◌}
 use native.Mathlib.Omega.{arith}
 use Rattle.listing_text.specs.Model.{Wrote}
-use Rattle.listing_text.specs.Facts.PrintCases.{wrote_long}
-use Rattle.line_to_listing.specs.Facts.PrintCases.{entries_start, entries_next, entries_end}
+use Rattle.listing_text.proofs.Facts.PrintCases.{wrote_long}
+use Rattle.line_to_listing.proofs.Facts.PrintCases.{entries_start, entries_next, entries_end}
 use Rattle.line_to_listing.specs.Output.{entry_lines}
 use borrow.Author.Rules.{rules}
 use Rattle.line_to_listing.proofs.printing.entries.Statement.{statement}

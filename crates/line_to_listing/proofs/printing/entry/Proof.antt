@@ -1,4 +1,4 @@
-use Rattle.line_to_listing.specs.Facts.PrintCases.{entry_none, entry_some}
+use Rattle.line_to_listing.proofs.Facts.PrintCases.{entry_none, entry_some}
 use borrow.Author.Rules.{rules}
 use Rattle.line_to_listing.proofs.printing.entry.Statement.{statement}
 use Rattle.line_to_listing.proofs.printing.entry.Tie as tie

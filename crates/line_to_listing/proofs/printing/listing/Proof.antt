@@ -1,9 +1,9 @@
 use mathlib.Core.Path.{refl}
 use native.Mathlib.Omega.{arith}
 use Rattle.listing_text.specs.Text.{bytes}
-use Rattle.listing_text.specs.Facts.PrintCases.{wrote_then, wrote-put}
+use Rattle.listing_text.proofs.Facts.PrintCases.{wrote_then, wrote-put}
 use Rattle.line_to_listing.specs.Output.{listing_of}
-use Rattle.line_to_listing.specs.Facts.PrintCases.{then_put}
+use Rattle.line_to_listing.proofs.Facts.PrintCases.{then_put}
 use borrow.Author.Rules.{rules}
 use Rattle.line_to_listing.proofs.printing.listing.Statement.{statement}
 use Rattle.line_to_listing.proofs.printing.listing.Tie as tie

@@ -1,5 +1,5 @@
 use native.Mathlib.Omega.{arith}
-use Rattle.line_to_listing.specs.Facts.PrintCases.{then_put}
+use Rattle.line_to_listing.proofs.Facts.PrintCases.{then_put}
 use borrow.Author.Rules.{rules}
 use Rattle.line_to_listing.proofs.printing.number.Statement.{statement}
 use Rattle.line_to_listing.proofs.printing.number.Tie as tie

@@ -1,4 +1,4 @@
-use Rattle.line_to_listing.specs.Facts.PrintCases.{place_none, place_some}
+use Rattle.line_to_listing.proofs.Facts.PrintCases.{place_none, place_some}
 use borrow.Author.Rules.{rules}
 use Rattle.line_to_listing.proofs.printing.place.Statement.{statement}
 use Rattle.line_to_listing.proofs.printing.place.Tie as tie

@@ -2,7 +2,7 @@ use Prim.Native.Nat.{ℕ}
 use mathlib.Core.Path.{ap}
 use mathlib.Core.List.{[], ◌∷◌}
 use native.Mathlib.Omega.{arith}
-use Rattle.listing_text.specs.Facts.PrintCases.{wrote-put}
+use Rattle.listing_text.proofs.Facts.PrintCases.{wrote-put}
 use borrow.Author.Rules.{rules}
 use Rattle.line_to_listing.proofs.printing.print_move.Statement.{statement}
 use Rattle.line_to_listing.proofs.printing.print_move.Tie as tie

@@ -1,4 +1,4 @@
-use Rattle.listing.specs.Facts.OutputCases.{fresh_turned, fresh_made}
+use Rattle.listing.proofs.Facts.OutputCases.{fresh_turned, fresh_made}
 use borrow.Author.Rules.{rules}
 use Rattle.listing.proofs.asked.on_engine.Statement.{statement}
 use Rattle.listing.proofs.asked.on_engine.Tie as tie

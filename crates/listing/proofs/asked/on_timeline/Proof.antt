@@ -1,5 +1,5 @@
 use native.Mathlib.Omega.{arith}
-use Rattle.listing.specs.Facts.OutputCases.{new_fits, new_turned, new_rows}
+use Rattle.listing.proofs.Facts.OutputCases.{new_fits, new_turned, new_rows}
 use borrow.Author.Rules.{rules}
 use Rattle.listing.proofs.asked.on_timeline.Statement.{statement}
 use Rattle.listing.proofs.asked.on_timeline.Tie as tie

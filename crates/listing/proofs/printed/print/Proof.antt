@@ -1,5 +1,5 @@
-use Rattle.listing_reader.specs.Facts.Accepted.{contents_ok}
-use Rattle.listing.specs.Facts.OutputCases.{read_bad, read_asked}
+use Rattle.listing_reader.proofs.Facts.Accepted.{contents_ok}
+use Rattle.listing.proofs.Facts.OutputCases.{read_bad, read_asked}
 use borrow.Author.Rules.{rules}
 use Rattle.listing.proofs.printed.print.Statement.{statement}
 use Rattle.listing.proofs.printed.print.Tie as tie

@@ -1,7 +1,7 @@
 use mathlib.Core.Path.{refl}
 use borrow.Author.Rules.{rules}
 use Rattle.notation.specs.Choice.{pick}
-use Rattle.listing_lines.specs.Facts.FormCases.{given_yes, given_no, defined}
+use Rattle.listing_lines.proofs.Facts.FormCases.{given_yes, given_no, defined}
 use Rattle.listing_lines.proofs.inner.give.Statement.{statement}
 use Rattle.listing_lines.proofs.inner.give.Tie as tie
 

@@ -1,6 +1,6 @@
 use Prim.Native.Nat.{◌-◌}
 use borrow.Author.Rules.{rules}
-use Rattle.listing_lines.specs.Facts.FormCases.{WordInv, below_256, word_none, word-start, word_bad, word_next_holds, word_end}
+use Rattle.listing_lines.proofs.Facts.FormCases.{WordInv, below_256, word_none, word-start, word_bad, word_next_holds, word_end}
 use Rattle.listing_lines.proofs.inner.read_word.Statement.{statement}
 use Rattle.listing_lines.proofs.inner.read_word.Tie as tie
 

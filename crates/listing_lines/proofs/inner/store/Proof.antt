@@ -1,5 +1,5 @@
 use borrow.Author.Rules.{rules}
-use Rattle.listing_lines.specs.Facts.FormCases.{stored}
+use Rattle.listing_lines.proofs.Facts.FormCases.{stored}
 use Rattle.listing_lines.proofs.inner.store.Statement.{statement}
 use Rattle.listing_lines.proofs.inner.store.Tie as tie
 

@@ -1,5 +1,5 @@
 use native.Mathlib.Omega.{arith}
-use Rattle.listing_rows.specs.Facts.RowCases.{refused_done}
+use Rattle.listing_rows.proofs.Facts.RowCases.{refused_done}
 use borrow.Author.Rules.{rules}
 use Rattle.listing_rows.proofs.inner.refused.Statement.{statement}
 use Rattle.listing_rows.proofs.inner.refused.Tie as tie

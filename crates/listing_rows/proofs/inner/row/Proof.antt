@@ -1,4 +1,4 @@
-use Rattle.listing_rows.specs.Facts.RowCases.{row_turned, row_answered}
+use Rattle.listing_rows.proofs.Facts.RowCases.{row_turned, row_answered}
 use borrow.Author.Rules.{rules}
 use Rattle.listing_rows.proofs.inner.row.Statement.{statement}
 use Rattle.listing_rows.proofs.inner.row.Tie as tie

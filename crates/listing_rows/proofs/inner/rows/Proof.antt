@@ -3,7 +3,7 @@ use Prim.Native.Nat.{◌-◌}
 use native.Mathlib.Omega.{arith}
 use lib.ListN.{length}
 use Rattle.sim_timeline.specs.Model.{with_lent}
-use Rattle.listing_rows.specs.Facts.RowCases.{RowsInv, rows_start, row_ready, rows_next, rows_end}
+use Rattle.listing_rows.proofs.Facts.RowCases.{RowsInv, rows_start, row_ready, rows_next, rows_end}
 use borrow.Author.Rules.{rules}
 use Rattle.listing_rows.proofs.inner.rows.Statement.{statement}
 use Rattle.listing_rows.proofs.inner.rows.Tie as tie

@@ -1,6 +1,6 @@
 use mathlib.Core.Path.{refl}
 use native.Mathlib.Omega.{arith}
-use Rattle.listing_rows.specs.Facts.RowCases.{said-done}
+use Rattle.listing_rows.proofs.Facts.RowCases.{said-done}
 use borrow.Author.Rules.{rules}
 use Rattle.listing_rows.proofs.printing.answer.Statement.{statement}
 use Rattle.listing_rows.proofs.printing.answer.Tie as tie

@@ -1,5 +1,5 @@
 use native.Mathlib.Omega.{arith}
-use Rattle.listing_text.specs.Facts.PrintCases.{byte_then}
+use Rattle.listing_text.proofs.Facts.PrintCases.{byte_then}
 use borrow.Author.Rules.{rules}
 use Rattle.listing_rows.proofs.printing.number.Statement.{statement}
 use Rattle.listing_rows.proofs.printing.number.Tie as tie

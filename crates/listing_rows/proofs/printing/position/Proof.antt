@@ -1,6 +1,6 @@
 use native.Mathlib.Omega.{arith}
 use Rattle.notation.specs.Position.{◌⊖◌}
-use Rattle.listing_text.specs.Facts.PrintCases.{byte_then}
+use Rattle.listing_text.proofs.Facts.PrintCases.{byte_then}
 use borrow.Author.Rules.{rules}
 use Rattle.listing_rows.proofs.printing.position.Statement.{statement}
 use Rattle.listing_rows.proofs.printing.position.Tie as tie

@@ -1,5 +1,5 @@
 use native.Mathlib.Omega.{arith}
-use Rattle.listing_text.specs.Facts.PrintCases.{wrote_then}
+use Rattle.listing_text.proofs.Facts.PrintCases.{wrote_then}
 use borrow.Author.Rules.{rules}
 use Rattle.listing_rows.proofs.printing.positions.Statement.{statement}
 use Rattle.listing_rows.proofs.printing.positions.Tie as tie

@@ -1,4 +1,4 @@
-use Rattle.listing_rows.specs.Facts.RowCases.{row_done}
+use Rattle.listing_rows.proofs.Facts.RowCases.{row_done}
 use borrow.Author.Rules.{rules}
 use Rattle.listing_rows.proofs.printing.row.Statement.{statement}
 use Rattle.listing_rows.proofs.printing.row.Tie as tie

@@ -1,5 +1,5 @@
 use Rattle.std.proofs.Common.{rules}
-use Rattle.notation.specs.Facts.Tests.{tests}
+use Rattle.notation.proofs.Facts.Tests.{tests}
 use Rattle.listing_text.proofs.fields.step_of.Goals as goal
 
 pub returns-then-b-eq32 : goal.returns-then-b-eq32

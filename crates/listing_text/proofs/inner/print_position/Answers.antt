@@ -1,5 +1,5 @@
 use Rattle.std.proofs.Common.{rules}
-use Rattle.listing_text.specs.Facts.PrintCases.{down_done, up_done}
+use Rattle.listing_text.proofs.Facts.PrintCases.{down_done, up_done}
 use Rattle.listing_text.proofs.inner.print_position.Goals as goal
 
 pub returns-then-index-origin : goal.returns-then-index-origin

@@ -1,8 +1,8 @@
 use Rattle.std.proofs.Common.{rules, ap, not}
-use Rattle.machine.specs.Facts.Check.{within-passed}
-use Rattle.machine.specs.Facts.CheckCases.{count_fits, count_small, size_via}
+use Rattle.machine.proofs.Facts.Check.{within-passed}
+use Rattle.machine.proofs.Facts.CheckCases.{count_fits, count_small, size_via}
 use Rattle.machine.specs.Model.Check.{table_check}
-use Rattle.notation.specs.Facts.Tests.{tests, via}
+use Rattle.notation.proofs.Facts.Tests.{tests, via}
 use Rattle.machine.proofs.Machine.check.Goals as goal
 
 pub returns-then-not-within : goal.returns-then-not-within

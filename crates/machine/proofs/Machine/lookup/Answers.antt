@@ -1,7 +1,7 @@
 use Rattle.std.proofs.Common.{rules}
 use mathlib.Core.Path.{sym, ◌∙◌}
-use Rattle.machine.specs.Facts.Check.{ranges}
-use Rattle.machine.specs.Facts.CheckCases.{looked_refused, looked_found}
+use Rattle.machine.proofs.Facts.Check.{ranges}
+use Rattle.machine.proofs.Facts.CheckCases.{looked_refused, looked_found}
 use Rattle.machine.proofs.Machine.lookup.Goals as goal
 
 pub returns-in-Refused : goal.returns-in-Refused

@@ -1,9 +1,9 @@
 use Rattle.std.proofs.Common.{rules}
 use native.Mathlib.Omega.{arith}
 use mathlib.Core.Path.{sym, ◌∙◌}
-use Rattle.machine.specs.Facts.CheckCases.{count_small}
-use Rattle.machine.specs.Facts.Check.{ranges}
-use Rattle.machine.specs.Facts.PackingCases.{packs_refused, packs_several, packs_short, packs_whole}
+use Rattle.machine.proofs.Facts.CheckCases.{count_small}
+use Rattle.machine.proofs.Facts.Check.{ranges}
+use Rattle.machine.proofs.Facts.PackingCases.{packs_refused, packs_several, packs_short, packs_whole}
 use Rattle.machine.proofs.Machine.pack.Goals as goal
 
 pub returns-in-Refused : goal.returns-in-Refused

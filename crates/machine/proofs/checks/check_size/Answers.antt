@@ -1,6 +1,6 @@
 use Rattle.std.proofs.Common.{rules}
 use Rattle.machine.specs.Model.Check.{size_check}
-use Rattle.notation.specs.Facts.Tests.{tests}
+use Rattle.notation.proofs.Facts.Tests.{tests}
 use Rattle.machine.proofs.checks.check_size.Goals as goal
 
 pub returns-then-size-count : goal.returns-then-size-count

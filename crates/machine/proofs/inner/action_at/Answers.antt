@@ -1,5 +1,5 @@
 use Rattle.std.proofs.Common.{rules}
-use Rattle.machine.specs.Facts.CheckCases.{action_made}
+use Rattle.machine.proofs.Facts.CheckCases.{action_made}
 use Rattle.machine.proofs.inner.action_at.Goals as goal
 
 pub returns : goal.returns

@@ -1,5 +1,5 @@
 use Rattle.std.proofs.Common.{rules}
-use Rattle.notation.specs.Facts.Tests.{tests}
+use Rattle.notation.proofs.Facts.Tests.{tests}
 use Rattle.machine.proofs.inner.dir_of.Goals as goal
 
 pub returns-then-d-eq0 : goal.returns-then-d-eq0

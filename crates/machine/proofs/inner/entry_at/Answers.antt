@@ -1,5 +1,5 @@
 use Rattle.std.proofs.Common.{rules}
-use Rattle.machine.specs.Facts.CheckCases.{entry_past, entry_none, entry_some}
+use Rattle.machine.proofs.Facts.CheckCases.{entry_past, entry_none, entry_some}
 use Rattle.machine.proofs.inner.entry_at.Goals as goal
 
 pub returns-then-table-i : goal.returns-then-table-i

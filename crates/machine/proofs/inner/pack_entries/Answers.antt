@@ -1,7 +1,7 @@
 use Rattle.std.proofs.Common.{rules}
 use Rattle.machine.specs.Model.Packing.{word_at}
-use Rattle.notation.specs.Facts.Fill.{fill_end}
-use Rattle.machine.specs.Facts.PackingCases.{pack_turn}
+use Rattle.notation.proofs.Facts.Fill.{fill_end}
+use Rattle.machine.proofs.Facts.PackingCases.{pack_turn}
 use Rattle.notation.specs.Fill.{fill_from}
 use lib.ListN.{length, length-set}
 use native.Mathlib.Omega.{arith}

@@ -1,5 +1,5 @@
 use Rattle.std.proofs.Common.{rules}
-use Rattle.machine.specs.Facts.PackingCases.{word_made}
+use Rattle.machine.proofs.Facts.PackingCases.{word_made}
 use Rattle.machine.proofs.packed.pack_action.Goals as goal
 
 pub returns : goal.returns

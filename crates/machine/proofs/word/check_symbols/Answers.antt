@@ -1,7 +1,7 @@
 use Rattle.std.proofs.Common.{rules}
 use Rattle.outcome.specs.declared.Refusal.TheVariants as Why
 use Rattle.machine.specs.Model.Word.{symbols_check}
-use Rattle.machine.specs.Facts.CheckCases.{scan_bad, scan_end}
+use Rattle.machine.proofs.Facts.CheckCases.{scan_bad, scan_end}
 use Rattle.machine.proofs.word.check_symbols.Goals as goal
 
 pub returns-in-At : goal.returns-in-At

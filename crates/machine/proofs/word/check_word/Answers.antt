@@ -1,6 +1,6 @@
 use Rattle.std.proofs.Common.{rules}
 use Rattle.machine.specs.Model.Word.{word_check}
-use Rattle.notation.specs.Facts.Tests.{tests}
+use Rattle.notation.proofs.Facts.Tests.{tests}
 use Rattle.machine.proofs.word.check_word.Goals as goal
 
 pub returns-then-word-gt-WORD : goal.returns-then-word-gt-WORD

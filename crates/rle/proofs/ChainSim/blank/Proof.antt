@@ -1,4 +1,4 @@
-use Rattle.rle.specs.Facts.QuestionCases.{blank_cur, blank_left, blank_right}
+use Rattle.rle.proofs.Facts.QuestionCases.{blank_cur, blank_left, blank_right}
 use Rattle.rle.proofs.ChainSim.blank.Statement.{statement}
 use Rattle.rle.proofs.ChainSim.blank.Tie as tie
 

@@ -1,4 +1,4 @@
-use Rattle.rle.specs.Facts.QuestionCases.{asked_places, asked_sums, count_refused, count_done}
+use Rattle.rle.proofs.Facts.QuestionCases.{asked_places, asked_sums, count_refused, count_done}
 use borrow.Author.Rules.{rules}
 use Rattle.rle.proofs.ChainSim.count_non_blank.Statement.{statement}
 use Rattle.rle.proofs.ChainSim.count_non_blank.Tie as tie

@@ -1,4 +1,4 @@
-use Rattle.rle.specs.Facts.EngineCases.{turn_halts, turn_never, turn_goes}
+use Rattle.rle.proofs.Facts.EngineCases.{turn_halts, turn_never, turn_goes}
 use borrow.Author.Rules.{rules}
 use Rattle.rle.proofs.ChainSim.decide.Statement.{statement}
 use Rattle.rle.proofs.ChainSim.decide.Tie as tie

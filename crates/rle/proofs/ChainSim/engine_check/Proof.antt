@@ -1,4 +1,4 @@
-use Rattle.rle.specs.Facts.FitsCases.{engine_table, engine_value}
+use Rattle.rle.proofs.Facts.FitsCases.{engine_table, engine_value}
 use borrow.Author.Rules.{rules}
 use Rattle.rle.proofs.ChainSim.engine_check.Statement.{statement}
 use Rattle.rle.proofs.ChainSim.engine_check.Tie as tie

@@ -1,6 +1,6 @@
 use native.Mathlib.Omega.{arith}
 use borrow.Author.Tests.{not-true, not-false}
-use Rattle.rle.specs.Facts.FitsCases.{fits_counts, fits_head, fits_left, fits_right, fits_reach, counts_steps}
+use Rattle.rle.proofs.Facts.FitsCases.{fits_counts, fits_head, fits_left, fits_right, fits_reach, counts_steps}
 use borrow.Author.Rules.{rules}
 use Rattle.rle.proofs.ChainSim.fits.Statement.{statement}
 use Rattle.rle.proofs.ChainSim.fits.Tie as tie

@@ -1,4 +1,4 @@
-use Rattle.rle.specs.Facts.EngineCases.{fuel_none, fuel_stops, fuel_goes}
+use Rattle.rle.proofs.Facts.EngineCases.{fuel_none, fuel_stops, fuel_goes}
 use borrow.Author.Rules.{rules}
 use Rattle.rle.proofs.ChainSim.fueled.Statement.{statement}
 use Rattle.rle.proofs.ChainSim.fueled.Tie as tie

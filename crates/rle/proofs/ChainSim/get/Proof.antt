@@ -1,6 +1,6 @@
 use mir.ValLaws.{to_z-of_z}
 use mir.Syntax.{w64}
-use Rattle.rle.specs.Facts.QuestionCases.{asked_places, get_refused, get_done}
+use Rattle.rle.proofs.Facts.QuestionCases.{asked_places, get_refused, get_done}
 use borrow.Author.Rules.{rules}
 use Rattle.rle.proofs.ChainSim.get.Statement.{statement}
 use Rattle.rle.proofs.ChainSim.get.Tie as tie

@@ -1,6 +1,6 @@
 use native.Mathlib.Omega.{arith}
 use Rattle.rle.specs.Model.Engine.{conf}
-use Rattle.rle.specs.Facts.QuestionCases.{highest_right, highest_head, highest_left, some_on_left}
+use Rattle.rle.proofs.Facts.QuestionCases.{highest_right, highest_head, highest_left, some_on_left}
 use borrow.Author.Rules.{rules}
 use Rattle.rle.proofs.ChainSim.highest_cell.Statement.{statement}
 use Rattle.rle.proofs.ChainSim.highest_cell.Tie as tie

@@ -1,4 +1,4 @@
-use Rattle.rle.specs.Facts.EngineCases.{landed_made}
+use Rattle.rle.proofs.Facts.EngineCases.{landed_made}
 use borrow.Author.Rules.{rules}
 use Rattle.rle.proofs.ChainSim.landed.Statement.{statement}
 use Rattle.rle.proofs.ChainSim.landed.Tie as tie

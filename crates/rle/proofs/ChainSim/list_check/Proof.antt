@@ -1,4 +1,4 @@
-use Rattle.rle.specs.Facts.RecordCases.{list_refused, list_room}
+use Rattle.rle.proofs.Facts.RecordCases.{list_refused, list_room}
 use borrow.Author.Rules.{rules}
 use Rattle.rle.proofs.ChainSim.list_check.Statement.{statement}
 use Rattle.rle.proofs.ChainSim.list_check.Tie as tie

@@ -1,6 +1,6 @@
 use native.Mathlib.Omega.{arith}
 use Rattle.rle.specs.Model.Engine.{conf}
-use Rattle.rle.specs.Facts.QuestionCases.{left_sum, lowest_left, lowest_head, lowest_right, some_on_right}
+use Rattle.rle.proofs.Facts.QuestionCases.{left_sum, lowest_left, lowest_head, lowest_right, some_on_right}
 use borrow.Author.Rules.{rules}
 use Rattle.rle.proofs.ChainSim.lowest_cell.Statement.{statement}
 use Rattle.rle.proofs.ChainSim.lowest_cell.Tie as tie

@@ -1,5 +1,5 @@
 use native.Mathlib.Omega.{arith}
-use Rattle.rle.specs.Facts.OperationCases.{new_refused, new_lays, fresh_start, new_made}
+use Rattle.rle.proofs.Facts.OperationCases.{new_refused, new_lays, fresh_start, new_made}
 use borrow.Author.Rules.{rules}
 use Rattle.rle.proofs.ChainSim.new.Statement.{statement}
 use Rattle.rle.proofs.ChainSim.new.Tie as tie

@@ -1,4 +1,4 @@
-use Rattle.rle.specs.Facts.QuestionCases.{asked_ok, extent_refused, extent_done}
+use Rattle.rle.proofs.Facts.QuestionCases.{asked_ok, extent_refused, extent_done}
 use borrow.Author.Rules.{rules}
 use Rattle.rle.proofs.ChainSim.non_blank.Statement.{statement}
 use Rattle.rle.proofs.ChainSim.non_blank.Tie as tie

@@ -1,4 +1,4 @@
-use Rattle.rle.specs.Facts.OperationCases.{ran_refused, stride_ok, run_ok, ran_done}
+use Rattle.rle.proofs.Facts.OperationCases.{ran_refused, stride_ok, run_ok, ran_done}
 use borrow.Author.Rules.{rules}
 use Rattle.rle.proofs.ChainSim.run.Statement.{statement}
 use Rattle.rle.proofs.ChainSim.run.Tie as tie

@@ -1,5 +1,5 @@
 use borrow.Author.Tests.{not-true, not-false}
-use Rattle.rle.specs.Facts.FitsCases.{run_refused, run-over, run_passed}
+use Rattle.rle.proofs.Facts.FitsCases.{run_refused, run-over, run_passed}
 use borrow.Author.Rules.{rules}
 use Rattle.rle.proofs.ChainSim.run_check.Statement.{statement}
 use Rattle.rle.proofs.ChainSim.run_check.Tie as tie

@@ -2,7 +2,7 @@ use native.Mathlib.Omega.{arith}
 use Rattle.run_rules.specs.Model.Task.{task}
 use Rattle.rle.specs.Model.Engine.{conf}
 use Rattle.rle.specs.Invariants.{Going}
-use Rattle.rle.specs.Facts.RunCases.{going_start, going_ends, going_make, going_full, going_fine, going_counts, going_on}
+use Rattle.rle.proofs.Facts.RunCases.{going_start, going_ends, going_make, going_full, going_fine, going_counts, going_on}
 use borrow.Author.Rules.{rules}
 use Rattle.rle.proofs.ChainSim.run_macro_steps.Statement.{statement}
 use Rattle.rle.proofs.ChainSim.run_macro_steps.Tie as tie

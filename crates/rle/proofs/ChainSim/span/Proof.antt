@@ -1,7 +1,7 @@
 use mir.ValLaws.{to_z-of_z}
 use mir.Syntax.{w64}
 use mathlib.Core.Path.{sym, ◌∙◌}
-use Rattle.rle.specs.Facts.QuestionCases.{span_empty, span_cells}
+use Rattle.rle.proofs.Facts.QuestionCases.{span_empty, span_cells}
 use borrow.Author.Rules.{rules}
 use Rattle.rle.proofs.ChainSim.span.Statement.{statement}
 use Rattle.rle.proofs.ChainSim.span.Tie as tie

@@ -1,5 +1,5 @@
 use borrow.Author.Tests.{not-true, not-false}
-use Rattle.rle.specs.Facts.FitsCases.{value_tapes, value_lefts, value_rights, value_misfit, value_passed}
+use Rattle.rle.proofs.Facts.FitsCases.{value_tapes, value_lefts, value_rights, value_misfit, value_passed}
 use borrow.Author.Rules.{rules}
 use Rattle.rle.proofs.ChainSim.value_check.Statement.{statement}
 use Rattle.rle.proofs.ChainSim.value_check.Tie as tie

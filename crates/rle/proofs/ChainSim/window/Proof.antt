@@ -1,7 +1,7 @@
 use mathlib.Core.Path.{sym, ◌∙◌}
 use mir.ValLaws.{to_z-of_z}
 use mir.Syntax.{w64}
-use Rattle.rle.specs.Facts.QuestionCases.{asked_places, window_refused, window_done}
+use Rattle.rle.proofs.Facts.QuestionCases.{asked_places, window_refused, window_done}
 use borrow.Author.Rules.{rules}
 use Rattle.rle.proofs.ChainSim.window.Statement.{statement}
 use Rattle.rle.proofs.ChainSim.window.Tie as tie

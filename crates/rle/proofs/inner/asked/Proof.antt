@@ -1,4 +1,4 @@
-use Rattle.rle.specs.Facts.EngineCases.{asked_loops, asked_none}
+use Rattle.rle.proofs.Facts.EngineCases.{asked_loops, asked_none}
 use Rattle.rle.proofs.inner.asked.Statement.{statement}
 use Rattle.rle.proofs.inner.asked.Tie as tie
 

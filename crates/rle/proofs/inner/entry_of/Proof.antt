@@ -1,4 +1,4 @@
-use Rattle.run_checks.specs.Facts.LookCases.{entry_is}
+use Rattle.run_checks.proofs.Facts.LookCases.{entry_is}
 use borrow.Author.Rules.{rules}
 use Rattle.rle.proofs.inner.entry_of.Statement.{statement}
 use Rattle.rle.proofs.inner.entry_of.Tie as tie

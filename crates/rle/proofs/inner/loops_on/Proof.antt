@@ -1,4 +1,4 @@
-use Rattle.rle.specs.Facts.EngineCases.{loops_leaves, loops_keeps}
+use Rattle.rle.proofs.Facts.EngineCases.{loops_leaves, loops_keeps}
 use borrow.Author.Rules.{rules}
 use Rattle.rle.proofs.inner.loops_on.Statement.{statement}
 use Rattle.rle.proofs.inner.loops_on.Tie as tie

@@ -1,4 +1,4 @@
-use Rattle.rle.specs.Facts.VerdictCases.{verdict_halts, verdict_never, verdict_spent}
+use Rattle.rle.proofs.Facts.VerdictCases.{verdict_halts, verdict_never, verdict_spent}
 use borrow.Author.Rules.{rules}
 use Rattle.rle.proofs.inner.verdict.Statement.{statement}
 use Rattle.rle.proofs.inner.verdict.Tie as tie

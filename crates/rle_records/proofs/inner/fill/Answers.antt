@@ -1,6 +1,6 @@
 use Rattle.std.proofs.Common.{◌≡◌, ◌≤◌, ◌∙◌, ap, arith, slice_set}
 use Rattle.rle_stack.specs.Model.{side}
-use Rattle.rle_records.specs.Facts.Records.{lay_zero, lay_next, laid}
+use Rattle.rle_records.proofs.Facts.Records.{lay_zero, lay_next, laid}
 use Rattle.rle_records.specs.Model.{lay}
 use Rattle.rle_records.proofs.inner.fill.Goals as goal
 

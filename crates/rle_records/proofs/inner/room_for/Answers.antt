@@ -1,5 +1,5 @@
 use Rattle.std.proofs.Common.{rules}
-use Rattle.rle_records.specs.Facts.Records.{room_short, room_enough}
+use Rattle.rle_records.proofs.Facts.Records.{room_short, room_enough}
 use Rattle.rle_records.proofs.inner.room_for.Goals as goal
 
 pub returns-then-room-count : goal.returns-then-room-count

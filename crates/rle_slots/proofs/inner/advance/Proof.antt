@@ -1,4 +1,4 @@
-use Rattle.rle_slots.specs.Facts.AdvanceCases.{advance_stride, advance_ok, advance_ends, advance_verdict}
+use Rattle.rle_slots.proofs.Facts.AdvanceCases.{advance_stride, advance_ok, advance_ends, advance_verdict}
 use borrow.Author.Tests.{not-true, not-false}
 use borrow.Author.Rules.{rules}
 use Rattle.rle_slots.proofs.inner.advance.Statement.{statement}

@@ -1,4 +1,4 @@
-use Rattle.rle_slots.specs.Facts.SlotCases.{value_written}
+use Rattle.rle_slots.proofs.Facts.SlotCases.{value_written}
 use native.Mathlib.Omega.{arith}
 use Rattle.rle_slots.proofs.inner.put_value.Statement.{statement}
 use Rattle.rle_slots.proofs.inner.put_value.Tie as tie

@@ -1,4 +1,4 @@
-use Rattle.rle_slots.specs.Facts.SlotCases.{restore_none, restore_left, restore_right, restore_some}
+use Rattle.rle_slots.proofs.Facts.SlotCases.{restore_none, restore_left, restore_right, restore_some}
 use native.Mathlib.Omega.{arith}
 use borrow.Author.Rules.{rules}
 use Rattle.rle_slots.proofs.inner.restore.Statement.{statement}

@@ -1,4 +1,4 @@
-use Rattle.rle_slots.specs.Facts.SlotCases.{saved}
+use Rattle.rle_slots.proofs.Facts.SlotCases.{saved}
 use native.Mathlib.Omega.{arith}
 use borrow.Author.Rules.{rules}
 use Rattle.rle_slots.proofs.inner.save.Statement.{statement}

@@ -1,4 +1,4 @@
-use Rattle.rle_slots.specs.Facts.SlotCases.{lent_symbols, lent_numbers, taken_lent}
+use Rattle.rle_slots.proofs.Facts.SlotCases.{lent_symbols, lent_numbers, taken_lent}
 use native.Mathlib.Omega.{arith}
 use borrow.Author.Rules.{rules}
 use Rattle.rle_slots.proofs.inner.take_side.Statement.{statement}

@@ -1,5 +1,5 @@
 use Rattle.std.proofs.Common.{rules}
-use Rattle.rle_stack.specs.Facts.SideCases.{lacks-none, lacks_new}
+use Rattle.rle_stack.proofs.Facts.SideCases.{lacks-none, lacks_new}
 use Rattle.rle_stack.proofs.inner.lacks.Goals as goal
 
 pub returns-then-s-top : goal.returns-then-s-top

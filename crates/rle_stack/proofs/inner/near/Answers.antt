@@ -1,6 +1,6 @@
 use Rattle.std.proofs.Common.{rules}
 use native.Mathlib.Omega.{arith}
-use Rattle.rle_stack.specs.Facts.QuestionCases.{near_under, near_next}
+use Rattle.rle_stack.proofs.Facts.QuestionCases.{near_under, near_next}
 use Rattle.rle_stack.proofs.inner.near.Goals as goal
 
 pub overflow_add-result : goal.overflow_add-result

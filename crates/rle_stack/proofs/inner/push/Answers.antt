@@ -1,7 +1,7 @@
 use Rattle.std.proofs.Common.{rules}
 use native.Mathlib.Omega.{arith}
-use Rattle.rle_stack.specs.Facts.Sides.{sum_last}
-use Rattle.rle_stack.specs.Facts.SideCases.{push-none, push_grows, push_adds, has-place}
+use Rattle.rle_stack.proofs.Facts.Sides.{sum_last}
+use Rattle.rle_stack.proofs.Facts.SideCases.{push-none, push_grows, push_adds, has-place}
 use Rattle.rle_stack.proofs.inner.push.Goals as goal
 
 pub returns-then-count-eq0 : goal.returns-then-count-eq0

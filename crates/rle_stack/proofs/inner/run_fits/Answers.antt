@@ -1,5 +1,5 @@
 use Rattle.std.proofs.Common.{rules}
-use Rattle.rle_stack.specs.Facts.SideCases.{run_empty, run-over, run_rest}
+use Rattle.rle_stack.proofs.Facts.SideCases.{run_empty, run-over, run_rest}
 use Rattle.rle_stack.proofs.inner.run_fits.Goals as goal
 
 pub returns-then-lengths-i-eq0 : goal.returns-then-lengths-i-eq0

@@ -1,5 +1,5 @@
 use Rattle.std.proofs.Common.{rules}
-use Rattle.rle_stack.specs.Facts.SideCases.{take_none, take_whole, take_part}
+use Rattle.rle_stack.proofs.Facts.SideCases.{take_none, take_whole, take_part}
 use Rattle.rle_stack.proofs.inner.take.Goals as goal
 
 pub returns-then-count-eq0 : goal.returns-then-count-eq0

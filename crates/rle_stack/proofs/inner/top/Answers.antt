@@ -1,5 +1,5 @@
 use Rattle.std.proofs.Common.{rules}
-use Rattle.notation.specs.Facts.Tests.{tests}
+use Rattle.notation.proofs.Facts.Tests.{tests}
 use Rattle.rle_stack.specs.Model.{symbol_under}
 use Rattle.rle_stack.proofs.inner.top.Goals as goal
 

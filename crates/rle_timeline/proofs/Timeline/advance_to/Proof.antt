@@ -1,4 +1,4 @@
-use Rattle.timeline_rule.specs.Facts.TurnCases.{loop_start, loop_stop, loop_fall, loop_next}
+use Rattle.timeline_rule.proofs.Facts.TurnCases.{loop_start, loop_stop, loop_fall, loop_next}
 use Rattle.rle_slots.specs.Model.Kind.{chain_kind}
 use native.Mathlib.Omega.{arith}
 use mathlib.Core.Path.{refl, ◌≡◌}

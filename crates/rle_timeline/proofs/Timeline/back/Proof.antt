@@ -1,4 +1,4 @@
-use Rattle.timeline_rule.specs.Facts.CallCases.{back_on}
+use Rattle.timeline_rule.proofs.Facts.CallCases.{back_on}
 use Rattle.rle_slots.specs.Model.Kind.{chain_kind}
 use borrow.Author.Rules.{rules}
 use Rattle.rle_timeline.proofs.Timeline.back.Statement.{statement}

@@ -1,4 +1,4 @@
-use Rattle.timeline_rule.specs.Facts.WhichCases.{which_on}
+use Rattle.timeline_rule.proofs.Facts.WhichCases.{which_on}
 use Rattle.rle_slots.specs.Model.Kind.{chain_kind}
 use borrow.Author.Rules.{rules}
 use Rattle.rle_timeline.proofs.Timeline.call.Statement.{statement}

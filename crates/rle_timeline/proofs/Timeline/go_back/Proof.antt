@@ -1,4 +1,4 @@
-use Rattle.rle_timeline.specs.Facts.CallCases.{back_refused, back_ready, back_done}
+use Rattle.rle_timeline.proofs.Facts.CallCases.{back_refused, back_ready, back_done}
 use native.Mathlib.Omega.{arith}
 use borrow.Author.Rules.{rules}
 use Rattle.rle_timeline.proofs.Timeline.go_back.Statement.{statement}

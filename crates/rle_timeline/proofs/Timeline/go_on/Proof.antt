@@ -1,4 +1,4 @@
-use Rattle.timeline_rule.specs.Facts.GoCases.{on_goes}
+use Rattle.timeline_rule.proofs.Facts.GoCases.{on_goes}
 use Rattle.rle_slots.specs.Model.Kind.{chain_kind}
 use borrow.Author.Rules.{rules}
 use Rattle.rle_timeline.proofs.Timeline.go_on.Statement.{statement}

@@ -1,7 +1,7 @@
-use Rattle.timeline_rule.specs.Facts.GoCases.{to_here, to_back, to_on, to_loop}
-use Rattle.rle_timeline.specs.Facts.CallCases.{stay_asks}
+use Rattle.timeline_rule.proofs.Facts.GoCases.{to_here, to_back, to_on, to_loop}
+use Rattle.rle_timeline.proofs.Facts.CallCases.{stay_asks}
 use Rattle.rle_slots.specs.Model.Kind.{chain_kind}
-use Rattle.rle_timeline.specs.Facts.Engine.{chain_sound}
+use Rattle.rle_timeline.proofs.Facts.Engine.{chain_sound}
 use borrow.Author.Rules.{rules}
 use Rattle.rle_timeline.proofs.Timeline.go_to.Statement.{statement}
 use Rattle.rle_timeline.proofs.Timeline.go_to.Tie as tie

@@ -1,5 +1,5 @@
-use Rattle.timeline_rule.specs.Facts.NewCases.{new_refused, new_passed, new_room, new_made}
-use Rattle.rle_timeline.specs.Facts.CallCases.{passed-sizes, new_save}
+use Rattle.timeline_rule.proofs.Facts.NewCases.{new_refused, new_passed, new_room, new_made}
+use Rattle.rle_timeline.proofs.Facts.CallCases.{passed-sizes, new_save}
 use Rattle.rle_slots.specs.Model.Kind.{chain_kind}
 use mathlib.Core.Path.{refl}
 use Rattle.rle.specs.Model.Engine.{conf}

@@ -1,6 +1,6 @@
-use Rattle.timeline_rule.specs.Facts.TurnCases.{rec_fit, rec_low, rec_not, rec_more, rec_yes}
-use Rattle.rle_timeline.specs.Facts.CallCases.{rec_save}
-use Rattle.rle_timeline.specs.Facts.Engine.{chain_sound}
+use Rattle.timeline_rule.proofs.Facts.TurnCases.{rec_fit, rec_low, rec_not, rec_more, rec_yes}
+use Rattle.rle_timeline.proofs.Facts.CallCases.{rec_save}
+use Rattle.rle_timeline.proofs.Facts.Engine.{chain_sound}
 use Rattle.rle_slots.specs.Model.Kind.{chain_kind}
 use borrow.Author.Tests.{not-true, not-false}
 use native.Mathlib.Omega.{arith}

@@ -1,6 +1,6 @@
-use Rattle.timeline_rule.specs.Facts.GoCases.{back_small, back_inside}
-use Rattle.rle_timeline.specs.Facts.CallCases.{rewind_found}
-use Rattle.rle_timeline.specs.Facts.Engine.{chain_sound}
+use Rattle.timeline_rule.proofs.Facts.GoCases.{back_small, back_inside}
+use Rattle.rle_timeline.proofs.Facts.CallCases.{rewind_found}
+use Rattle.rle_timeline.proofs.Facts.Engine.{chain_sound}
 use Rattle.rle_slots.specs.Model.Kind.{chain_kind}
 use native.Mathlib.Omega.{arith}
 use Rattle.rle_timeline.specs.Model.{Fits, with_lent}

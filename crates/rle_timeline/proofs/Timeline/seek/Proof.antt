@@ -1,7 +1,7 @@
-use Rattle.timeline_rule.specs.Facts.CallCases.{seek_none, seek_passed, seek_ready, seek_done}
-use Rattle.rle_timeline.specs.Facts.CallCases.{passed-sizes}
+use Rattle.timeline_rule.proofs.Facts.CallCases.{seek_none, seek_passed, seek_ready, seek_done}
+use Rattle.rle_timeline.proofs.Facts.CallCases.{passed-sizes}
 use Rattle.rle_slots.specs.Model.Kind.{chain_kind}
-use Rattle.rle_timeline.specs.Facts.Engine.{chain_sound}
+use Rattle.rle_timeline.proofs.Facts.Engine.{chain_sound}
 use Rattle.rle_timeline.specs.Model.{with_lent}
 use borrow.Author.Rules.{rules}
 use Rattle.rle_timeline.proofs.Timeline.seek.Statement.{statement}

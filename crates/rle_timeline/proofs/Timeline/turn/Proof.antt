@@ -1,6 +1,6 @@
-use Rattle.timeline_rule.specs.Facts.TurnCases.{turn_stride, turn_there, turn_stuck, turn_on_holds}
-use Rattle.rle_timeline.specs.Facts.CallCases.{stride_at}
-use Rattle.rle_timeline.specs.Facts.Engine.{chain_sound}
+use Rattle.timeline_rule.proofs.Facts.TurnCases.{turn_stride, turn_there, turn_stuck, turn_on_holds}
+use Rattle.rle_timeline.proofs.Facts.CallCases.{stride_at}
+use Rattle.rle_timeline.proofs.Facts.Engine.{chain_sound}
 use Rattle.rle_slots.specs.Model.Kind.{chain_kind}
 use native.Mathlib.Omega.{arith}
 use borrow.Author.Rules.{rules}

@@ -1,5 +1,5 @@
-use Rattle.timeline_rule.specs.Facts.GoCases.{new_check, new_first}
-use Rattle.rle_timeline.specs.Facts.CallCases.{sizes_in}
+use Rattle.timeline_rule.proofs.Facts.GoCases.{new_check, new_first}
+use Rattle.rle_timeline.proofs.Facts.CallCases.{sizes_in}
 use Rattle.rle_slots.specs.Model.Kind.{chain_kind}
 use borrow.Author.Rules.{rules}
 use Rattle.rle_timeline.proofs.checks.new_check.Statement.{statement}

@@ -1,5 +1,5 @@
-use Rattle.timeline_rule.specs.Facts.TurnCases.{saved_is}
-use Rattle.rle_timeline.specs.Facts.CallCases.{part_long}
+use Rattle.timeline_rule.proofs.Facts.TurnCases.{saved_is}
+use Rattle.rle_timeline.proofs.Facts.CallCases.{part_long}
 use Rattle.rle_slots.specs.Model.Kind.{chain_kind}
 use native.Mathlib.Omega.{arith}
 use borrow.Author.Rules.{rules}

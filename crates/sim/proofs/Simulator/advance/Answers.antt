@@ -1,6 +1,6 @@
 use Rattle.std.proofs.Common.{rules}
 use native.Mathlib.Omega.{arith}
-use Rattle.sim.specs.Facts.EngineCases.{stepped, rooms_each}
+use Rattle.sim.proofs.Facts.EngineCases.{stepped, rooms_each}
 use Rattle.sim.proofs.Simulator.advance.Goals as goal
 
 pub act-u0-requires-clause-d_value : goal.act-u0-requires-clause-d_value

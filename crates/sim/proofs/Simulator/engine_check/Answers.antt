@@ -1,5 +1,5 @@
 use Rattle.std.proofs.Common.{rules}
-use Rattle.sim.specs.Facts.OperationCases.{engine_table, engine_value}
+use Rattle.sim.proofs.Facts.OperationCases.{engine_table, engine_value}
 use Rattle.sim.proofs.Simulator.engine_check.Goals as goal
 
 pub returns-in-Refused : goal.returns-in-Refused

@@ -1,8 +1,8 @@
 use Rattle.std.proofs.Common.{rules}
-use Rattle.machine.specs.Facts.Check.{ranges}
+use Rattle.machine.proofs.Facts.Check.{ranges}
 use mathlib.Core.Path.{sym, ◌∙◌}
 use borrow.Author.Tests.{not-true, not-false}
-use Rattle.sim.specs.Facts.OperationCases.{fast_refused, fast_wrong, fast_passed}
+use Rattle.sim.proofs.Facts.OperationCases.{fast_refused, fast_wrong, fast_passed}
 use Rattle.sim.proofs.Simulator.fast_check.Goals as goal
 
 pub returns-in-Refused : goal.returns-in-Refused

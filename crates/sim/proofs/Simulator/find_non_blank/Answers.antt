@@ -1,7 +1,7 @@
 use Rattle.std.proofs.Common.{rules}
 use mir.ValLaws.{to_z-of_z}
 use mir.Syntax.{w64}
-use Rattle.sim.specs.Facts.QuestionCases.{asked_ok, find_refused, find_done}
+use Rattle.sim.proofs.Facts.QuestionCases.{asked_ok, find_refused, find_done}
 use Rattle.sim.proofs.Simulator.find_non_blank.Goals as goal
 
 pub returns-in-Refused : goal.returns-in-Refused

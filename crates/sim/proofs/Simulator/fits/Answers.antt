@@ -1,6 +1,6 @@
 use Rattle.std.proofs.Common.{rules}
 use Rattle.sim.specs.Model.Operations.{sim_fits}
-use Rattle.notation.specs.Facts.Tests.{tests, via}
+use Rattle.notation.proofs.Facts.Tests.{tests, via}
 use Rattle.sim.proofs.Simulator.fits.Goals as goal
 
 pub returns-then-m-q : goal.returns-then-m-q

@@ -1,7 +1,7 @@
 use Rattle.std.proofs.Common.{rules}
 use native.Mathlib.Omega.{arith}
-use Rattle.run_checks.specs.Facts.SizesCases.{fresh_ok}
-use Rattle.sim.specs.Facts.OperationCases.{new_refused, new_made}
+use Rattle.run_checks.proofs.Facts.SizesCases.{fresh_ok}
+use Rattle.sim.proofs.Facts.OperationCases.{new_refused, new_made}
 use Rattle.sim.proofs.Simulator.new.Goals as goal
 
 pub returns-in-Refused : goal.returns-in-Refused

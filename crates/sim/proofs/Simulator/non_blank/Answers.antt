@@ -1,5 +1,5 @@
 use Rattle.std.proofs.Common.{rules}
-use Rattle.sim.specs.Facts.QuestionCases.{asked_ok, extent_refused, extent_done}
+use Rattle.sim.proofs.Facts.QuestionCases.{asked_ok, extent_refused, extent_done}
 use Rattle.sim.proofs.Simulator.non_blank.Goals as goal
 
 pub returns-in-Refused : goal.returns-in-Refused

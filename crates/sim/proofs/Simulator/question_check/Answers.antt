@@ -1,5 +1,5 @@
 use Rattle.std.proofs.Common.{rules}
-use Rattle.sim.specs.Facts.QuestionCases.{question_refused, question_lacks, question_passed}
+use Rattle.sim.proofs.Facts.QuestionCases.{question_refused, question_lacks, question_passed}
 use Rattle.sim.proofs.Simulator.question_check.Goals as goal
 
 pub returns-in-Refused : goal.returns-in-Refused

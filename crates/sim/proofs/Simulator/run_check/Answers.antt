@@ -1,6 +1,6 @@
 use Rattle.std.proofs.Common.{rules}
 use mathlib.Core.List.{[]}
-use Rattle.sim.specs.Facts.OperationCases.{run_refused, run_passed}
+use Rattle.sim.proofs.Facts.OperationCases.{run_refused, run_passed}
 use Rattle.sim.proofs.Simulator.run_check.Goals as goal
 
 pub returns-in-Refused : goal.returns-in-Refused

@@ -1,5 +1,5 @@
 use Rattle.std.proofs.Common.{rules}
-use Rattle.machine.specs.Facts.Check.{ranges}
+use Rattle.machine.proofs.Facts.Check.{ranges}
 use Rattle.sim.proofs.Simulator.run_over.Goals as goal
 
 pub worth_packing-requires : goal.worth_packing-requires

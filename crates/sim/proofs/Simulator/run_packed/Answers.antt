@@ -1,5 +1,5 @@
 use Rattle.std.proofs.Common.{rules}
-use Rattle.sim.specs.Facts.AnswerCases.{fast_cleared, fast_answers}
+use Rattle.sim.proofs.Facts.AnswerCases.{fast_cleared, fast_answers}
 use Rattle.sim.proofs.Simulator.run_packed.Goals as goal
 
 pub run_checked-requires : goal.run_checked-requires

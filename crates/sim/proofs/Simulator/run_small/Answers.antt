@@ -2,7 +2,7 @@ use Rattle.std.proofs.Common.{rules}
 use mathlib.Core.Path.{refl, sym}
 use native.Mathlib.Omega.{arith}
 use lib.Seq.{length-take-le}
-use Rattle.sim.specs.Facts.BurstCases.{small_words}
+use Rattle.sim.proofs.Facts.BurstCases.{small_words}
 use Rattle.sim.proofs.Simulator.run_small.Goals as goal
 
 pub run_bursts-requires-clause-words_if : goal.run_bursts-requires-clause-words_if

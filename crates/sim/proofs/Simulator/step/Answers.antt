@@ -1,5 +1,5 @@
 use Rattle.std.proofs.Common.{rules}
-use Rattle.sim.specs.Facts.AnswerCases.{run_cleared, step_answers}
+use Rattle.sim.proofs.Facts.AnswerCases.{run_cleared, step_answers}
 use Rattle.sim.proofs.Simulator.step.Goals as goal
 
 pub returns : goal.returns

@@ -1,6 +1,6 @@
 use Rattle.std.proofs.Common.{rules}
 use Rattle.sim.specs.Model.Operations.{value_check}
-use Rattle.notation.specs.Facts.Tests.{tests, via}
+use Rattle.notation.proofs.Facts.Tests.{tests, via}
 use Rattle.sim.proofs.Simulator.value_check.Goals as goal
 
 pub returns-then-not-sizes_fit : goal.returns-then-not-sizes_fit

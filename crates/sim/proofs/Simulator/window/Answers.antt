@@ -2,7 +2,7 @@ use Rattle.std.proofs.Common.{rules}
 use mathlib.Core.Path.{sym, ◌∙◌}
 use mir.ValLaws.{to_z-of_z}
 use mir.Syntax.{w64}
-use Rattle.sim.specs.Facts.QuestionCases.{asked_ok, window_refused, window_done}
+use Rattle.sim.proofs.Facts.QuestionCases.{asked_ok, window_refused, window_done}
 use Rattle.sim.proofs.Simulator.window.Goals as goal
 
 pub returns-in-Refused : goal.returns-in-Refused

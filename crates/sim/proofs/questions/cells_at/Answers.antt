@@ -1,5 +1,5 @@
 use Rattle.std.proofs.Common.{rules}
-use Rattle.notation.specs.Facts.Tests.{tests}
+use Rattle.notation.proofs.Facts.Tests.{tests}
 use Rattle.sim.proofs.questions.cells_at.Goals as goal
 
 pub returns-then-i-eq0 : goal.returns-then-i-eq0

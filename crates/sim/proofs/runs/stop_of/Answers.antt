@@ -1,5 +1,5 @@
 use Rattle.std.proofs.Common.{rules}
-use Rattle.sim.specs.Facts.BurstCases.{misses_never, misses_from}
+use Rattle.sim.proofs.Facts.BurstCases.{misses_never, misses_from}
 use Rattle.sim.proofs.runs.stop_of.Goals as goal
 
 pub returns-in-Never : goal.returns-in-Never

@@ -1,5 +1,5 @@
 use Rattle.std.proofs.Common.{rules}
-use Rattle.notation.specs.Facts.Tests.{tests, via}
+use Rattle.notation.proofs.Facts.Tests.{tests, via}
 use Rattle.sim_burst_wide.proofs.inner.all.Goals as goal
 
 pub returns-then-not-a : goal.returns-then-not-a

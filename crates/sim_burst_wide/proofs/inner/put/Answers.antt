@@ -1,5 +1,5 @@
 use Rattle.std.proofs.Common.{rules}
-use Rattle.sim_burst_wide.specs.Facts.BurstCases.{wrote_there, wrote_none}
+use Rattle.sim_burst_wide.proofs.Facts.BurstCases.{wrote_there, wrote_none}
 use Rattle.sim_burst_wide.proofs.inner.put.Goals as goal
 
 pub returns-then-head-t : goal.returns-then-head-t

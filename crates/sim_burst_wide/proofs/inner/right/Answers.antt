@@ -1,5 +1,5 @@
 use Rattle.std.proofs.Common.{rules}
-use Rattle.sim_burst_wide.specs.Facts.BurstCases.{moved_tape_right}
+use Rattle.sim_burst_wide.proofs.Facts.BurstCases.{moved_tape_right}
 use Rattle.sim_burst_wide.proofs.inner.right.Goals as goal
 
 pub returns : goal.returns

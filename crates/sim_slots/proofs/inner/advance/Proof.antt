@@ -1,7 +1,7 @@
 use mathlib.Core.Path.{sym, ◌∙◌}
 use borrow.Author.Rules.{rules}
 use borrow.Author.Tests.{not-true, not-false}
-use Rattle.sim_slots.specs.Facts.AdvanceCases.{again_asks, ends_ran, ends_tested}
+use Rattle.sim_slots.proofs.Facts.AdvanceCases.{again_asks, ends_ran, ends_tested}
 use Rattle.sim_slots.proofs.inner.advance.Statement.{statement}
 use Rattle.sim_slots.proofs.inner.advance.Tie as tie
 

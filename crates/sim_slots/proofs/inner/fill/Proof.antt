@@ -1,4 +1,4 @@
-use Rattle.sim_slots.specs.Facts.SlotCases.{fill_is}
+use Rattle.sim_slots.proofs.Facts.SlotCases.{fill_is}
 use borrow.Author.Rules.{rules}
 use Rattle.sim_slots.proofs.inner.fill.Statement.{statement}
 use Rattle.sim_slots.proofs.inner.fill.Tie as tie

@@ -1,5 +1,5 @@
 use native.Mathlib.Omega.{arith}
-use Rattle.sim_slots.specs.Facts.SlotCases.{fill_asks0, fill_asks1, fill_asks2, filled_is}
+use Rattle.sim_slots.proofs.Facts.SlotCases.{fill_asks0, fill_asks1, fill_asks2, filled_is}
 use borrow.Author.Rules.{rules}
 use Rattle.sim_slots.proofs.inner.fill_all.Statement.{statement}
 use Rattle.sim_slots.proofs.inner.fill_all.Tie as tie

@@ -1,7 +1,7 @@
 use native.Mathlib.Omega.{arith}
-use Rattle.sim_slots.specs.Facts.SlotCases.{fits_second, fits_third}
+use Rattle.sim_slots.proofs.Facts.SlotCases.{fits_second, fits_third}
 use Rattle.sim.specs.Model.Operations.{sim_fits}
-use Rattle.notation.specs.Facts.Tests.{tests, via}
+use Rattle.notation.proofs.Facts.Tests.{tests, via}
 use borrow.Author.Tests.{not-true, not-false}
 use borrow.Author.Rules.{rules}
 use Rattle.sim_slots.proofs.inner.fits_in.Statement.{statement}

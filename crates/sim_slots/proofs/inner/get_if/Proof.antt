@@ -1,4 +1,4 @@
-use Rattle.notation.specs.Facts.Tests.{tests}
+use Rattle.notation.proofs.Facts.Tests.{tests}
 use borrow.Author.Rules.{rules}
 use Rattle.sim_slots.proofs.inner.get_if.Statement.{statement}
 use Rattle.sim_slots.proofs.inner.get_if.Tie as tie

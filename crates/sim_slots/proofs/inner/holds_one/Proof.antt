@@ -1,4 +1,4 @@
-use Rattle.sim_slots.specs.Facts.SlotCases.{holds_other, holds_fits}
+use Rattle.sim_slots.proofs.Facts.SlotCases.{holds_other, holds_fits}
 use borrow.Author.Rules.{rules}
 use Rattle.sim_slots.proofs.inner.holds_one.Statement.{statement}
 use Rattle.sim_slots.proofs.inner.holds_one.Tie as tie

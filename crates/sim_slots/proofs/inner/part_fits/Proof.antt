@@ -1,4 +1,4 @@
-use Rattle.sim_slots.specs.Facts.SlotCases.{part_fits_is}
+use Rattle.sim_slots.proofs.Facts.SlotCases.{part_fits_is}
 use borrow.Author.Rules.{rules}
 use Rattle.sim_slots.proofs.inner.part_fits.Statement.{statement}
 use Rattle.sim_slots.proofs.inner.part_fits.Tie as tie

@@ -1,4 +1,4 @@
-use Rattle.notation.specs.Facts.Tests.{tests}
+use Rattle.notation.proofs.Facts.Tests.{tests}
 use Rattle.sim_slots.proofs.inner.part_size.Statement.{statement}
 use Rattle.sim_slots.proofs.inner.part_size.Tie as tie
 

@@ -1,4 +1,4 @@
-use Rattle.sim_slots.specs.Facts.SlotCases.{put-none, put_some}
+use Rattle.sim_slots.proofs.Facts.SlotCases.{put-none, put_some}
 use borrow.Author.Tests.{not-true, not-false}
 use borrow.Author.Rules.{rules}
 use Rattle.sim_slots.proofs.inner.put_if.Statement.{statement}

@@ -1,4 +1,4 @@
-use Rattle.sim_slots.specs.Facts.SlotCases.{filled_asks, restored_none, restored_some}
+use Rattle.sim_slots.proofs.Facts.SlotCases.{filled_asks, restored_none, restored_some}
 use borrow.Author.Tests.{not-true, not-false}
 use borrow.Author.Rules.{rules}
 use Rattle.sim_slots.proofs.inner.restore.Statement.{statement}

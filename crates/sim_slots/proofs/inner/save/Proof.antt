@@ -1,5 +1,5 @@
 use native.Mathlib.Omega.{arith}
-use Rattle.sim_slots.specs.Facts.SlotCases.{put_asks0, put_asks1, put_asks2, packed_is}
+use Rattle.sim_slots.proofs.Facts.SlotCases.{put_asks0, put_asks1, put_asks2, packed_is}
 use borrow.Author.Rules.{rules}
 use Rattle.sim_slots.proofs.inner.save.Statement.{statement}
 use Rattle.sim_slots.proofs.inner.save.Tie as tie

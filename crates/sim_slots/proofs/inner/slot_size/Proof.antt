@@ -1,5 +1,5 @@
 use native.Mathlib.Omega.{arith}
-use Rattle.sim_slots.specs.Facts.SlotCases.{sizes_small}
+use Rattle.sim_slots.proofs.Facts.SlotCases.{sizes_small}
 use borrow.Author.Rules.{rules}
 use Rattle.sim_slots.proofs.inner.slot_size.Statement.{statement}
 use Rattle.sim_slots.proofs.inner.slot_size.Tie as tie

@@ -1,7 +1,7 @@
-use Rattle.timeline_rule.specs.Facts.GoCases.{to_here, to_back, to_on, to_loop}
-use Rattle.sim_timeline.specs.Facts.CallCases.{stay_asks}
+use Rattle.timeline_rule.proofs.Facts.GoCases.{to_here, to_back, to_on, to_loop}
+use Rattle.sim_timeline.proofs.Facts.CallCases.{stay_asks}
 use Rattle.sim_slots.specs.Model.Kind.{plain_kind}
-use Rattle.sim_timeline.specs.Facts.Engine.{plain_sound}
+use Rattle.sim_timeline.proofs.Facts.Engine.{plain_sound}
 use borrow.Author.Rules.{rules}
 use Rattle.sim_timeline.proofs.Timeline.go_to.Statement.{statement}
 use Rattle.sim_timeline.proofs.Timeline.go_to.Tie as tie

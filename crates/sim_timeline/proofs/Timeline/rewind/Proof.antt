@@ -1,6 +1,6 @@
-use Rattle.timeline_rule.specs.Facts.GoCases.{back_small, back_inside}
-use Rattle.sim_timeline.specs.Facts.CallCases.{rewind_found}
-use Rattle.sim_timeline.specs.Facts.Engine.{plain_sound}
+use Rattle.timeline_rule.proofs.Facts.GoCases.{back_small, back_inside}
+use Rattle.sim_timeline.proofs.Facts.CallCases.{rewind_found}
+use Rattle.sim_timeline.proofs.Facts.Engine.{plain_sound}
 use Rattle.sim_slots.specs.Model.Kind.{plain_kind}
 use native.Mathlib.Omega.{arith}
 use Rattle.sim_timeline.specs.Model.{Fits, with_lent}

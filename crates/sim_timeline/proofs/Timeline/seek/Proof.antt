@@ -1,7 +1,7 @@
-use Rattle.timeline_rule.specs.Facts.CallCases.{seek_none, seek_passed, seek_ready, seek_done}
-use Rattle.sim_timeline.specs.Facts.CallCases.{passed-sizes}
+use Rattle.timeline_rule.proofs.Facts.CallCases.{seek_none, seek_passed, seek_ready, seek_done}
+use Rattle.sim_timeline.proofs.Facts.CallCases.{passed-sizes}
 use Rattle.sim_slots.specs.Model.Kind.{plain_kind}
-use Rattle.sim_timeline.specs.Facts.Engine.{plain_sound}
+use Rattle.sim_timeline.proofs.Facts.Engine.{plain_sound}
 use Rattle.sim_timeline.specs.Model.{with_lent}
 use borrow.Author.Rules.{rules}
 use Rattle.sim_timeline.proofs.Timeline.seek.Statement.{statement}

@@ -1,5 +1,5 @@
-use Rattle.timeline_rule.specs.Facts.GoCases.{new_check, new_first}
-use Rattle.sim_timeline.specs.Facts.CallCases.{sizes_in}
+use Rattle.timeline_rule.proofs.Facts.GoCases.{new_check, new_first}
+use Rattle.sim_timeline.proofs.Facts.CallCases.{sizes_in}
 use Rattle.sim_slots.specs.Model.Kind.{plain_kind}
 use borrow.Author.Rules.{rules}
 use Rattle.sim_timeline.proofs.checks.new_check.Statement.{statement}

@@ -1,5 +1,5 @@
-use Rattle.timeline_rule.specs.Facts.TurnCases.{saved_is}
-use Rattle.sim_timeline.specs.Facts.CallCases.{save_asks}
+use Rattle.timeline_rule.proofs.Facts.TurnCases.{saved_is}
+use Rattle.sim_timeline.proofs.Facts.CallCases.{save_asks}
 use Rattle.sim_slots.specs.Model.Kind.{plain_kind}
 use native.Mathlib.Omega.{arith}
 use borrow.Author.Rules.{rules}

@@ -1,5 +1,5 @@
-use Rattle.timeline_rule.specs.Facts.TurnCases.{stride_is}
-use Rattle.sim_timeline.specs.Facts.CallCases.{stride_asks}
+use Rattle.timeline_rule.proofs.Facts.TurnCases.{stride_is}
+use Rattle.sim_timeline.proofs.Facts.CallCases.{stride_asks}
 use Rattle.sim_slots.specs.Model.Kind.{plain_kind}
 use borrow.Author.Rules.{rules}
 use Rattle.sim_timeline.proofs.turns.stride.Statement.{statement}

@@ -1,4 +1,4 @@
-use Rattle.store_bytes.specs.Facts.LoopCases.{copy_start, copy_turn, copy_end}
+use Rattle.store_bytes.proofs.Facts.LoopCases.{copy_start, copy_turn, copy_end}
 use lib.Seq.{paste}
 use lib.ListN.{length, length-set}
 use native.Mathlib.Omega.{arith}

@@ -1,6 +1,6 @@
 use Rattle.std.proofs.Common.{rules}
-use Rattle.store_bytes.specs.Facts.LoopCases.{move_turn, move-end}
-use Rattle.store_bytes.specs.Facts.Slots.{copied, copied_none}
+use Rattle.store_bytes.proofs.Facts.LoopCases.{move_turn, move-end}
+use Rattle.store_bytes.proofs.Facts.Slots.{copied, copied_none}
 use lib.ListN.{length}
 use native.Mathlib.Omega.{arith}
 use native.Mathlib.Nat.{mul-le-mul_right}

@@ -1,4 +1,4 @@
-use Rattle.store_bytes.specs.Facts.LoopCases.{thin_turn, thin_end, thin_room}
+use Rattle.store_bytes.proofs.Facts.LoopCases.{thin_turn, thin_end, thin_room}
 use Rattle.store_bytes.specs.Model.{thin_by, move_slot}
 use lib.ListN.{length}
 use native.Mathlib.Omega.{arith}

@@ -5,7 +5,7 @@ use mathlib.Core.Path.{◌≡◌, ◌∙◌}
 use mir.Syntax.{w64}
 use mir.ValLaws.{to_z-of_z}
 use Rattle.notation.specs.Position.{up, dn}
-use Rattle.symbol.specs.Facts.Places.{index_alike}
+use Rattle.symbol.proofs.Facts.Places.{index_alike}
 use Rattle.symbol.proofs.position.index_of.Goals as goal
 
 pub returns : goal.returns

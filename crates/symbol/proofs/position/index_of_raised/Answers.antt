@@ -1,6 +1,6 @@
 use Rattle.std.proofs.Common.{rules}
 use native.Mathlib.Omega.{arith}
-use Rattle.symbol.specs.Facts.Places.{index_in, index_before, index_past}
+use Rattle.symbol.proofs.Facts.Places.{index_in, index_before, index_past}
 use Rattle.symbol.proofs.position.index_of_raised.Goals as goal
 
 pub returns-then-index-len : goal.returns-then-index-len

@@ -3,7 +3,7 @@ use Prim.Native.Nat.{◌+◌, ◌-◌, ◌^◌}
 use mathlib.Core.Path.{◌∙◌}
 use mir.Syntax.{w64}
 use mir.ValLaws.{to_z-of_z}
-use Rattle.notation.specs.Facts.Position.{ints, diff-⊖}
+use Rattle.notation.proofs.Facts.Position.{ints, diff-⊖}
 use Rattle.symbol.proofs.position.of_index.Goals as goal
 
 pub returns : goal.returns

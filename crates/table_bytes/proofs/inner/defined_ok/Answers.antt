@@ -1,5 +1,5 @@
 use Rattle.std.proofs.Common.{rules}
-use Rattle.notation.specs.Facts.Tests.{tests, via}
+use Rattle.notation.proofs.Facts.Tests.{tests, via}
 use Rattle.table_bytes.proofs.inner.defined_ok.Goals as goal
 
 pub returns-then-not-head_ok : goal.returns-then-not-head_ok

@@ -1,5 +1,5 @@
 use Rattle.std.proofs.Common.{rules}
-use Rattle.table_bytes.specs.Facts.EntryCases.{entry_zeros, entry_defined}
+use Rattle.table_bytes.proofs.Facts.EntryCases.{entry_zeros, entry_defined}
 use Rattle.table_bytes.proofs.inner.entry_ok.Goals as goal
 
 pub returns-then-table-at-eq0 : goal.returns-then-table-at-eq0

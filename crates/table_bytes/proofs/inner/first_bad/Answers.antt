@@ -1,6 +1,6 @@
 use Rattle.std.proofs.Common.{rules}
-use Rattle.notation.specs.Facts.Scan.{first_next}
-use Rattle.symbol.specs.Facts.Found.{first_found, first_nowhere}
+use Rattle.notation.proofs.Facts.Scan.{first_next}
+use Rattle.symbol.proofs.Facts.Found.{first_found, first_nowhere}
 use Rattle.table_bytes.specs.Model.Entries.{entry_for}
 use borrow.Author.Tests.{not-true, not-false}
 use Rattle.notation.specs.Scan.{first_fail}

@@ -1,6 +1,6 @@
 use native.Mathlib.Omega.{arith}
-use Rattle.notation.specs.Facts.Scan.{first_next}
-use Rattle.symbol.specs.Facts.Found.{first_found, first_nowhere}
+use Rattle.notation.proofs.Facts.Scan.{first_next}
+use Rattle.symbol.proofs.Facts.Found.{first_found, first_nowhere}
 use Rattle.symbol.specs.Kinds.{symbol_in}
 use Rattle.notation.specs.Scan.{first_fail}
 use borrow.Author.Tests.{lt-ltb, le-ltb}

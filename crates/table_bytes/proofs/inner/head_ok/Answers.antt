@@ -1,5 +1,5 @@
 use Rattle.std.proofs.Common.{rules}
-use Rattle.notation.specs.Facts.Tests.{tests}
+use Rattle.notation.proofs.Facts.Tests.{tests}
 use Rattle.table_bytes.proofs.inner.head_ok.Goals as goal
 
 pub returns-then-b0-ne1 : goal.returns-then-b0-ne1

@@ -1,7 +1,7 @@
 use Rattle.std.proofs.Common.{rules}
 use native.Mathlib.Omega.{arith}
 use lib.ListN.{length-set}
-use Rattle.table_bytes.specs.Facts.Written.{entry_written}
+use Rattle.table_bytes.proofs.Facts.Written.{entry_written}
 use Rattle.table_bytes.proofs.inner.put_entry.Goals as goal
 
 pub returns : goal.returns

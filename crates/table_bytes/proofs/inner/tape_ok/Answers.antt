@@ -1,5 +1,5 @@
 use Rattle.std.proofs.Common.{rules}
-use Rattle.notation.specs.Facts.Tests.{tests}
+use Rattle.notation.proofs.Facts.Tests.{tests}
 use Rattle.table_bytes.proofs.inner.tape_ok.Goals as goal
 
 pub returns-then-has : goal.returns-then-has

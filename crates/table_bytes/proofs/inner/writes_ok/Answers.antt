@@ -1,5 +1,5 @@
 use Rattle.std.proofs.Common.{rules}
-use Rattle.notation.specs.Facts.Tests.{tests, via}
+use Rattle.notation.proofs.Facts.Tests.{tests, via}
 use Rattle.table_bytes.proofs.inner.writes_ok.Goals as goal
 
 pub returns-then-k-w0 : goal.returns-then-k-w0

@@ -1,7 +1,7 @@
 use Rattle.std.proofs.Common.{rules}
 use Rattle.table_bytes.specs.Model.Entries.{zero_at}
-use Rattle.notation.specs.Facts.Tests.{tests}
-use Rattle.notation.specs.Facts.Scan.{all_hit, all_next, all_end}
+use Rattle.notation.proofs.Facts.Tests.{tests}
+use Rattle.notation.proofs.Facts.Scan.{all_hit, all_next, all_end}
 use Rattle.notation.specs.Scan.{all_in}
 use mathlib.Core.Path.{◌≡◌, refl}
 use Prim.Native.Nat.{◌*◌, ◌-◌}

@@ -1,5 +1,5 @@
 use Rattle.std.proofs.Common.{rules}
-use Rattle.table_text_form.specs.Facts.Cases.{row_ended, row_goes_on}
+use Rattle.table_text_form.proofs.Facts.Cases.{row_ended, row_goes_on}
 use Rattle.table_text.proofs.form.between.Goals as goal
 
 pub returns-then-row_ends : goal.returns-then-row_ends

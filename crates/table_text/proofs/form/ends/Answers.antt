@@ -1,5 +1,5 @@
 use Rattle.std.proofs.Common.{rules}
-use Rattle.table_text_form.specs.Facts.Cases.{ends_as}
+use Rattle.table_text_form.proofs.Facts.Cases.{ends_as}
 use Rattle.table_text.proofs.form.ends.Goals as goal
 
 pub returns-in-Between : goal.returns-in-Between

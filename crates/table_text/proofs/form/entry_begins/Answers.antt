@@ -1,6 +1,6 @@
 use Rattle.std.proofs.Common.{rules}
-use Rattle.notation.specs.Facts.Tests.{tests, via}
-use Rattle.table_text_form.specs.Facts.Cases.{begins_dash, begins_digit}
+use Rattle.notation.proofs.Facts.Tests.{tests, via}
+use Rattle.table_text_form.proofs.Facts.Cases.{begins_dash, begins_digit}
 use Rattle.table_text_form.specs.Form.{entry_begins}
 use Rattle.table_text.proofs.form.entry_begins.Goals as goal
 

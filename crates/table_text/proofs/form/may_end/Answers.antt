@@ -1,5 +1,5 @@
 use Rattle.std.proofs.Common.{rules}
-use Rattle.notation.specs.Facts.Tests.{tests}
+use Rattle.notation.proofs.Facts.Tests.{tests}
 use Rattle.table_text_form.specs.Form.{may_end}
 use Rattle.table_text.proofs.form.may_end.Goals as goal
 

@@ -1,5 +1,5 @@
 use Rattle.std.proofs.Common.{rules}
-use Rattle.notation.specs.Facts.Tests.{tests, via}
+use Rattle.notation.proofs.Facts.Tests.{tests, via}
 use Rattle.table_text_form.specs.Form.{row_ends}
 use Rattle.table_text.proofs.form.row_ends.Goals as goal
 

@@ -3,8 +3,8 @@ use Prim.Native.Nat.{◌-◌, ◌≤◌}
 use native.Mathlib.Omega.{arith}
 use lib.ListN.{length, drop}
 use Rattle.table_text_form.specs.Form.{scan, form_of}
-use Rattle.table_text_form.specs.Facts.Good.{Good, good_first, good_rows, good_step}
-use Rattle.table_text_form.specs.Facts.Cases.{scan_begins, scan_on, scan_stop, scan_formed, scan_early}
+use Rattle.table_text_form.proofs.Facts.Good.{Good, good_first, good_rows, good_step}
+use Rattle.table_text_form.proofs.Facts.Cases.{scan_begins, scan_on, scan_stop, scan_formed, scan_early}
 use Rattle.table_text.proofs.form.ends.Reads as ends-reads
 use Rattle.table_text.proofs.form.made.Reads as made_reads
 use Rattle.table_text.proofs.form.step.Reads as step-reads

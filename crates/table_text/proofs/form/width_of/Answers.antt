@@ -1,5 +1,5 @@
 use Rattle.std.proofs.Common.{rules}
-use Rattle.notation.specs.Facts.Tests.{tests}
+use Rattle.notation.proofs.Facts.Tests.{tests}
 use Rattle.table_text.proofs.form.width_of.Goals as goal
 
 pub returns-then-at-eq0 : goal.returns-then-at-eq0

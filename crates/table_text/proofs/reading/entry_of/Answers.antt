@@ -1,6 +1,6 @@
 use Rattle.std.proofs.Common.{rules}
-use Rattle.table_text_reader.specs.Facts.ReadCases.{digit_low, letter_low, entry-made}
-use Rattle.notation.specs.Facts.Tests.{tests}
+use Rattle.table_text_reader.proofs.Facts.ReadCases.{digit_low, letter_low, entry-made}
+use Rattle.notation.proofs.Facts.Tests.{tests}
 use Rattle.table_text.proofs.reading.entry_of.Goals as goal
 
 pub returns-then-x-eq45 : goal.returns-then-x-eq45

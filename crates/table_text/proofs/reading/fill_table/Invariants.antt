@@ -1,5 +1,5 @@
 use Rattle.table_text_reader.specs.Reading.{table_byte}
-use Rattle.notation.specs.Facts.Fill.{fill_next, fill_end}
+use Rattle.notation.proofs.Facts.Fill.{fill_next, fill_end}
 use Rattle.notation.specs.Fill.{fill_from}
 use native.Mathlib.Nat.{sub-zero}
 use native.Mathlib.Omega.{arith}

@@ -1,6 +1,6 @@
 use Rattle.table_text_reader.specs.Reading.{has_byte}
-use Rattle.symbol.specs.Facts.Found.{first_found, first_nowhere}
-use Rattle.notation.specs.Facts.Scan.{first_next}
+use Rattle.symbol.proofs.Facts.Found.{first_found, first_nowhere}
+use Rattle.notation.proofs.Facts.Scan.{first_next}
 use Rattle.notation.specs.Scan.{first_fail}
 use borrow.Author.Tests.{not-true, not-false}
 use mathlib.Core.Path.{◌≡◌, sym, ◌∙◌}

@@ -1,5 +1,5 @@
 use Rattle.std.proofs.Common.{rules}
-use Rattle.notation.specs.Facts.Tests.{tests}
+use Rattle.notation.proofs.Facts.Tests.{tests}
 use Rattle.table_text.proofs.reading.has_digit.Goals as goal
 
 pub returns-then-b-gt57 : goal.returns-then-b-gt57

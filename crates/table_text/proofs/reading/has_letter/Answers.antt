@@ -1,5 +1,5 @@
 use Rattle.std.proofs.Common.{rules}
-use Rattle.notation.specs.Facts.Tests.{tests}
+use Rattle.notation.proofs.Facts.Tests.{tests}
 use Rattle.table_text.proofs.reading.has_letter.Goals as goal
 
 pub returns-then-b-eq90 : goal.returns-then-b-eq90

@@ -1,5 +1,5 @@
 use Rattle.std.proofs.Common.{rules}
-use Rattle.notation.specs.Facts.Tests.{tests}
+use Rattle.notation.proofs.Facts.Tests.{tests}
 use Rattle.table_text.proofs.reading.state_in.Goals as goal
 
 pub returns-then-c-eq90 : goal.returns-then-c-eq90

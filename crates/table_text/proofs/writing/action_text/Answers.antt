@@ -1,5 +1,5 @@
 use Rattle.std.proofs.Common.{rules}
-use Rattle.notation.specs.Facts.Tests.{tests}
+use Rattle.notation.proofs.Facts.Tests.{tests}
 use Rattle.table_text.proofs.writing.action_text.Goals as goal
 
 pub returns-then-j-eq0 : goal.returns-then-j-eq0

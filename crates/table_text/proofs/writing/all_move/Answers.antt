@@ -5,7 +5,7 @@ use native.Mathlib.Nat.{sub-zero}
 use Prim.Native.Nat.{◌-◌}
 use borrow.Author.Tests.{not-true, not-false}
 use mathlib.Core.Path.{◌≡◌, sym, ap, ◌∙◌}
-use Rattle.notation.specs.Facts.Scan.{all_hit, all_next, all_end}
+use Rattle.notation.proofs.Facts.Scan.{all_hit, all_next, all_end}
 use Rattle.table_text.proofs.writing.all_move.Goals as goal
 
 pub returns-then-not-moves_or : goal.returns-then-not-moves_or

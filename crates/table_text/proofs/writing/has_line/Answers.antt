@@ -1,8 +1,8 @@
 use Rattle.std.proofs.Common.{rules}
 use Rattle.table_text_rows.specs.Rows.{has_line}
-use Rattle.table_text_writer.specs.Facts.Fits.{product_small}
+use Rattle.table_text_writer.proofs.Facts.Fits.{product_small}
 use native.Mathlib.Omega.{arith}
-use Rattle.notation.specs.Facts.Tests.{tests, via}
+use Rattle.notation.proofs.Facts.Tests.{tests, via}
 use Rattle.table_text.proofs.writing.has_line.Goals as goal
 
 pub returns-then-m-ne1 : goal.returns-then-m-ne1

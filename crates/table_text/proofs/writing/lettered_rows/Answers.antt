@@ -1,6 +1,6 @@
 use Rattle.std.proofs.Common.{rules}
 use Rattle.table_text_rows.specs.Rows.{lettered_rows}
-use Rattle.notation.specs.Facts.Tests.{tests, via}
+use Rattle.notation.proofs.Facts.Tests.{tests, via}
 use Rattle.table_text.proofs.writing.lettered_rows.Goals as goal
 
 pub returns-then-row_undefined : goal.returns-then-row_undefined

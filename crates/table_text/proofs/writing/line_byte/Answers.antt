@@ -1,6 +1,6 @@
 use Rattle.std.proofs.Common.{rules}
-use Rattle.table_text_writer.specs.Facts.WriteCases.{byte_parts, byte_enters}
-use Rattle.table_text_writer.specs.Facts.Fits.{product_small, printable_at}
+use Rattle.table_text_writer.proofs.Facts.WriteCases.{byte_parts, byte_enters}
+use Rattle.table_text_writer.proofs.Facts.Fits.{product_small, printable_at}
 use native.Mathlib.Nat.{div-le_self, mod-le}
 use Prim.Native.Nat.{◌+◌, ◌*◌, ◌/◌}
 use native.Mathlib.Omega.{arith}

@@ -1,8 +1,8 @@
 use Rattle.std.proofs.Common.{rules}
-use Rattle.notation.specs.Facts.Tests.{tests, via}
+use Rattle.notation.proofs.Facts.Tests.{tests, via}
 use borrow.Author.Tests.{not-false}
 use Rattle.tape.specs.Fits.{tape_fits}
-use Rattle.tape.specs.Facts.Fits.{shape_len}
+use Rattle.tape.proofs.Facts.Fits.{shape_len}
 use Rattle.tape.proofs.Tape.fits.Goals as goal
 
 pub returns-then-not-shape_fits : goal.returns-then-not-shape_fits

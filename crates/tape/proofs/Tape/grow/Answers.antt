@@ -1,5 +1,5 @@
 use Rattle.std.proofs.Common.{rules}
-use Rattle.tape.specs.Facts.MoveCases.{grow_fits, grow_left, grow_right, grow_none}
+use Rattle.tape.proofs.Facts.MoveCases.{grow_fits, grow_left, grow_right, grow_none}
 use Rattle.tape.proofs.Tape.grow.Goals as goal
 
 pub open_left-requires : goal.open_left-requires

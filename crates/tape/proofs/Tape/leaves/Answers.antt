@@ -1,5 +1,5 @@
 use Rattle.std.proofs.Common.{rules}
-use Rattle.tape.specs.Facts.MoveCases.{leaves_left, leaves_right, leaves_none}
+use Rattle.tape.proofs.Facts.MoveCases.{leaves_left, leaves_right, leaves_none}
 use Rattle.tape.proofs.Tape.leaves.Goals as goal
 
 pub returns-in-L : goal.returns-in-L

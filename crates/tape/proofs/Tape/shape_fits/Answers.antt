@@ -1,5 +1,5 @@
 use Rattle.std.proofs.Common.{rules}
-use Rattle.notation.specs.Facts.Tests.{tests}
+use Rattle.notation.proofs.Facts.Tests.{tests}
 use Rattle.tape.proofs.Tape.shape_fits.Goals as goal
 
 pub returns-then-self-lt32 : goal.returns-then-self-lt32

@@ -1,5 +1,5 @@
 use Rattle.std.proofs.Common.{rules}
-use Rattle.tape.specs.Facts.MoveCases.{not_left, shift_left, shift_right, shift_none}
+use Rattle.tape.proofs.Facts.MoveCases.{not_left, shift_left, shift_right, shift_none}
 use Rattle.tape.proofs.Tape.shifted.Goals as goal
 
 pub overflow_sub-head : goal.overflow_sub-head

@@ -1,7 +1,7 @@
 use Rattle.std.proofs.Common.{rules}
 use mathlib.Core.Path.{sym, ◌∙◌}
 use native.Mathlib.Omega.{arith}
-use Rattle.tape.specs.Facts.MoveCases.{act_none, act_inside, act_grown, grown_inside}
+use Rattle.tape.proofs.Facts.MoveCases.{act_none, act_inside, act_grown, grown_inside}
 use Rattle.tape.proofs.inner.act.Goals as goal
 
 pub returns-then-t-head : goal.returns-then-t-head

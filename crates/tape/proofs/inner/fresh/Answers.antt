@@ -1,5 +1,5 @@
 use Rattle.std.proofs.Common.{rules}
-use Rattle.tape.specs.Facts.MoveCases.{fresh-held}
+use Rattle.tape.proofs.Facts.MoveCases.{fresh-held}
 use Rattle.tape.proofs.inner.fresh.Goals as goal
 
 pub returns : goal.returns

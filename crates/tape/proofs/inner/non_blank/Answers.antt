@@ -1,6 +1,6 @@
 use Rattle.std.proofs.Common.{rules}
-use Rattle.tape_cells.specs.Facts.LoopCases.{first_reach, last_reach}
-use Rattle.tape.specs.Facts.QuestionCases.{non_blank_is}
+use Rattle.tape_cells.proofs.Facts.LoopCases.{first_reach, last_reach}
+use Rattle.tape.proofs.Facts.QuestionCases.{non_blank_is}
 use Rattle.tape.proofs.inner.non_blank.Goals as goal
 
 pub span-requires : goal.span-requires

@@ -1,5 +1,5 @@
 use Rattle.std.proofs.Common.{rules}
-use Rattle.notation.specs.Facts.Tests.{tests}
+use Rattle.notation.proofs.Facts.Tests.{tests}
 use Rattle.tape.specs.Model.Moves.{read_of}
 use Rattle.tape.proofs.inner.read.Goals as goal
 

@@ -1,5 +1,5 @@
 use Rattle.std.proofs.Common.{rules}
-use Rattle.tape.specs.Facts.MoveCases.{room_asked, room_given}
+use Rattle.tape.proofs.Facts.MoveCases.{room_asked, room_given}
 use Rattle.tape.proofs.inner.room.Goals as goal
 
 pub returns-then-leaves : goal.returns-then-leaves

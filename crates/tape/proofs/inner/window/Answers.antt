@@ -1,6 +1,6 @@
 use Rattle.std.proofs.Common.{rules}
 use mir.ValLaws.{to_z-of_z}
-use Rattle.tape.specs.Facts.QuestionCases.{window_is}
+use Rattle.tape.proofs.Facts.QuestionCases.{window_is}
 use Rattle.tape.proofs.inner.window.Goals as goal
 
 pub returns : goal.returns

@@ -1,5 +1,5 @@
 use Rattle.std.proofs.Common.{rules}
-use Rattle.notation.specs.Facts.Tests.{tests}
+use Rattle.notation.proofs.Facts.Tests.{tests}
 use Rattle.tape_cells.specs.Growth.{extra}
 use Rattle.tape_cells.proofs.inner.extra.Goals as goal
 

@@ -2,7 +2,7 @@ use Prim.Native.Nat.{◌≤◌, ◌+◌, ◌-◌}
 use mathlib.Core.Path.{◌≡◌, refl}
 use lib.ListN.{length, length-set}
 use Rattle.notation.specs.Fill.{fill_from}
-use Rattle.tape_cells.specs.Facts.LoopCases.{copy_start, copy_turn, copy_end}
+use Rattle.tape_cells.proofs.Facts.LoopCases.{copy_start, copy_turn, copy_end}
 use Rattle.tape_cells.specs.Model.{placed}
 use native.Mathlib.Omega.{arith}
 use Rattle.tape_cells.proofs.inner.move_up.Given as goal

@@ -4,9 +4,9 @@ use mathlib.Core.Path.{◌≡◌, refl}
 use native.Mathlib.Nat.{sub-zero}
 use lib.ListN.{length, length-set}
 use Rattle.notation.specs.Fill.{fill_from}
-use Rattle.notation.specs.Facts.Fill.{fill_end}
+use Rattle.notation.proofs.Facts.Fill.{fill_end}
 use Rattle.tape_positions.specs.Model.{place_of, window_from}
-use Rattle.tape_positions.specs.Facts.Cases.{window_turn}
+use Rattle.tape_positions.proofs.Facts.Cases.{window_turn}
 use native.Mathlib.Omega.{arith}
 use Rattle.tape_positions.proofs.inner.fill.Goals as goal
 

@@ -1,8 +1,8 @@
 use Rattle.std.proofs.Common.{rules}
 use native.Mathlib.Omega.{arith}
 use mir.ValLaws.{to_z-of_z}
-use Rattle.tape_positions.specs.Facts.Cases.{first_is}
-use Rattle.tape_cells.specs.Facts.LoopCases.{first_reach}
+use Rattle.tape_positions.proofs.Facts.Cases.{first_is}
+use Rattle.tape_cells.proofs.Facts.LoopCases.{first_reach}
 use Rattle.tape_positions.proofs.inner.first_from.Goals as goal
 
 pub returns : goal.returns

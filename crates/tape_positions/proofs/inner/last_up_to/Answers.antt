@@ -1,8 +1,8 @@
 use Rattle.std.proofs.Common.{rules}
 use native.Mathlib.Omega.{arith}
 use mir.ValLaws.{to_z-of_z}
-use Rattle.tape_positions.specs.Facts.Cases.{last_is}
-use Rattle.tape_cells.specs.Facts.LoopCases.{last_reach}
+use Rattle.tape_positions.proofs.Facts.Cases.{last_is}
+use Rattle.tape_cells.proofs.Facts.LoopCases.{last_reach}
 use Rattle.tape_positions.proofs.inner.last_up_to.Goals as goal
 
 pub returns : goal.returns

@@ -1,9 +1,9 @@
 use Rattle.std.proofs.Common.{rules, ap, not}
 use native.Mathlib.Omega.{arith}
-use Rattle.notation.specs.Facts.Tests.{tests, via}
+use Rattle.notation.proofs.Facts.Tests.{tests, via}
 use Rattle.notation.specs.Limits.{interval_most}
 use Rattle.timeline_rule.specs.Model.Timeline.{times_ok}
-use Rattle.timeline_rule.specs.Facts.DueCases.{within_low, ok_last}
+use Rattle.timeline_rule.proofs.Facts.DueCases.{within_low, ok_last}
 use Rattle.timeline_rule.proofs.Times.ok.Goals as goal
 
 pub returns-then-not-within : goal.returns-then-not-within

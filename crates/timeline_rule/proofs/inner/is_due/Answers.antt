@@ -1,5 +1,5 @@
 use Rattle.std.proofs.Common.{rules}
-use Rattle.timeline_rule.specs.Facts.DueCases.{due_tells}
+use Rattle.timeline_rule.proofs.Facts.DueCases.{due_tells}
 use Rattle.timeline_rule.proofs.inner.is_due.Goals as goal
 
 pub returns : goal.returns

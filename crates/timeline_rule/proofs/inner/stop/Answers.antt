@@ -1,5 +1,5 @@
 use Rattle.std.proofs.Common.{rules}
-use Rattle.timeline_rule.specs.Facts.DueCases.{stop_target, stop_due}
+use Rattle.timeline_rule.proofs.Facts.DueCases.{stop_target, stop_due}
 use Rattle.timeline_rule.proofs.inner.stop.Goals as goal
 
 pub returns-then-target-d : goal.returns-then-target-d

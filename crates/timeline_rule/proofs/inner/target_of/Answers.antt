@@ -1,5 +1,5 @@
 use Rattle.std.proofs.Common.{rules}
-use Rattle.timeline_rule.specs.Facts.WhichCases.{target_seek, target_forward, target_back}
+use Rattle.timeline_rule.proofs.Facts.WhichCases.{target_seek, target_forward, target_back}
 use Rattle.timeline_rule.proofs.inner.target_of.Goals as goal
 
 pub returns-then-which-eq0 : goal.returns-then-which-eq0

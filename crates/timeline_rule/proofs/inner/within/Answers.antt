@@ -1,5 +1,5 @@
 use Rattle.std.proofs.Common.{rules}
-use Rattle.notation.specs.Facts.Tests.{tests}
+use Rattle.notation.proofs.Facts.Tests.{tests}
 use Rattle.timeline_rule.proofs.inner.within.Goals as goal
 
 pub returns-then-x-low : goal.returns-then-x-low

@@ -1,5 +1,5 @@
 use Rattle.std.proofs.Common.{rules}
-use Rattle.machine.specs.Facts.PackingCases.{action_of_holds}
+use Rattle.machine.proofs.Facts.PackingCases.{action_of_holds}
 use Rattle.machine.proofs.packed.Packed.action.Goals as goal
 
 pub returns : goal.returns

@@ -1,5 +1,5 @@
 use Rattle.std.proofs.Common.{rules}
-use Rattle.machine.specs.Facts.PackingCases.{entry_of_holds, entry_of_none}
+use Rattle.machine.proofs.Facts.PackingCases.{entry_of_holds, entry_of_none}
 use Rattle.machine.proofs.packed.Packed.entry.Goals as goal
 
 pub returns-then-is_defined : goal.returns-then-is_defined

@@ -1,4 +1,4 @@
-use Rattle.notation.specs.Facts.Tests.{tests, via}
+use Rattle.notation.proofs.Facts.Tests.{tests, via}
 use Rattle.rle.specs.Fits.{counts_fit}
 use borrow.Author.Rules.{rules}
 use Rattle.rle.proofs.inner.fits.counts_fit.Statement.{statement}

@@ -1,4 +1,4 @@
-use Rattle.notation.specs.Facts.Tests.{tests}
+use Rattle.notation.proofs.Facts.Tests.{tests}
 use Rattle.rle.specs.Fits.{head_fits}
 use borrow.Author.Rules.{rules}
 use Rattle.rle.proofs.inner.fits.head_fits.Statement.{statement}

@@ -1,4 +1,4 @@
-use Rattle.rle.specs.Facts.FitsCases.{reach-left, reach_right}
+use Rattle.rle.proofs.Facts.FitsCases.{reach-left, reach_right}
 use borrow.Author.Rules.{rules}
 use Rattle.rle.proofs.inner.fits.reach_fits.Statement.{statement}
 use Rattle.rle.proofs.inner.fits.reach_fits.Tie as tie

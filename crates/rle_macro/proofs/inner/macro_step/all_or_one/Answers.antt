@@ -1,5 +1,5 @@
 use Rattle.std.proofs.Common.{rules}
-use Rattle.notation.specs.Facts.Tests.{tests}
+use Rattle.notation.proofs.Facts.Tests.{tests}
 use Rattle.rle_macro.proofs.inner.macro_step.all_or_one.Goals as goal
 
 pub returns-then-loops : goal.returns-then-loops

@@ -1,7 +1,7 @@
 use Rattle.std.proofs.Common.{rules}
 use native.Mathlib.Omega.{arith}
-use Rattle.rle_stack.specs.Facts.Sides.{take-fewer}
-use Rattle.rle_macro.specs.Facts.MacroStepCases.{carry_made}
+use Rattle.rle_stack.proofs.Facts.Sides.{take-fewer}
+use Rattle.rle_macro.proofs.Facts.MacroStepCases.{carry_made}
 use Rattle.rle_macro.proofs.inner.macro_step.carry.Goals as goal
 
 pub top-cur-requires : goal.top-cur-requires

@@ -1,8 +1,8 @@
 use Rattle.std.proofs.Common.{rules, ap, not}
 use Rattle.rle_stack.specs.Model.{side}
 use native.Mathlib.Omega.{arith}
-use Rattle.rle_stack.specs.Facts.Sides.{ahead_within}
-use Rattle.rle_macro.specs.Facts.MacroStepCases.{reach_all, reach_one, reach_chain}
+use Rattle.rle_stack.proofs.Facts.Sides.{ahead_within}
+use Rattle.rle_macro.proofs.Facts.MacroStepCases.{reach_all, reach_one, reach_chain}
 use Rattle.rle_macro.proofs.inner.macro_step.reach.Goals as goal
 
 pub returns-then-loops : goal.returns-then-loops

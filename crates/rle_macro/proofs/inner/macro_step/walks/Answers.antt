@@ -1,5 +1,5 @@
 use Rattle.std.proofs.Common.{rules}
-use Rattle.rle_macro.specs.Facts.MacroStepCases.{walks_reads, walks_meets}
+use Rattle.rle_macro.proofs.Facts.MacroStepCases.{walks_reads, walks_meets}
 use Rattle.rle_macro.proofs.inner.macro_step.walks.Goals as goal
 
 pub returns-then-cur-ne0 : goal.returns-then-cur-ne0

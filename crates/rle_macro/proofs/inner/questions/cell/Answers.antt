@@ -1,5 +1,5 @@
 use Rattle.std.proofs.Common.{rules}
-use Rattle.rle_macro.specs.Facts.QuestionCases.{cell_head, cell_left, cell_right}
+use Rattle.rle_macro.proofs.Facts.QuestionCases.{cell_head, cell_left, cell_right}
 use Rattle.rle_macro.proofs.inner.questions.cell.Goals as goal
 
 pub returns-then-raised-head : goal.returns-then-raised-head

@@ -1,5 +1,5 @@
 use Rattle.std.proofs.Common.{rules}
-use Rattle.rle_macro.specs.Facts.QuestionCases.{count_blank, count_one}
+use Rattle.rle_macro.proofs.Facts.QuestionCases.{count_blank, count_one}
 use Rattle.rle_macro.proofs.inner.questions.count.Goals as goal
 
 pub returns-then-cur-eq0 : goal.returns-then-cur-eq0

@@ -1,6 +1,6 @@
 use Rattle.std.proofs.Common.{rules}
 use native.Mathlib.Omega.{arith}
-use Rattle.rle_macro.specs.Facts.QuestionCases.{window_past, window_cell_holds}
+use Rattle.rle_macro.proofs.Facts.QuestionCases.{window_past, window_cell_holds}
 use Rattle.rle_macro.proofs.inner.questions.window_cell.Goals as goal
 
 pub returns-then-raised-above : goal.returns-then-raised-above

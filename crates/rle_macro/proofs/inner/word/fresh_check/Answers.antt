@@ -1,8 +1,8 @@
 use Rattle.std.proofs.Common.{rules}
 use borrow.Author.Tests.{not-true, not-false}
 use mathlib.Core.Path.{sym, ◌∙◌}
-use Rattle.machine.specs.Facts.Word.{word_says}
-use Rattle.rle_counts.specs.Facts.WordCases.{fresh_table, fresh_tapes, fresh_word, fresh_small, fresh_passed}
+use Rattle.machine.proofs.Facts.Word.{word_says}
+use Rattle.rle_counts.proofs.Facts.WordCases.{fresh_table, fresh_tapes, fresh_word, fresh_small, fresh_passed}
 use Rattle.rle_macro.proofs.inner.word.fresh_check.Goals as goal
 
 pub returns-in-Refused : goal.returns-in-Refused

@@ -1,5 +1,5 @@
 use Rattle.std.proofs.Common.{rules}
-use Rattle.rle_counts.specs.Facts.WordCases.{sizes_left, sizes_right, sizes_runs}
+use Rattle.rle_counts.proofs.Facts.WordCases.{sizes_left, sizes_right, sizes_runs}
 use Rattle.rle_macro.proofs.inner.word.fresh_sizes.Goals as goal
 
 pub returns-then-lefts-gt-RUNS : goal.returns-then-lefts-gt-RUNS

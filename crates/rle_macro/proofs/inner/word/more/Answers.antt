@@ -1,5 +1,5 @@
 use Rattle.std.proofs.Common.{rules}
-use Rattle.notation.specs.Facts.Tests.{tests}
+use Rattle.notation.proofs.Facts.Tests.{tests}
 use Rattle.rle_macro.proofs.inner.word.more.Goals as goal
 
 pub returns-then-s-top : goal.returns-then-s-top

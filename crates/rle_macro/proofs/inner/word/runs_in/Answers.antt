@@ -4,7 +4,7 @@ use Prim.Native.Nat.{◌+◌, ◌-◌, ◌≤◌}
 use mathlib.Core.Path.{◌≡◌, refl}
 use lib.ListN.{length}
 use Rattle.rle_counts.specs.Model.Words.{runs_of}
-use Rattle.rle_counts.specs.Facts.WordCases.{runs_next, runs-end}
+use Rattle.rle_counts.proofs.Facts.WordCases.{runs_next, runs-end}
 use Rattle.rle_macro.proofs.inner.word.runs_in.Goals as goal
 
 pub loop-i-preserved : goal.loop-i-preserved

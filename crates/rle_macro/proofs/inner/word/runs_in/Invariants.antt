@@ -3,7 +3,7 @@ use Prim.Native.Nat.{◌+◌, ◌-◌, ◌≤◌}
 use mathlib.Core.Path.{◌≡◌, refl}
 use lib.ListN.{length}
 use Rattle.rle_counts.specs.Model.Words.{runs_of}
-use Rattle.rle_counts.specs.Facts.WordCases.{runs_next, runs-end}
+use Rattle.rle_counts.proofs.Facts.WordCases.{runs_next, runs-end}
 use Rattle.rle_macro.proofs.inner.word.runs_in.Given as goal
 
 abbrev pub invariant-loop-i : goal.invariant-loop-i

@@ -1,4 +1,4 @@
-use Rattle.rle_slots.specs.Facts.SlotCases.{number_here}
+use Rattle.rle_slots.proofs.Facts.SlotCases.{number_here}
 use borrow.Author.Rules.{rules}
 use Rattle.rle_slots.proofs.inner.bytes.number.Statement.{statement}
 use Rattle.rle_slots.proofs.inner.bytes.number.Tie as tie

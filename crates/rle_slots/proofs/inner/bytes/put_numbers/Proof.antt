@@ -1,4 +1,4 @@
-use Rattle.rle_slots.specs.Facts.SlotCases.{numbers_start, numbers_turn, numbers_end}
+use Rattle.rle_slots.proofs.Facts.SlotCases.{numbers_start, numbers_turn, numbers_end}
 use Rattle.rle_slots.specs.Model.Slots.{put_numbers}
 use mathlib.Core.Path.{◌≡◌, refl}
 use Prim.Native.Nat.{◌-◌, ◌≤◌}

@@ -1,5 +1,5 @@
-use Rattle.rle_slots.specs.Facts.SlotCases.{take_turn}
-use Rattle.store_bytes.specs.Facts.LoopCases.{copy_end}
+use Rattle.rle_slots.proofs.Facts.SlotCases.{take_turn}
+use Rattle.store_bytes.proofs.Facts.LoopCases.{copy_end}
 use Rattle.rle_slots.specs.Model.Slots.{numbers_in}
 use mathlib.Core.Path.{◌≡◌, refl}
 use Prim.Native.Nat.{◌-◌, ◌≤◌}

@@ -1,5 +1,5 @@
-use Rattle.rle.specs.Facts.FitsCases.{fits_counts, fits_head, fits_left, fits_right, fits_reach, counts_steps}
-use Rattle.rle_slots.specs.Facts.SlotCases.{lefts_are, rights_are}
+use Rattle.rle.proofs.Facts.FitsCases.{fits_counts, fits_head, fits_left, fits_right, fits_reach, counts_steps}
+use Rattle.rle_slots.proofs.Facts.SlotCases.{lefts_are, rights_are}
 use borrow.Author.Tests.{not-true, not-false}
 use native.Mathlib.Omega.{arith}
 use borrow.Author.Rules.{rules}

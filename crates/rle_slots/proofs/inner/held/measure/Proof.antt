@@ -1,4 +1,4 @@
-use Rattle.rle_counts.specs.Facts.SumCases.{measure_places, measure_runs, measure_sum}
+use Rattle.rle_counts.proofs.Facts.SumCases.{measure_places, measure_runs, measure_sum}
 use borrow.Author.Tests.{not-true, not-false}
 use native.Mathlib.Omega.{arith}
 use borrow.Author.Rules.{rules}

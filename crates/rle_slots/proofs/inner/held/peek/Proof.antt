@@ -1,4 +1,4 @@
-use Rattle.rle_slots.specs.Facts.SlotCases.{peek_other, peek_misfit, peek_holds}
+use Rattle.rle_slots.proofs.Facts.SlotCases.{peek_other, peek_misfit, peek_holds}
 use borrow.Author.Tests.{not-true, not-false}
 use native.Mathlib.Omega.{arith}
 use borrow.Author.Rules.{rules}

@@ -1,4 +1,4 @@
-use Rattle.rle_stack.specs.Facts.SideCases.{run_empty, run-over, run_rest}
+use Rattle.rle_stack.proofs.Facts.SideCases.{run_empty, run-over, run_rest}
 use mathlib.Core.Path.{sym, ◌∙◌}
 use borrow.Author.Rules.{rules}
 use Rattle.rle_slots.proofs.inner.held.run_fits.Statement.{statement}

@@ -1,4 +1,4 @@
-use Rattle.rle_slots.specs.Facts.SlotCases.{lent_long, cells-lent}
+use Rattle.rle_slots.proofs.Facts.SlotCases.{lent_long, cells-lent}
 use borrow.Author.Rules.{rules}
 use Rattle.rle_slots.proofs.inner.held.side_cells.Statement.{statement}
 use Rattle.rle_slots.proofs.inner.held.side_cells.Tie as tie

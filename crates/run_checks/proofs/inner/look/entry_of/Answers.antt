@@ -1,5 +1,5 @@
 use Rattle.std.proofs.Common.{rules}
-use Rattle.run_checks.specs.Facts.LookCases.{entry_is}
+use Rattle.run_checks.proofs.Facts.LookCases.{entry_is}
 use Rattle.run_checks.proofs.inner.look.entry_of.Goals as goal
 
 pub returns : goal.returns

@@ -1,5 +1,5 @@
 use Rattle.std.proofs.Common.{rules}
-use Rattle.run_checks.specs.Facts.LookCases.{go_fuel, go_on, go_full}
+use Rattle.run_checks.proofs.Facts.LookCases.{go_fuel, go_on, go_full}
 use Rattle.run_checks.proofs.inner.look.go.Goals as goal
 
 pub returns-then-left-eq0 : goal.returns-then-left-eq0

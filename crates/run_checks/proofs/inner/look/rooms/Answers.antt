@@ -1,5 +1,5 @@
 use Rattle.std.proofs.Common.{rules}
-use Rattle.notation.specs.Facts.Tests.{tests, via}
+use Rattle.notation.proofs.Facts.Tests.{tests, via}
 use Rattle.run_checks.specs.Model.Look.{rooms_of}
 use Rattle.run_checks.proofs.inner.look.rooms.Goals as goal
 

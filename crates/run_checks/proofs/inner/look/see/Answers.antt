@@ -1,5 +1,5 @@
 use Rattle.std.proofs.Common.{rules}
-use Rattle.run_checks.specs.Facts.LookCases.{look_halt, look_judged}
+use Rattle.run_checks.proofs.Facts.LookCases.{look_halt, look_judged}
 use Rattle.run_checks.proofs.inner.look.see.Goals as goal
 
 pub returns-in-Undefined : goal.returns-in-Undefined

@@ -1,6 +1,6 @@
 use Rattle.std.proofs.Common.{rules}
 use Rattle.run_checks.specs.Model.Look.{stays_all}
-use Rattle.notation.specs.Facts.Tests.{tests, via}
+use Rattle.notation.proofs.Facts.Tests.{tests, via}
 use Rattle.run_checks.proofs.inner.look.stays_all.Goals as goal
 
 pub returns-then-not-stays : goal.returns-then-not-stays

@@ -1,5 +1,5 @@
 use Rattle.std.proofs.Common.{rules}
-use Rattle.notation.specs.Facts.Tests.{tests}
+use Rattle.notation.proofs.Facts.Tests.{tests}
 use Rattle.run_checks.proofs.inner.sizes.between.Goals as goal
 
 pub returns-then-n-least : goal.returns-then-n-least

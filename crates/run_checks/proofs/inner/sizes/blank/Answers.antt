@@ -1,6 +1,6 @@
 use Rattle.std.proofs.Common.{rules}
 use lib.ListN.{length}
-use Rattle.run_checks.specs.Facts.SizesCases.{blank_room, blank_has, blank_lacks}
+use Rattle.run_checks.proofs.Facts.SizesCases.{blank_room, blank_has, blank_lacks}
 use Rattle.run_checks.proofs.inner.sizes.blank.Goals as goal
 
 pub fresh-requires : goal.fresh-requires

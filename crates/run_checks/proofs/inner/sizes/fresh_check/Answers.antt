@@ -1,8 +1,8 @@
 use Rattle.std.proofs.Common.{rules}
-use Rattle.machine.specs.Facts.Word.{word_says}
+use Rattle.machine.proofs.Facts.Word.{word_says}
 use mathlib.Core.Path.{sym, ◌∙◌}
 use borrow.Author.Tests.{not-true, not-false}
-use Rattle.run_checks.specs.Facts.SizesCases.{fresh_table, fresh_word, fresh_small, fresh_passed}
+use Rattle.run_checks.proofs.Facts.SizesCases.{fresh_table, fresh_word, fresh_small, fresh_passed}
 use Rattle.run_checks.proofs.inner.sizes.fresh_check.Goals as goal
 
 pub returns-in-Refused : goal.returns-in-Refused

@@ -1,6 +1,6 @@
 use Rattle.std.proofs.Common.{rules}
 use Rattle.run_checks.specs.Model.Sizes.{fuel_fits}
-use Rattle.notation.specs.Facts.Tests.{tests}
+use Rattle.notation.proofs.Facts.Tests.{tests}
 use Rattle.run_checks.proofs.inner.sizes.fuel_fits.Goals as goal
 
 pub returns-then-fuel-gt-STEPS : goal.returns-then-fuel-gt-STEPS

@@ -1,5 +1,5 @@
 use Rattle.std.proofs.Common.{rules}
-use Rattle.notation.specs.Facts.Tests.{tests}
+use Rattle.notation.proofs.Facts.Tests.{tests}
 use Rattle.run_checks.proofs.inner.sizes.size_fits.Goals as goal
 
 pub returns-then-has : goal.returns-then-has

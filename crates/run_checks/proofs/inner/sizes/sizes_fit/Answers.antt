@@ -1,6 +1,6 @@
 use Rattle.std.proofs.Common.{rules}
 use Rattle.run_checks.specs.Model.Sizes.{sizes_fit}
-use Rattle.notation.specs.Facts.Tests.{tests, via}
+use Rattle.notation.proofs.Facts.Tests.{tests, via}
 use Rattle.run_checks.proofs.inner.sizes.sizes_fit.Goals as goal
 
 pub returns-then-n0-gt-CELLS : goal.returns-then-n0-gt-CELLS

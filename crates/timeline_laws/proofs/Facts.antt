@@ -1,0 +1,13 @@
+pub mod Steps
+pub mod Invariant
+pub mod Loop
+pub mod Call
+pub mod Ends
+pub mod New
+pub mod Notes
+pub mod Advance
+pub mod Slots
+pub mod Parts
+pub mod Results
+pub mod Twice
+pub mod Third
