@@ -1,5 +1,5 @@
 use Rattle.std.proofs.Common.{rules}
-use Rattle.line_to_listing.specs.Facts.AnswerCases.{line-none, line_less, line_all}
+use Rattle.line_to_listing.proofs.Facts.AnswerCases.{line-none, line_less, line_all}
 use Rattle.line_to_listing.proofs.line_length.Goals as goal
 
 pub returns-then-n-eq0 : goal.returns-then-n-eq0

@@ -1,5 +1,5 @@
 use Rattle.std.proofs.Common.{rules}
-use Rattle.line_to_listing.specs.Facts.AnswerCases.{table_fits, table_printed, refused_printed}
+use Rattle.line_to_listing.proofs.Facts.AnswerCases.{table_fits, table_printed, refused_printed}
 use Rattle.line_to_listing.proofs.print.Goals as goal
 
 pub listing-requires : goal.listing-requires

@@ -1,7 +1,7 @@
 use Rattle.std.proofs.Common.{rules}
-use Rattle.program_input.specs.Facts.{answers_all}
+use Rattle.program_input.proofs.Facts.{answers_all}
 use Rattle.line_to_listing.specs.Output.{answer_to}
-use Rattle.line_to_listing.specs.Facts.FirstBytes.{answer_first}
+use Rattle.line_to_listing.proofs.Facts.FirstBytes.{answer_first}
 use Rattle.line_to_listing.proofs.run.Goals as goal
 
 pub returns-clause-written : goal.returns-clause-written

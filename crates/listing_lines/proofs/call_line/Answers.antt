@@ -1,8 +1,8 @@
 use mathlib.Core.Path.{refl}
 use Rattle.listing_lines.specs.Forms.{call_line}
 use Rattle.listing_lines.specs.Model.{call_in, call_code}
-use Rattle.listing_lines.specs.Facts.FormCases.{coded}
-use Rattle.listing_text.specs.Facts.Chain.{chain}
+use Rattle.listing_lines.proofs.Facts.FormCases.{coded}
+use Rattle.listing_text.proofs.Facts.Chain.{chain}
 use Rattle.listing_lines.proofs.call_line.Goals as goal
 
 pub returns-then-count_fields-ne2 : goal.returns-then-count_fields-ne2

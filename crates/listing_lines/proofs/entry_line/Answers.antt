@@ -1,6 +1,6 @@
 use Rattle.listing_lines.specs.Forms.{entry_line}
 use Rattle.listing_lines.specs.Model.{rule_in}
-use Rattle.listing_text.specs.Facts.Chain.{chain}
+use Rattle.listing_text.proofs.Facts.Chain.{chain}
 use Rattle.listing_lines.proofs.entry_line.Goals as goal
 
 pub returns-then-count_fields-ne5 : goal.returns-then-count_fields-ne5

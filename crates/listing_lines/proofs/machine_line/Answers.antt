@@ -1,6 +1,6 @@
 use Rattle.listing_lines.specs.Forms.{machine_line}
 use Rattle.listing_lines.specs.Model.{machine_in}
-use Rattle.listing_text.specs.Facts.Chain.{chain}
+use Rattle.listing_text.proofs.Facts.Chain.{chain}
 use Rattle.listing_lines.proofs.machine_line.Goals as goal
 
 pub returns-then-count_fields-ne4 : goal.returns-then-count_fields-ne4

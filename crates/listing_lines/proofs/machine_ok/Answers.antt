@@ -1,5 +1,5 @@
 use Rattle.listing_lines.specs.Forms.{machine_ok}
-use Rattle.listing_text.specs.Facts.Chain.{chain}
+use Rattle.listing_text.proofs.Facts.Chain.{chain}
 use Rattle.listing_lines.proofs.machine_ok.Goals as goal
 
 pub returns-then-t-ne1 : goal.returns-then-t-ne1

@@ -1,5 +1,5 @@
 use Rattle.listing_lines.specs.Forms.{move}
-use Rattle.listing_text.specs.Facts.Chain.{chain}
+use Rattle.listing_text.proofs.Facts.Chain.{chain}
 use Rattle.listing_lines.proofs.move_at.Goals as goal
 
 pub returns-then-field_is : goal.returns-then-field_is

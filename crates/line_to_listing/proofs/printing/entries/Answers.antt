@@ -1,5 +1,5 @@
 use Rattle.std.proofs.Common.{rules, arith}
-use Rattle.line_to_listing.specs.Facts.PrintCases.{entries_start, entries_next}
+use Rattle.line_to_listing.proofs.Facts.PrintCases.{entries_start, entries_next}
 use Rattle.line_to_listing.proofs.printing.entries.Goals as goal
 
 pub loop-i-init : goal.loop-i-init

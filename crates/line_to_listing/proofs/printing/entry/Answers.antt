@@ -1,4 +1,4 @@
-use Rattle.line_to_listing.specs.Facts.PrintCases.{entry_none, entry_some}
+use Rattle.line_to_listing.proofs.Facts.PrintCases.{entry_none, entry_some}
 use Rattle.line_to_listing.proofs.printing.entry.Goals as goal
 
 pub returns-in-Undefined : goal.returns-in-Undefined

@@ -1,5 +1,5 @@
 use native.Mathlib.Omega.{arith}
-use Rattle.listing_text.specs.Facts.PrintCases.{wrote_then}
+use Rattle.listing_text.proofs.Facts.PrintCases.{wrote_then}
 use Rattle.line_to_listing.proofs.printing.entry_line.Goals as goal
 
 pub returns : goal.returns

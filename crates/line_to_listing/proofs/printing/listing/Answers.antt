@@ -1,8 +1,8 @@
 use Rattle.std.proofs.Common.{refl, arith}
 use Rattle.listing_text.specs.Text.{bytes}
-use Rattle.listing_text.specs.Facts.PrintCases.{wrote_then, wrote-put}
+use Rattle.listing_text.proofs.Facts.PrintCases.{wrote_then, wrote-put}
 use Rattle.line_to_listing.specs.Output.{listing_of}
-use Rattle.line_to_listing.specs.Facts.PrintCases.{then_put}
+use Rattle.line_to_listing.proofs.Facts.PrintCases.{then_put}
 use Rattle.line_to_listing.proofs.printing.listing.Goals as goal
 
 pub returns : goal.returns

@@ -1,4 +1,4 @@
-use Rattle.line_to_listing.specs.Facts.PrintCases.{place_none, place_some}
+use Rattle.line_to_listing.proofs.Facts.PrintCases.{place_none, place_some}
 use Rattle.line_to_listing.proofs.printing.place.Goals as goal
 
 pub returns-in-Unsaid : goal.returns-in-Unsaid

@@ -1,8 +1,8 @@
 use mathlib.Core.Path.{refl}
 use native.Mathlib.Omega.{arith}
 use Rattle.listing_text.specs.Text.{bytes}
-use Rattle.listing_text.specs.Facts.PrintCases.{wrote_then, wrote-put}
-use Rattle.line_to_listing.specs.Facts.PrintCases.{then_put, refused_done}
+use Rattle.listing_text.proofs.Facts.PrintCases.{wrote_then, wrote-put}
+use Rattle.line_to_listing.proofs.Facts.PrintCases.{then_put, refused_done}
 use Rattle.line_to_listing.proofs.printing.refused.Goals as goal
 
 pub returns : goal.returns

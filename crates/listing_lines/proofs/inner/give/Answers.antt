@@ -1,6 +1,6 @@
 use mathlib.Core.Path.{refl}
 use Rattle.notation.specs.Choice.{pick}
-use Rattle.listing_lines.specs.Facts.FormCases.{given_yes, given_no, defined}
+use Rattle.listing_lines.proofs.Facts.FormCases.{given_yes, given_no, defined}
 use Rattle.listing_lines.proofs.inner.give.Goals as goal
 
 pub returns-then-table-at-eq1 : goal.returns-then-table-at-eq1

@@ -1,7 +1,7 @@
 use mathlib.Core.Path.{refl}
 use native.Mathlib.Omega.{arith}
 use Rattle.listing_lines.specs.Forms.{place}
-use Rattle.listing_lines.specs.Facts.Forms.{number_ok}
+use Rattle.listing_lines.proofs.Facts.Forms.{number_ok}
 use Rattle.listing_lines.proofs.inner.place_of.Goals as goal
 
 pub returns : goal.returns

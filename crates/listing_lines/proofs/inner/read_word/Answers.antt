@@ -1,5 +1,5 @@
 use Rattle.std.proofs.Common.{rules}
-use Rattle.listing_lines.specs.Facts.FormCases.{below_256, word_none, word-start, word_bad, word_next_holds, word_end}
+use Rattle.listing_lines.proofs.Facts.FormCases.{below_256, word_none, word-start, word_bad, word_next_holds, word_end}
 use Rattle.listing_lines.proofs.inner.read_word.Goals as goal
 
 pub returns-then-l-eq0 : goal.returns-then-l-eq0

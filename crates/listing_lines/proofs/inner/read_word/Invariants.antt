@@ -1,5 +1,5 @@
 use Prim.Native.Nat.{◌-◌}
-use Rattle.listing_lines.specs.Facts.FormCases.{WordInv}
+use Rattle.listing_lines.proofs.Facts.FormCases.{WordInv}
 use Rattle.listing_lines.proofs.inner.read_word.Given as goal
 
 abbrev pub invariant-loop-i : goal.invariant-loop-i
