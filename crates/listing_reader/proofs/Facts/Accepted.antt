@@ -8,8 +8,8 @@ use Rattle.std.proofs.lemmas.List.{length-replicate}
 use Rattle.std.proofs.Math.ListN.{length-take}
 use Rattle.std.proofs.Math.Seq.{take-append_seam}
 use borrow.Author.Tests.{leb-true, ltb-true, lt-ltb, le-leb}
-use Rattle.notation.specs.Facts.Tests.{pick_true, pick_cases}
-use Rattle.notation.specs.Facts.Scan.{clean_none}
+use Rattle.notation.proofs.Facts.Tests.{pick_true, pick_cases}
+use Rattle.notation.proofs.Facts.Scan.{clean_none}
 use Rattle.notation.specs.Limits.{word_most}
 use Rattle.outcome.specs.declared.Refusal.TheVariants as Why
 use Rattle.machine.specs.declared.Machine.{Machine}
@@ -18,14 +18,14 @@ use Rattle.machine.specs.Layout.{entry_count}
 use Rattle.machine.specs.Model.Check.{answer_at, table_check}
 use Rattle.machine.specs.Model.Word.{symbol_in, symbols_check, word_check}
 use Rattle.table_laws.specs.WellFormed.{LaidOut, WellFormed}
-use Rattle.table_laws.specs.Facts.CheckExact.{table_check_accepts}
+use Rattle.table_laws.proofs.Facts.CheckExact.{table_check_accepts}
 use Rattle.timeline_rule.specs.Model.Timeline.{Call, seek, forward, back, call_for}
 use Rattle.listing_text.specs.Pieces.{same_list, lines}
-use Rattle.listing_text.specs.Facts.Chain.{pick_inv}
+use Rattle.listing_text.proofs.Facts.Chain.{pick_inv}
 use Rattle.listing_lines.specs.Forms.{first_line, columns_line, word_line, heading_line, on_some, machine_line, entry_line, word_of, call_line, given}
 use Rattle.listing_lines.specs.Model.{calls_of}
-use Rattle.listing_lines.specs.Facts.Forms.{Good, good_small, machine_good, rule_ok}
-use Rattle.listing_lines.specs.Facts.FormCases.{length-calls_of}
+use Rattle.listing_lines.proofs.Facts.Forms.{Good, good_small, machine_good, rule_ok}
+use Rattle.listing_lines.proofs.Facts.FormCases.{length-calls_of}
 use Rattle.listing_reader.specs.declared.Due.{Due}
 use Rattle.listing_reader.specs.declared.Due.TheVariants.{Names, Numbers, Columns, Entries, Word, Heading, Calls}
 use Rattle.listing_reader.specs.declared.Reader.{Reader}
@@ -34,8 +34,8 @@ use Rattle.listing_reader.specs.declared.Parsed.TheVariants as P
 use Rattle.listing_reader.specs.Listing.{Sofar, table_in, nothing, Next, on, bad, line, Listing, refused, asked, at_end, on_next, read_from, listing}
 use Rattle.listing_reader.specs.Contents.{broken_off, read_up_to, last_read, filled, kind_of, size_of, numbers_of, places_of, reader_of, parsed_of, contents_of}
 use Rattle.listing_reader.specs.Invariants.{sofar, ReaderOk}
-use Rattle.listing_reader.specs.Facts.Word.{AllBelow, word_good}
-use Rattle.listing_reader.specs.Facts.Table.{Laid, laid_blank, define_length, laid_define}
+use Rattle.listing_reader.proofs.Facts.Word.{AllBelow, word_good}
+use Rattle.listing_reader.proofs.Facts.Table.{Laid, laid_blank, define_length, laid_define}
 
 -- ---- the invariant of the lines after line 2
 

@@ -8,12 +8,12 @@ use Rattle.std.proofs.Math.Option.{Option, none, some}
 use Rattle.std.proofs.Math.ListN.{length, set}
 use Rattle.std.proofs.lemmas.List.{set_at}
 use Rattle.std.proofs.Math.Seq.{append_snoc}
-use Rattle.notation.specs.Facts.Tests.{pick_cases}
+use Rattle.notation.proofs.Facts.Tests.{pick_cases}
 use Rattle.timeline_rule.specs.Model.Timeline.{Call, seek, forward, back}
 use Rattle.listing_text.specs.Pieces.{same_list}
 use Rattle.listing_lines.specs.Forms.{first_line, columns_line, word_line, heading_line, on_some, machine_line, entry_line, word_of, word_before, call_line, given}
 use Rattle.listing_lines.specs.Model.{call_code, over}
-use Rattle.listing_lines.specs.Facts.FormCases.{length-calls_of}
+use Rattle.listing_lines.proofs.Facts.FormCases.{length-calls_of}
 use Rattle.listing_reader.specs.declared.Due.{Due}
 use Rattle.listing_reader.specs.declared.Due.TheVariants.{Names, Numbers, Columns, Entries, Word, Heading, Calls}
 use Rattle.listing_reader.specs.declared.Reader.{Reader}
@@ -22,7 +22,7 @@ use Rattle.listing_reader.specs.declared.Turn.TheVariants as T
 use Rattle.listing_reader.specs.Listing.{Sofar, Next, on, bad, line}
 use Rattle.listing_reader.specs.Contents.{word_left, broken_off, filled, kind_of, size_of, numbers_of, places_of}
 use Rattle.listing_reader.specs.Invariants.{sofar, call_put, Leaves}
-use Rattle.listing_reader.specs.Facts.Word.{word-whole}
+use Rattle.listing_reader.proofs.Facts.Word.{word-whole}
 
 -- ---- arrays
 

@@ -4,24 +4,24 @@ use Rattle.std.proofs.Common.{sym, ap, ◌∙◌, subst, arith, length-append, t
 use Rattle.std.proofs.Math.Decide.{ℕ_discrete, dec_lt}
 use Rattle.std.proofs.lemmas.Bool.{eqb-false}
 use Rattle.notation.specs.Choice.{pick}
-use Rattle.notation.specs.Facts.Tests.{by_test, pick_true, pick_false, pick_cases}
-use Rattle.store_bytes.specs.Facts.Slots.{part-drop}
+use Rattle.notation.proofs.Facts.Tests.{by_test, pick_true, pick_false, pick_cases}
+use Rattle.store_bytes.proofs.Facts.Slots.{part-drop}
 use Rattle.machine.specs.declared.Machine.{Machine}
 use Rattle.machine.specs.Layout.{flag_at}
-use Rattle.table_laws.specs.Facts.Entries.{flag_is}
+use Rattle.table_laws.proofs.Facts.Entries.{flag_is}
 use Rattle.listing_text.specs.Pieces.{same_list, lines}
 use Rattle.listing_text.specs.Model.{up_to}
-use Rattle.listing_text.specs.Facts.PieceCases.{up_to_le, pieces_cut}
+use Rattle.listing_text.proofs.Facts.PieceCases.{up_to_le, pieces_cut}
 use Rattle.listing_lines.specs.declared.Rule.{Rule}
 use Rattle.listing_lines.specs.Forms.{first_line, columns_line, word_line, heading_line, machine_line, entry_line, word_of, call_line, number_in, place, given, define}
 use Rattle.listing_lines.specs.Model.{RuleOk}
-use Rattle.listing_lines.specs.Facts.Forms.{Good, good_small, rule_ok, number_ok}
+use Rattle.listing_lines.proofs.Facts.Forms.{Good, good_small, rule_ok, number_ok}
 use Rattle.listing_reader.specs.declared.Due.{Due}
 use Rattle.listing_reader.specs.declared.Due.TheVariants.{Names, Numbers, Columns, Entries, Word, Heading, Calls}
 use Rattle.listing_reader.specs.Listing.{Sofar, nothing, Next, on, bad, line, refused, on_next, read_from, listing}
-use Rattle.listing_reader.specs.Facts.ParseCases.{read_at, parse_long}
-use Rattle.listing_reader.specs.Facts.Table.{define_same, define_other}
-use Rattle.listing_reader.specs.Facts.Accepted.{Ready, ReadyNext, some_cases, keeps}
+use Rattle.listing_reader.proofs.Facts.ParseCases.{read_at, parse_long}
+use Rattle.listing_reader.proofs.Facts.Table.{define_same, define_other}
+use Rattle.listing_reader.proofs.Facts.Accepted.{Ready, ReadyNext, some_cases, keeps}
 
 -- ---- how many good lines can still follow
 

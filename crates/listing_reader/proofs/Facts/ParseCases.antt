@@ -9,9 +9,9 @@ use borrow.Author.Tests.{le-leb, lt-leb}
 use Rattle.notation.specs.Choice.{pick}
 use Rattle.listing_text.specs.Pieces.{lines, pieces}
 use Rattle.listing_text.specs.Model.{up_to}
-use Rattle.listing_text.specs.Facts.PieceCases.{up_to_le, pieces_cut, lines_last}
+use Rattle.listing_text.proofs.Facts.PieceCases.{up_to_le, pieces_cut, lines_last}
 use Rattle.listing_lines.specs.Model.{calls_of}
-use Rattle.listing_lines.specs.Facts.FormCases.{length-calls_of}
+use Rattle.listing_lines.proofs.Facts.FormCases.{length-calls_of}
 use Rattle.listing_reader.specs.declared.Due.{Due}
 use Rattle.listing_reader.specs.declared.Due.TheVariants.{Names, Calls}
 use Rattle.listing_reader.specs.declared.Reader.{Reader}
@@ -22,7 +22,7 @@ use Rattle.listing_reader.specs.declared.Parsed.TheVariants as P
 use Rattle.listing_reader.specs.Listing.{Sofar, Next, on, line, Listing, refused, at_end, on_next, read_from, nothing, listing}
 use Rattle.listing_reader.specs.Contents.{broken_off, read_up_to, last_read, filled, numbers_of, places_of, parsed_of, contents_of}
 use Rattle.listing_reader.specs.Invariants.{sofar, next_of, Leaves, ReaderOk, TurnOk, LentOk}
-use Rattle.listing_reader.specs.Facts.Arrays.{Unheard, Placed, placed_next, placed_bad, placed_end}
+use Rattle.listing_reader.proofs.Facts.Arrays.{Unheard, Placed, placed_next, placed_bad, placed_end}
 
 -- the listing from index `at` on, where n, d and x are the result of the lines before it
 unfoldable pub read_at : ℕ → Due → Sofar → List ℕ → ℕ → Listing

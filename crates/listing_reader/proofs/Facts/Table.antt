@@ -7,7 +7,7 @@ use native.Mathlib.Omega.{arith}
 use Rattle.std.proofs.lemmas.List.{get_or-replicate}
 use Rattle.std.proofs.Math.Seq.{paste}
 use Rattle.store_bytes.specs.Model.{slot_of, put_slot}
-use Rattle.store_bytes.specs.Facts.Slots.{put_length, put_same, put_other}
+use Rattle.store_bytes.proofs.Facts.Slots.{put_length, put_same, put_other}
 use Rattle.machine.specs.declared.Machine.{Machine}
 use Rattle.machine.specs.declared.Entry.TheVariants.{Undefined, Defined}
 use Rattle.machine.specs.Layout.{byte_at}
@@ -15,7 +15,7 @@ use Rattle.table_laws.specs.WellFormed.{entry_bytes, ActionOf, LaidOut}
 use Rattle.listing_lines.specs.declared.Rule.{Rule}
 use Rattle.listing_lines.specs.Forms.{number_in, place, action_of, define}
 use Rattle.listing_lines.specs.Model.{RuleOk}
-use Rattle.listing_lines.specs.Facts.Forms.{Good, good_small, number_ok}
+use Rattle.listing_lines.proofs.Facts.Forms.{Good, good_small, number_ok}
 
 -- every entry of a table of one tape is laid out
 abbrev pub Laid : Machine → List ℕ → Type 0

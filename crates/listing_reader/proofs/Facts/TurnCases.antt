@@ -21,13 +21,13 @@ use Rattle.listing_lines.specs.declared.Count.{Count}
 use Rattle.listing_lines.specs.declared.Count.TheVariants as C
 use Rattle.listing_lines.specs.Forms.{word_line, on_some, entry_line, word_of, word_before, call_line, given, define}
 use Rattle.listing_lines.specs.Model.{rule_in, count_of, over, read_word, call_in, call_code, CountOk}
-use Rattle.listing_lines.specs.Facts.FormCases.{length-calls_of, calls_of-put}
+use Rattle.listing_lines.proofs.Facts.FormCases.{length-calls_of, calls_of-put}
 use Rattle.listing_reader.specs.declared.Due.TheVariants.{Entries, Word, Heading, Calls}
 use Rattle.listing_reader.specs.declared.Reader.{Reader}
 use Rattle.listing_reader.specs.declared.Turn.TheVariants as T
 use Rattle.listing_reader.specs.Listing.{line}
 use Rattle.listing_reader.specs.Invariants.{sofar, next_of, call_put}
-use Rattle.listing_reader.specs.Facts.Word.{word-whole}
+use Rattle.listing_reader.proofs.Facts.Word.{word-whole}
 
 -- ---- an entry line that defines an entry, or finds it given
 

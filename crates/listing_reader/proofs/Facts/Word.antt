@@ -5,14 +5,14 @@ use Rattle.std.proofs.Math.Option.{some}
 use Rattle.std.proofs.Math.Decide.{dec_lt}
 use Rattle.std.proofs.Math.ListN.{get_or-append}
 use Rattle.std.proofs.Math.Seq.{get_or-append_seam}
-use Rattle.notation.specs.Facts.Tests.{by_test, pick_true, pick_false, pick_cases}
+use Rattle.notation.proofs.Facts.Tests.{by_test, pick_true, pick_false, pick_cases}
 use Rattle.listing_text.specs.Pieces.{onto, pieces, fields}
 use Rattle.listing_text.specs.Numbers.{number, on_num, below}
-use Rattle.listing_text.specs.Facts.PieceCases.{some_field}
-use Rattle.listing_text.specs.Facts.Chain.{no_value, num_inv}
+use Rattle.listing_text.proofs.Facts.PieceCases.{some_field}
+use Rattle.listing_text.proofs.Facts.Chain.{no_value, num_inv}
 use Rattle.listing_text.specs.declared.Num.TheVariants.{Value}
 use Rattle.listing_lines.specs.Forms.{symbols_of, word_of, symbols_before, word_before}
-use Rattle.listing_lines.specs.Facts.Forms.{no_some, below_lt}
+use Rattle.listing_lines.proofs.Facts.Forms.{no_some, below_lt}
 
 -- ---- a line's bytes are those of its fields, and one space fewer than there are fields
 

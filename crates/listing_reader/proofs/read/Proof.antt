@@ -1,6 +1,6 @@
 use mathlib.Core.Path.{refl}
 use borrow.Author.Rules.{rules}
-use Rattle.listing_reader.specs.Facts.ParseCases.{read_all}
+use Rattle.listing_reader.proofs.Facts.ParseCases.{read_all}
 use Rattle.listing_reader.proofs.read.Statement.{statement}
 use Rattle.listing_reader.proofs.read.Tie as tie
 

@@ -1,5 +1,5 @@
 use borrow.Author.Rules.{rules}
-use Rattle.listing_reader.specs.Facts.ParseCases.{end_due, end_asked}
+use Rattle.listing_reader.proofs.Facts.ParseCases.{end_due, end_asked}
 use Rattle.listing_reader.specs.Listing.{at_end}
 use Rattle.listing_reader.specs.Contents.{parsed_of}
 use Rattle.listing_reader.proofs.lines.finish.Statement.{statement}

@@ -2,7 +2,7 @@ use Prim.Native.Nat.{◌-◌}
 use native.Mathlib.Omega.{arith}
 use borrow.Author.Rules.{rules}
 use lib.ListN.{length}
-use Rattle.listing_reader.specs.Facts.ParseCases.{ParseInv, inv_start, inv_next, long_parsed, long_places, bad_parsed, bad_places, stop_end}
+use Rattle.listing_reader.proofs.Facts.ParseCases.{ParseInv, inv_start, inv_next, long_parsed, long_places, bad_parsed, bad_places, stop_end}
 use Rattle.listing_reader.proofs.lines.parse.Statement.{statement}
 use Rattle.listing_reader.proofs.lines.parse.Tie as tie
 

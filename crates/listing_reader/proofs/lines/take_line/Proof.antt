@@ -1,6 +1,6 @@
 use mathlib.Core.Path.{refl}
 use borrow.Author.Rules.{rules}
-use Rattle.listing_reader.specs.Facts.ParseCases.{at-due, leaves_at}
+use Rattle.listing_reader.proofs.Facts.ParseCases.{at-due, leaves_at}
 use Rattle.listing_reader.proofs.lines.take_line.Statement.{statement}
 use Rattle.listing_reader.proofs.lines.take_line.Tie as tie
 

@@ -1,6 +1,6 @@
 use mathlib.Core.Path.{refl}
 use borrow.Author.Rules.{rules}
-use Rattle.listing_reader.specs.Facts.TurnCases.{calls_full, calls_bad, calls_on, call-left}
+use Rattle.listing_reader.proofs.Facts.TurnCases.{calls_full, calls_bad, calls_on, call-left}
 use Rattle.listing_reader.proofs.turns.calls_turn.Statement.{statement}
 use Rattle.listing_reader.proofs.turns.calls_turn.Tie as tie
 

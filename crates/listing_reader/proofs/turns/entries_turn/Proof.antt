@@ -1,9 +1,9 @@
 use mathlib.Core.Path.{refl}
 use borrow.Author.Rules.{rules}
-use Rattle.listing_lines.specs.Facts.FormCases.{entry_ok_lem, forms}
+use Rattle.listing_lines.proofs.Facts.FormCases.{entry_ok_lem, forms}
 use Rattle.listing_reader.specs.Listing.{line}
 use Rattle.listing_reader.specs.Invariants.{next_of, sofar}
-use Rattle.listing_reader.specs.Facts.TurnCases.{entries_given, entries_on, given-left}
+use Rattle.listing_reader.proofs.Facts.TurnCases.{entries_given, entries_on, given-left}
 use Rattle.listing_reader.proofs.turns.entries_turn.Statement.{statement}
 use Rattle.listing_reader.proofs.turns.entries_turn.Tie as tie
 

@@ -1,7 +1,7 @@
 use borrow.Author.Rules.{rules}
 use Rattle.listing_reader.specs.Listing.{line}
 use Rattle.listing_reader.specs.Invariants.{next_of, sofar}
-use Rattle.listing_lines.specs.Facts.FormCases.{forms}
+use Rattle.listing_lines.proofs.Facts.FormCases.{forms}
 use Rattle.listing_reader.proofs.turns.heading_turn.Statement.{statement}
 use Rattle.listing_reader.proofs.turns.heading_turn.Tie as tie
 

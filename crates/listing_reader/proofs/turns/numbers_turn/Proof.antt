@@ -1,5 +1,5 @@
 use borrow.Author.Rules.{rules}
-use Rattle.listing_lines.specs.Facts.FormCases.{machine_small, forms}
+use Rattle.listing_lines.proofs.Facts.FormCases.{machine_small, forms}
 use Rattle.listing_reader.specs.Listing.{line}
 use Rattle.listing_reader.specs.Invariants.{next_of, sofar}
 use Rattle.listing_reader.proofs.turns.numbers_turn.Statement.{statement}

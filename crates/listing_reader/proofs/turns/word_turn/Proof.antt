@@ -1,5 +1,5 @@
 use borrow.Author.Rules.{rules}
-use Rattle.listing_reader.specs.Facts.TurnCases.{word_left_holds, word_turn_bad, word_turn_on, count_on_lem}
+use Rattle.listing_reader.proofs.Facts.TurnCases.{word_left_holds, word_turn_bad, word_turn_on, count_on_lem}
 use Rattle.listing_reader.proofs.turns.word_turn.Statement.{statement}
 use Rattle.listing_reader.proofs.turns.word_turn.Tie as tie
 
