@@ -1,7 +1,7 @@
 // Reads a line of the one-line form from standard input, and writes the listing of its table to standard output. One
 // newline at the end of the input is no part of the line. For a refused line it writes `refused`, the refusal's number,
 // and its place where it has one. It reads at most 65,536 bytes: the first 65,536 have the same answer as the whole input
-// (`answer_first`, in the specs). Where a read fails, it writes nothing to standard output and one line to standard
+// (`answer_first`, in the proofs). Where a read fails, it writes nothing to standard output and one line to standard
 // error. Where a write fails, it writes one line to standard error.
 #![tactic(auto)]
 

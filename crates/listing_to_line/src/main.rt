@@ -1,7 +1,7 @@
 // Reads a listing from standard input, and writes its table in the one-line form to standard output. It reads the word
 // and the calls too, and leaves them out. For a listing with a bad line it writes `refused` and the number of the
 // first. For a refused table it writes `refused table` and the refusal's number. It reads at most 65,536 bytes: the
-// first 65,536 have the same answer as the whole input (`answer_first`, in the specs). Where a read fails, it writes
+// first 65,536 have the same answer as the whole input (`answer_first`, in the proofs). Where a read fails, it writes
 // nothing to standard output and one line to standard error. Where a write fails, it writes one line to standard error.
 #![tactic(auto)]
 

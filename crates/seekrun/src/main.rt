@@ -1,5 +1,5 @@
 // Reads a listing from standard input, and writes its rows to standard output. It reads at most 65,536 bytes: the first
-// 65,536 have the same answer as the whole input (`answer_first`, in the specs of listing). Where a read fails, it
+// 65,536 have the same answer as the whole input (`answer_first`, in the proofs of listing). Where a read fails, it
 // writes nothing to standard output and one line to standard error. Where a write fails, it writes one line to standard
 // error.
 #![tactic(auto)]
