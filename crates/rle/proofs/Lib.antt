@@ -1,2 +1,1 @@
-pub mod BothSides
 pub mod Facts

@@ -10,7 +10,8 @@ use Rattle.symbol.specs.declared.Dir.TheVariants.{L, R, N}
 use Rattle.machine.specs.declared.Action.{Action}
 use Rattle.machine.specs.declared.Entry.TheVariants.{Defined}
 use Rattle.table_laws.specs.WellFormed.{ActionOf}
-use Rattle.table_machine.specs.TableMachine.{Config, read_t, entry, run, Stays, Sideways, Walks, out_of_fuel_at, goes}
+use Rattle.outcome.specs.declared.Outcome.{Outcome}
+use Rattle.table_machine.specs.TableMachine.{Config, read_t, entry, run, Stays, Sideways, Walks, out_of_fuel_at, halts, stays, walks, goes}
 use Rattle.table_machine.specs.Tables.{TableOf}
 use Rattle.run_rules.specs.Model.Task.{Task, matches}
 use Rattle.rle_stack.specs.Model.{top_of, lacks}
@@ -96,8 +97,14 @@ merges w τ R e = pick_true (eqb w (top_of (left_of τ))) _ _ (eq-eqb _ _ (sym (
 merges w τ N e = refl
 
 -- an unproved entry has neither of the never patterns
+unproved_by : (k : Task) (c : Config) (a : Action) (o : Outcome) → entry (table_in k) c ≡ Defined a → Judged k c o → o ≡ out_of_fuel_at c → ¬ (Stays c a) × ((x : Dir) → ¬ (Walks k.machine.tapes c a x))
+unproved_by k c a o e (halts h) q = cc
+unproved_by k c a o e (stays b h s) q = cc
+unproved_by k c a o e (walks b m h w) q = cc
+unproved_by k c a o e (goes b h s w) q = let p = same_action _ b a h e in (rw p at s, rw p at w)
+
 unproved_says : (k : Task) (c : Config) (a : Action) → entry (table_in k) c ≡ Defined a → Judged k c (out_of_fuel_at c) → ¬ (Stays c a) × ((x : Dir) → ¬ (Walks k.machine.tapes c a x))
-unproved_says k c a e (goes b h s w) = let p = same_action _ b a h e in (rw p at s, rw p at w)
+unproved_says k c a e u = unproved_by k c a (out_of_fuel_at c) e u refl
 
 -- ---- on the way
 

@@ -83,7 +83,7 @@ module _ (m : Machine) (s : List ℕ) (p : Bool) (stop : ℕ) (v : Simulator) (c
       → SameRunOne m s p stop v c left (into v (v.steps + (left - at.left)) at) c' at.left
   same_run Known known r =
       record {
-        same = λ rule miss c1 c2. walked Known m s known p rule stop v c1 c2 (allowed.burst_allowed z) miss (burst_start v left) at c c' r.walk v.steps;
+        same = λ rule miss c1 c2. walked Known m s known p rule stop v c1 c2 (allowed.burst_allowed z) miss (burst_start v left) c at c' r.walk v.steps;
         okay = λ stride c1 c2 ok. record {
           ok = record {
             symbols_in = ok.ok.symbols_in;

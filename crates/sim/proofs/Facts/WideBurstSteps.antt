@@ -82,21 +82,21 @@ module _ (m : Machine) (s : List ℕ) (p : Bool) (rule : StopRule) (stop stride 
 
   -- ---- a walk
 
-  less : (x y : WideBurstState) (c0 c1 c2 d0 d1 d2 : List ℕ) → Walk s stop m.symbols stride x c0 c1 c2 y d0 d1 d2 → y.left ≤ x.left
-  less x y c0 c1 c2 d0 d1 d2 here = omega arith
-  less x y c0 c1 c2 d0 d1 d2 (more z e0 e1 e2 y' d0' d1' d2' w b) =
-      let h : z.left ≤ x.left = less x z c0 c1 c2 e0 e1 e2 w in
+  less : (x : WideBurstState) (c0 c1 c2 : List ℕ) (y : WideBurstState) (d0 d1 d2 : List ℕ) → Walk s stop m.symbols stride x c0 c1 c2 y d0 d1 d2 → y.left ≤ x.left
+  less x c0 c1 c2 y d0 d1 d2 here = omega arith
+  less x c0 c1 c2 y d0 d1 d2 (more z e0 e1 e2 y' d0' d1' d2' w b) =
+      let h : z.left ≤ x.left = less x c0 c1 c2 z e0 e1 e2 w in
       omega (arith, b.left_is)
 
-  pub walked : (x y : WideBurstState) (c0 c1 c2 d0 d1 d2 : List ℕ) → Walk s stop m.symbols stride x c0 c1 c2 y d0 d1 d2 → (steps : ℕ)
+  pub walked : (x : WideBurstState) (c0 c1 c2 : List ℕ) (y : WideBurstState) (d0 d1 d2 : List ℕ) → Walk s stop m.symbols stride x c0 c1 c2 y d0 d1 d2 → (steps : ℕ)
       → run_of job y.left (conf (into_wide (steps + (x.left - y.left)) y) d0 d1 d2) ≡ run_of job x.left (conf (into_wide steps x) c0 c1 c2)
-  walked x y c0 c1 c2 d0 d1 d2 here steps = let z : steps + (x.left - x.left) ≡ steps = omega arith in rw z refl
-  walked x y c0 c1 c2 d0 d1 d2 (more z e0 e1 e2 y' d0' d1' d2' w b) steps =
-      let h : z.left ≤ x.left = less x z c0 c1 c2 e0 e1 e2 w in
+  walked x c0 c1 c2 y d0 d1 d2 here steps = let z : steps + (x.left - x.left) ≡ steps = omega arith in rw z refl
+  walked x c0 c1 c2 y d0 d1 d2 (more z e0 e1 e2 y' d0' d1' d2' w b) steps =
+      let h : z.left ≤ x.left = less x c0 c1 c2 z e0 e1 e2 w in
       let f : z.left ≡ 0 → ⊥ = b.fuel in
       let l : y.left ≡ z.left - 1 = b.left_is in
       let n : steps + (x.left - y.left) ≡ steps + (x.left - z.left) + 1 = omega arith in
-      rw n (ran_on z y e0 e1 e2 d0 d1 d2 b (steps + (x.left - z.left)) ∙ walked x z c0 c1 c2 e0 e1 e2 w steps)
+      rw n (ran_on z y e0 e1 e2 d0 d1 d2 b (steps + (x.left - z.left)) ∙ walked x c0 c1 c2 z e0 e1 e2 w steps)
 
 -- ---- the engine after a burst
 
@@ -113,7 +113,7 @@ module _ (m : Machine) (s : List ℕ) (p : Bool) (stop stride : ℕ) (v v' : Sim
   same_run_wide : (m.tapes ≡ 1 → ⊥) → RunOk m stride v c0 c1 c2 left → Carried s stop m.symbols stride (wide_burst_start v left) c0 c1 c2 at d0 d1 d2
       → SameRun m s p stop v c0 c1 c2 left (into_wide (v.steps + (left - at.left)) at) d0 d1 d2 at.left
   same_run_wide several start r = record {
-    same = λ rule miss. walked m s p rule stop stride several start.ok.stride_is miss (wide_burst_start v left) at c0 c1 c2 d0 d1 d2 r.walk v.steps;
+    same = λ rule miss. walked m s p rule stop stride several start.ok.stride_is miss (wide_burst_start v left) c0 c1 c2 at d0 d1 d2 r.walk v.steps;
     okay = λ stride' ok. record {
       ok = record {
         symbols_in = ok.ok.symbols_in;

@@ -43,7 +43,7 @@ module _ {M : Automaton} {O : Ops M.Out} (E : Laws M O) where
     where
       go : Dec (i ≡ suc k) → O.slots (thin O k t) ≡ O.slots t → (i ≤ k → E.Holds (thin O k t) i u) → E.Holds (O.move (2 * suc k) (suc k) (thin O k t)) i u
       go (yes q) n f = subst (λ n. E.Holds (O.move (2 * suc k) (suc k) (thin O k t)) n u) (sym q)
-          (E.Move-same (2 * suc k) (suc k) (thin O k t) u (omega arith) (omega arith)
+          (E.move_same (2 * suc k) (suc k) (thin O k t) u (omega arith) (omega arith)
           (thin_above k t (2 * suc k) u (omega arith) (omega arith) (subst (λ n. E.Holds t (2 * n) u) q h)))
       go (no q) n f = E.move_other (2 * suc k) (suc k) i (thin O k t) u (omega arith) (omega arith) q (f (omega arith))
 

@@ -70,7 +70,7 @@ module _ {M : Automaton} {O : Ops M.Out} (E : Laws M O) where
       here = sym (at_low E (E.mean s) (base E (E.mean s)) (omega arith));
       exactly = pos_base E (E.mean s);
       room = λ j a b. absurd (omega arith);
-      small = omega (arith, now, E.Fits-low s f);
+      small = omega (arith, now, E.fits_low s f);
     };
     tidy = record {
       most_low = c.m_low;
@@ -80,7 +80,7 @@ module _ {M : Automaton} {O : Ops M.Out} (E : Laws M O) where
       count_low = omega arith;
       every_low = c.k_low;
       every_high = omega (arith, c.k_high);
-      last_low = omega (arith, E.Fits-low s f);
+      last_low = omega (arith, E.fits_low s f);
       slot = λ i b. only i (omega arith);
     };
     count_high = c.m_low;

@@ -160,7 +160,7 @@ module _ (X : EngineMeaning) (m : Machine) (s : List ℕ) (e : X.kind.State) (I 
         numbers = λ z a. subst (λ y. Numbers y (held_on X m s r.1)) (is z a) (verdict_numbers _ _ _ o (subst (λ y. Verdict m.tapes (table_of m s) y o) (sym held) there));
         never = λ n f a j. subst (λ y. ¬ Halted (table_of m s) y) (runs_is j)
             (never_any M (E.config (E.mean e)) (reach_in m s c t) i.engine_at.low
-            (M.never_Halts (runs M (E.config (E.mean e)) (reach_in m s c t)) o (run_real M (E.config (E.mean e)) real (reach_in m s c t))
+            (M.never_halts (runs M (E.config (E.mean e)) (reach_in m s c t)) o (run_real M (E.config (E.mean e)) real (reach_in m s c t))
             (subst (λ y. Verdict m.tapes (table_of m s) y o) (sym (runs_is (reach_in m s c t))) there) (subst IsNever (sym (is _ a)) refl)) j);
       }
         where

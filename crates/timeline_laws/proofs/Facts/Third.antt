@@ -80,9 +80,9 @@ module _ (X : EngineMeaning) (m : Machine) (s : List ℕ) (e : X.kind.State) (I 
       → ((i : ℕ) × (o ≡ Out.Full i)) ↔ ((j : ℕ) × (c.steps ≤ j) × (j < c.steps + n) × FullFrom X m s c e j)
   full_rule n o y (went r q v) = (
     (λ f. absurd (M.verdict_not_full (E.config y) o v (subst IsFull (sym f.1) refl))),
-    (λ f. absurd (r (f.0 - c.steps) (omega (arith, f.1, f.2)) ((I.Full-is (f.0 - c.steps)).1 f.3))),
+    (λ f. absurd (r (f.0 - c.steps) (omega (arith, f.1, f.2)) ((I.full_is (f.0 - c.steps)).1 f.3))),
   )
-  full_rule n o y (full j l r k q f d) = ((λ _. (c.steps + j, omega arith, omega arith, subst (X.FullStep m s e) there ((I.Full-is j).0 k))), (λ _. (steps_of o, full_of o f)))
+  full_rule n o y (full j l r k q f d) = ((λ _. (c.steps + j, omega arith, omega arith, subst (X.FullStep m s e) there ((I.full_is j).0 k))), (λ _. (steps_of o, full_of o f)))
     where
       there : j ≡ c.steps + j - c.steps
       there = omega arith

@@ -1,0 +1,35 @@
+use Rattle.std.proofs.Common.{rules}
+use native.Mathlib.Omega.{arith}
+use borrow.Author.Tests.{not-true, not-false}
+use Rattle.rle.proofs.Facts.FitsCases.{fits_counts, fits_head, fits_left, fits_right, fits_reach, counts_steps}
+use Rattle.rle.proofs.ChainSim.fits.Goals as goal
+
+pub returns-then-not-counts_fit : goal.returns-then-not-counts_fit
+returns-then-not-counts_fit c = fits_counts _ _ _ _ _ _ _ c.counts_fit.ensures (c.if-not-counts_fit.true)
+
+pub head_fits-requires : goal.head_fits-requires
+head_fits-requires c = counts_steps _ _ _ c.counts_fit.ensures (c.if-not-counts_fit.false)
+
+pub returns-then-not-head_fits : goal.returns-then-not-head_fits
+returns-then-not-head_fits c = fits_head _ _ _ _ _ _ _ c.counts_fit.ensures (c.if-not-counts_fit.false) _ c.head_fits.ensures (c.if-not-head_fits.true)
+
+pub overflow_add-most : goal.overflow_add-most
+overflow_add-most c = omega (arith, counts_steps _ _ _ c.counts_fit.ensures (c.if-not-counts_fit.false))
+
+pub measure-lefts-requires : goal.measure-lefts-requires
+measure-lefts-requires c = (omega (arith, c.places-lp.ensures), omega (arith, c.places-lp.ensures), omega (arith, counts_steps _ _ _ c.counts_fit.ensures (c.if-not-counts_fit.false)))
+
+pub returns-then-most-lefts : goal.returns-then-most-lefts
+returns-then-most-lefts c = fits_left _ _ _ _ _ _ _ c.counts_fit.ensures (c.if-not-counts_fit.false) _ c.head_fits.ensures (c.if-not-head_fits.false) _ c.places-lp.ensures _ c.measure-lefts.ensures c.if-most-lefts.true
+
+pub measure-rights-requires : goal.measure-rights-requires
+measure-rights-requires c = (omega (arith, c.places-rp.ensures), omega (arith, c.places-rp.ensures), omega (arith, counts_steps _ _ _ c.counts_fit.ensures (c.if-not-counts_fit.false)))
+
+pub returns-then-most-rights : goal.returns-then-most-rights
+returns-then-most-rights c = fits_right _ _ _ _ _ _ _ c.counts_fit.ensures (c.if-not-counts_fit.false) _ c.head_fits.ensures (c.if-not-head_fits.false) _ c.places-lp.ensures _ c.measure-lefts.ensures c.if-most-lefts.false _ c.places-rp.ensures _ c.measure-rights.ensures c.if-most-rights.true
+
+pub reach_fits-requires-clause-steps_le_steps_most : goal.reach_fits-requires-clause-steps_le_steps_most
+reach_fits-requires-clause-steps_le_steps_most c = counts_steps _ _ _ c.counts_fit.ensures (c.if-not-counts_fit.false)
+
+pub returns : goal.returns
+returns c = fits_reach _ _ _ _ _ _ _ c.counts_fit.ensures (c.if-not-counts_fit.false) _ c.head_fits.ensures (c.if-not-head_fits.false) _ c.places-lp.ensures _ c.measure-lefts.ensures c.if-most-lefts.false _ c.places-rp.ensures _ c.measure-rights.ensures c.if-most-rights.false _ c.reach_fits.ensures

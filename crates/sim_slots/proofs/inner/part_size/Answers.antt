@@ -1,0 +1,9 @@
+use Rattle.std.proofs.Common.{rules}
+use Rattle.notation.proofs.Facts.Tests.{tests}
+use Rattle.sim_slots.proofs.inner.part_size.Goals as goal
+
+pub returns-then-has : goal.returns-then-has
+returns-then-has c = search tests
+
+pub returns : goal.returns
+returns c = search tests

@@ -1,0 +1,23 @@
+use Rattle.std.proofs.Common.{rules}
+use Rattle.timeline_rule.proofs.Facts.TurnCases.{rec_fit, rec_low, rec_not, rec_more, rec_yes}
+use Rattle.sim_timeline.proofs.Facts.CallCases.{rec_save}
+use Rattle.sim_timeline.proofs.Facts.Engine.{plain_sound}
+use Rattle.sim_slots.specs.Model.Kind.{plain_kind}
+use borrow.Author.Tests.{not-true, not-false}
+use native.Mathlib.Omega.{arith}
+use Rattle.sim_timeline.proofs.Timeline.record_due.Goals as goal
+
+pub is_due-requires-clause-p_le_steps_most : goal.is_due-requires-clause-p_le_steps_most
+is_due-requires-clause-p_le_steps_most c = rec_low plain_kind _ _ _ _ (plain_sound _ _ _) _ c.requires
+
+pub returns-then-not-is_due : goal.returns-then-not-is_due
+returns-then-not-is_due c = rec_not plain_kind _ _ _ _ (plain_sound _ _ _) _ _ _ _ c.is_due.ensures (c.if-not-is_due.true)
+
+pub save_at-requires : goal.save_at-requires
+save_at-requires c = rec_save _ _ _ _ c.requires
+
+pub recorded-requires : goal.recorded-requires
+recorded-requires c = rec_more plain_kind _ _ _ _ (plain_sound _ _ _) _ _ _ _ c.is_due.ensures (c.if-not-is_due.false) _ c.requires (omega (arith, c.save_at.auto))
+
+pub returns : goal.returns
+returns c = rec_yes plain_kind _ _ _ _ (plain_sound _ _ _) _ _ _ _ c.is_due.ensures (c.if-not-is_due.false) _ _ _ c.save_at.ensures c.recorded.ensures
