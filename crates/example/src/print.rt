@@ -2,42 +2,45 @@
 use outcome::{Outcome, Refusal};
 use sim::{Answer, Simulator};
 use sim_timeline::Timeline;
+use std::io;
 
-fn say(what: &[u8], number: u64) {
-    io::write_all(1, what);
-    io::print_decimal(1, number);
-    io::write_all(1, b"\n");
+fn say(rt: &impl Print, what: &str, number: u64) -> io::Result<()> {
+    println!(rt; "{what}{number}")
 }
 
 // Every operation takes every input. A refusal has a number, and a refused call changes nothing that was lent.
-pub(crate) fn refused(why: Refusal) {
-    say(b"refused ", why.number() as u64);
+pub(crate) fn refused(rt: &impl Print, why: Refusal) -> io::Result<()> {
+    say(rt, "refused ", u64::from(why.number()))
 }
 
-pub(crate) fn told(call: &[u8], answer: Answer) {
-    io::write_all(1, call);
+pub(crate) fn told(rt: &impl Print, call: &str, answer: Answer) -> io::Result<()> {
+    print!(rt; "{call}")?;
     match answer {
-        Answer::Refused(why) => refused(why),
+        Answer::Refused(why) => refused(rt, why),
         Answer::Done(outcome) => match outcome {
-            Outcome::Halted { steps, state: _ } => say(b"halted at ", steps),
-            Outcome::OutOfFuel { steps } => say(b"out of fuel at ", steps),
-            Outcome::NeverHalts { steps, proof: _ } => say(b"never halts, seen at ", steps),
-            Outcome::Stopped { steps } => say(b"stopped at ", steps),
-            Outcome::Full { steps } => say(b"full at ", steps),
+            Outcome::Halted { steps, state: _ } => say(rt, "halted at ", steps),
+            Outcome::OutOfFuel { steps } => say(rt, "out of fuel at ", steps),
+            Outcome::NeverHalts { steps, proof: _ } => say(rt, "never halts, seen at ", steps),
+            Outcome::Stopped { steps } => say(rt, "stopped at ", steps),
+            Outcome::Full { steps } => say(rt, "full at ", steps),
         },
     }
 }
 
 // Prints the answer, and returns the engine for the next call.
-pub(crate) fn ran(call: &[u8], answered: sim::Answered) -> Simulator {
+pub(crate) fn ran(rt: &impl Print, call: &str, answered: sim::Answered) -> io::Result<Simulator> {
     let answer = answered.answer;
-    told(call, answer);
-    answered.sim
+    told(rt, call, answer)?;
+    Ok(answered.sim)
 }
 
 // Prints the answer, and returns the timeline for the next call.
-pub(crate) fn moved(call: &[u8], answered: sim_timeline::Answered) -> Timeline {
+pub(crate) fn moved(
+    rt: &impl Print,
+    call: &str,
+    answered: sim_timeline::Answered,
+) -> io::Result<Timeline> {
     let answer = answered.answer;
-    told(call, answer);
-    answered.timeline
+    told(rt, call, answer)?;
+    Ok(answered.timeline)
 }

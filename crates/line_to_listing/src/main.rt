@@ -1,16 +1,18 @@
 // Reads a line of the one-line form from standard input, and writes the listing of its table to standard output. One
 // newline at the end of the input is no part of the line. For a refused line it writes `refused`, the refusal's number,
 // and its place where it has one. It reads at most 65,536 bytes: the first 65,536 have the same answer as the whole input
-// (`answer-first`, in the specs). Where a read fails, it writes nothing to standard output and one line to standard
+// (`answer_first`, in the proofs). Where a read fails, it writes nothing to standard output and one line to standard
 // error. Where a write fails, it writes one line to standard error.
 #![tactic(auto)]
 
-ghost use Rattle.std.specs.Prelude.{◌≡◌, ◌≤◌, length};
-ghost use Rattle.io.specs.Counts.{IsPrefixLen};
+ghost use Rattle.std.specs.Prelude.{◌≡◌, ◌≤◌, length, OnOk, IfErr, IfSome, IsErrOf};
+ghost use Rattle.std.specs.Io.KnownBytes.{Appends, Keeps};
+ghost use Rattle.program_input.specs.Counts.{IsPrefixLen};
 ghost use Rattle.listing_text.specs.Model.{Wrote};
 ghost use Rattle.line_to_listing.specs.Output.{line_length, answer_to};
 
-use table_text::Read;
+use program_input::Failed;
+use std::io::{Read, Write};
 
 mod printing;
 
@@ -37,36 +39,40 @@ fn print(input: &[u8], out: &mut [u8]) -> usize
     let n = line_length(input);
     let read = table_text::read_line(&input[..n], &mut table);
     match read {
-        Read::Table(m) => {
+        table_text::Read::Table(m) => {
             return printing::listing(out, m, &table);
         }
-        Read::Refused(why) => {
+        table_text::Read::Refused(why) => {
             return printing::refused(out, why);
         }
     }
 }
 
-// Writes the answer; where this fails, writes a line to standard error.
-fn write_output(answer: &[u8]) {
-    if !io::write_all(1, answer) {
-        io::write_all(2, b"line_to_listing: standard output cannot be written\n");
-    }
-}
-
 // Writes the answer to the input.
-fn answer(input: &[u8]) {
-    let mut output = io::large_buffer();
+fn answer<W: Write>(input: &[u8], writer: &mut W) -> Result<(), Failed>
+    ensures written { OnOk result (Appends (W.contents writer.old) (W.contents writer.new) (answer_to input.now)) }
+    ensures failed { IfErr result (λ why. why ≡ Failed.Writing) }
+{
+    let mut output = [0u8; 65536];
     let m = print(input, &mut output);
-    write_output(&output[..m]);
+    program_input::write_output(writer, &output[..m])
 }
 
-fn main() {
-    let mut input = io::large_buffer();
-    let read = program_input::read_input(0, &mut input);
+// Reads the input, and writes the answer to it.
+fn run<R: Read, W: Write>(reader: &mut R, writer: &mut W) -> Result<(), Failed>
+    ensures written { IfSome (R.remaining reader.old) (λ input. OnOk result (Appends (W.contents writer.old) (W.contents writer.new) (answer_to input))) }
+    ensures unread { IsErrOf result Failed.Reading → Keeps (W.contents writer.old) (W.contents writer.new) }
+{
+    let mut input = [0u8; 65536];
+    let read = program_input::read_input(reader, &mut input);
     if read.failed {
-        io::write_all(2, b"line_to_listing: standard input cannot be read\n");
-        return;
+        return Err(Failed::Reading);
     }
-    let n = read.size;
-    answer(&input[..n]);
+    answer(&input[..read.size], writer)
+}
+
+fn main(rt: HostRuntime) {
+    if let Err(why) = run(&mut rt.stdin(), &mut rt.stdout()) {
+        let _ = eprintln!(rt; "line_to_listing: {why}");
+    }
 }

@@ -4,9 +4,12 @@
 #![tactic(auto)]
 
 ghost use Rattle.std.specs.Prelude.{◌<◌};
-ghost use Rattle.io.specs.Counts.{IsPrefixLen};
+ghost use Rattle.program_input.specs.Counts.{IsPrefixLen};
 
 use listing::Listed;
+use std::io::Read;
+use std::rt::Files;
+use std::{fs, io, str};
 
 // The result for one number.
 #[derive(Clone, Copy)]
@@ -19,26 +22,29 @@ enum Pair {
 
 fn digit(n: usize) -> u8
     requires { n < 10 }
+    ensures { result < 128 }
 {
     48 + (n as u8)
 }
 
-fn open_input(i: usize) -> i32
+fn open_input<R: Files>(rt: &R, i: usize) -> io::Result<R::File>
     requires { i < 1000 }
 {
     let hundreds = digit(i / 100);
     let tens = digit(i / 10 % 10);
     let ones = digit(i % 10);
-    os::open_read(&[hundreds, tens, ones, b'.', b'i', b'n'])
+    let name = [hundreds, tens, ones, b'.', b'i', b'n'];
+    fs::open(rt, str::from_utf8(&name).unwrap())
 }
 
-fn open_output(i: usize) -> i32
+fn open_output<R: Files>(rt: &R, i: usize) -> io::Result<R::File>
     requires { i < 1000 }
 {
     let hundreds = digit(i / 100);
     let tens = digit(i / 10 % 10);
     let ones = digit(i % 10);
-    os::open_read(&[hundreds, tens, ones, b'.', b'o', b'u', b't'])
+    let name = [hundreds, tens, ones, b'.', b'o', b'u', b't'];
+    fs::open(rt, str::from_utf8(&name).unwrap())
 }
 
 // Runs the listing. Returns how many bytes it wrote at the start of output, 0 where it refuses the output's size.
@@ -52,82 +58,73 @@ fn print(input: &[u8], output: &mut [u8]) -> usize
 }
 
 // Whether both files can be read, and the listing prints for the first file what the second contains.
-fn agrees(input: i32, expected: i32) -> bool {
-    let mut given = io::large_buffer();
+fn agrees<R: Read>(input: &mut R, expected: &mut R) -> bool {
+    let mut given = [0u8; 65536];
     let case = program_input::read_input(input, &mut given);
     if case.failed {
         return false;
     }
-    let mut wanted = io::large_buffer();
+    let mut wanted = [0u8; 65536];
     let answer = program_input::read_input(expected, &mut wanted);
     if answer.failed {
         return false;
     }
     let n = case.size;
     let m = answer.size;
-    let mut printed = io::large_buffer();
+    let mut printed = [0u8; 65536];
     let k = print(&given[..n], &mut printed);
     listing_text::same(&printed[..k], &wanted[..m])
 }
 
-fn run(i: usize) -> Pair
+fn run(rt: &impl Files, i: usize) -> Pair
     requires { i < 1000 }
 {
-    let input = open_input(i);
-    if input < 0 {
+    let Ok(mut input) = open_input(rt, i) else {
         return Pair::Missing;
-    }
-    let expected = open_output(i);
-    if expected < 0 {
+    };
+    let Ok(mut expected) = open_output(rt, i) else {
         return Pair::Differs;
-    }
-    let same = agrees(input, expected);
-    libc::close(input);
-    libc::close(expected);
-    if same {
+    };
+    if agrees(&mut input, &mut expected) {
         return Pair::Same;
     }
     Pair::Differs
 }
 
-// Writes a number and a text. Returns whether both were written.
-fn say(n: usize, what: &[u8]) -> bool {
-    if !io::print_decimal(1, n as u64) {
-        return false;
-    }
-    io::write_all(1, what)
+// Writes a number and a text.
+fn say(rt: &impl Print, n: usize, what: &str) -> io::Result<()> {
+    print!(rt; "{n}{what}")
 }
 
-fn report(i: usize) {
-    say(i, b" differs\n");
+// Writes the line of a pair that differs. Where this fails, so does the last line.
+fn report(rt: &impl Print, i: usize) {
+    let _ = say(rt, i, " differs\n");
 }
 
-fn both(pairs: usize, differ: usize) -> bool {
-    if !say(pairs, b" cases, ") {
-        return false;
-    }
-    say(differ, b" differ\n")
+fn both(rt: &impl Print, pairs: usize, differ: usize) -> io::Result<()> {
+    say(rt, pairs, " cases, ")?;
+    say(rt, differ, " differ\n")
 }
 
-fn summary(pairs: usize, differ: usize) {
-    if !both(pairs, differ) {
-        io::write_all(2, b"listing_cases: standard output cannot be written\n");
+fn summary(rt: &(impl Print + Eprint), pairs: usize, differ: usize) {
+    if both(rt, pairs, differ).is_err() {
+        let _ = eprintln!(rt; "listing_cases: standard output cannot be written");
     }
 }
 
-fn main() {
+fn main(rt: HostRuntime) {
     let mut differ: usize = 0;
     let mut i: usize = 0;
     while i < 1000 {
-        match run(i) {
+        match run(&rt, i) {
             Pair::Same => {}
             Pair::Differs => {
-                report(i);
+                report(&rt, i);
                 differ += 1;
             }
             Pair::Missing => break,
         }
         i += 1;
     }
-    summary(i, differ);
+    summary(&rt, i, differ);
 }

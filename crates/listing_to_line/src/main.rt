@@ -1,12 +1,13 @@
 // Reads a listing from standard input, and writes its table in the one-line form to standard output. It reads the word
 // and the calls too, and leaves them out. For a listing with a bad line it writes `refused` and the number of the
 // first. For a refused table it writes `refused table` and the refusal's number. It reads at most 65,536 bytes: the
-// first 65,536 have the same answer as the whole input (`answer-first`, in the specs). Where a read fails, it writes
+// first 65,536 have the same answer as the whole input (`answer_first`, in the proofs). Where a read fails, it writes
 // nothing to standard output and one line to standard error. Where a write fails, it writes one line to standard error.
 #![tactic(auto)]
 
-ghost use Rattle.std.specs.Prelude.{◌++◌, ◌+◌, ◌≤◌, length};
-ghost use Rattle.io.specs.Counts.{IsPrefixLen};
+ghost use Rattle.std.specs.Prelude.{◌≡◌, ◌++◌, ◌+◌, ◌≤◌, length, OnOk, IfErr, IfSome, IsErrOf};
+ghost use Rattle.std.specs.Io.KnownBytes.{Appends, Keeps};
+ghost use Rattle.program_input.specs.Counts.{IsPrefixLen};
 ghost use Rattle.listing_text.specs.Text.{bytes};
 ghost use Rattle.listing_text.specs.Show.{show};
 ghost use Rattle.listing_text.specs.Model.{Wrote};
@@ -15,6 +16,8 @@ ghost use Rattle.listing_to_line.specs.Output.{line_of, answer_to};
 use listing_reader::Parsed;
 use listing_text::inner as write;
 use machine::Machine;
+use program_input::Failed;
+use std::io::{Read, Write};
 use table_text::Written;
 
 // Prints a text, a number and a newline.
@@ -74,27 +77,31 @@ fn print(input: &[u8], out: &mut [u8]) -> usize
     }
 }
 
-// Writes the answer; where this fails, writes a line to standard error.
-fn write_output(answer: &[u8]) {
-    if !io::write_all(1, answer) {
-        io::write_all(2, b"listing_to_line: standard output cannot be written\n");
-    }
-}
-
 // Writes the answer to the input.
-fn answer(input: &[u8]) {
-    let mut output = io::large_buffer();
+fn answer<W: Write>(input: &[u8], writer: &mut W) -> Result<(), Failed>
+    ensures written { OnOk result (Appends (W.contents writer.old) (W.contents writer.new) (answer_to input.now)) }
+    ensures failed { IfErr result (λ why. why ≡ Failed.Writing) }
+{
+    let mut output = [0u8; 65536];
     let m = print(input, &mut output);
-    write_output(&output[..m]);
+    program_input::write_output(writer, &output[..m])
 }
 
-fn main() {
-    let mut input = io::large_buffer();
-    let read = program_input::read_input(0, &mut input);
+// Reads the input, and writes the answer to it.
+fn run<R: Read, W: Write>(reader: &mut R, writer: &mut W) -> Result<(), Failed>
+    ensures written { IfSome (R.remaining reader.old) (λ input. OnOk result (Appends (W.contents writer.old) (W.contents writer.new) (answer_to input))) }
+    ensures unread { IsErrOf result Failed.Reading → Keeps (W.contents writer.old) (W.contents writer.new) }
+{
+    let mut input = [0u8; 65536];
+    let read = program_input::read_input(reader, &mut input);
     if read.failed {
-        io::write_all(2, b"listing_to_line: standard input cannot be read\n");
-        return;
+        return Err(Failed::Reading);
     }
-    let n = read.size;
-    answer(&input[..n]);
+    answer(&input[..read.size], writer)
+}
+
+fn main(rt: HostRuntime) {
+    if let Err(why) = run(&mut rt.stdin(), &mut rt.stdout()) {
+        let _ = eprintln!(rt; "listing_to_line: {why}");
+    }
 }

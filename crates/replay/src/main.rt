@@ -13,6 +13,8 @@ use machine::Machine;
 use read::lines::Line;
 use read::{lines, lists, table};
 use rows::PLACES;
+use std::rt::Files;
+use std::{fs, io};
 
 // The kind of the cases in a file.
 #[derive(Clone, Copy)]
@@ -119,69 +121,78 @@ fn all_lines(kind: Kind, text: &[u8]) -> Tally {
 }
 
 // Replays the cases of a file; none where it cannot be read.
-fn of_file(kind: Kind, name: &[u8]) -> Tally {
-    let mut text = io::large_buffer();
-    let file = os::open_read(name);
-    let size = io::read_full(file, &mut text);
-    libc::close(file);
+fn of_file(rt: &impl Files, kind: Kind, name: &str) -> Tally {
+    let mut text = [0u8; 65536];
+    let mut size = 0;
+    if let Ok(mut file) = fs::open(rt, name) {
+        size = program_input::read_input(&mut file, &mut text).size;
+    }
     all_lines(kind, &text[..size])
 }
 
-fn report(name: &[u8], tally: Tally) {
-    io::write_all(1, name);
-    io::write_all(1, b" ");
-    io::print_decimal(1, tally.cases);
-    io::write_all(1, b" cases, ");
-    io::print_decimal(1, tally.differ);
-    io::write_all(1, b" differ\n");
+fn report(rt: &impl Print, name: &str, tally: Tally) -> io::Result<()> {
+    let cases = tally.cases;
+    let differ = tally.differ;
+    println!(rt; "{name} {cases} cases, {differ} differ")
 }
 
 // Replays a file and prints its result. Returns the sum of this file and those before.
-fn replay(kind: Kind, name: &[u8], sum: Tally) -> Tally {
-    let tally = of_file(kind, name);
-    report(name, tally);
-    Tally {
+fn replay(rt: &(impl Files + Print), kind: Kind, name: &str, sum: Tally) -> io::Result<Tally> {
+    let tally = of_file(rt, kind, name);
+    report(rt, name, tally)?;
+    Ok(Tally {
         at: 0,
         cases: std::num::wrapping_add_u64(sum.cases, tally.cases),
         differ: std::num::wrapping_add_u64(sum.differ, tally.differ),
-    }
+    })
 }
 
-fn replay_plain(act: plain::Act, name: &[u8], sum: Tally) -> Tally {
-    replay(Kind::On(Engine::Plain(act)), name, sum)
+fn replay_plain(
+    rt: &(impl Files + Print),
+    act: plain::Act,
+    name: &str,
+    sum: Tally,
+) -> io::Result<Tally> {
+    replay(rt, Kind::On(Engine::Plain(act)), name, sum)
 }
 
-fn replay_chain(act: chain::Act, name: &[u8], sum: Tally) -> Tally {
-    replay(Kind::On(Engine::Chain(act)), name, sum)
+fn replay_chain(
+    rt: &(impl Files + Print),
+    act: chain::Act,
+    name: &str,
+    sum: Tally,
+) -> io::Result<Tally> {
+    replay(rt, Kind::On(Engine::Chain(act)), name, sum)
 }
 
-fn plain_runs(sum: Tally) -> Tally {
-    let sum = replay_plain(plain::Act::Run, b"run", sum);
-    let sum = replay_plain(plain::Act::Run, b"stop", sum);
-    let sum = replay_plain(plain::Act::Step, b"step", sum);
-    replay_plain(plain::Act::Fast, b"fast", sum)
+fn plain_runs(rt: &(impl Files + Print), sum: Tally) -> io::Result<Tally> {
+    let sum = replay_plain(rt, plain::Act::Run, "run", sum)?;
+    let sum = replay_plain(rt, plain::Act::Run, "stop", sum)?;
+    let sum = replay_plain(rt, plain::Act::Step, "step", sum)?;
+    replay_plain(rt, plain::Act::Fast, "fast", sum)
 }
 
-fn plain_others(sum: Tally) -> Tally {
-    let sum = replay(Kind::Pack, b"pack", sum);
-    let sum = replay_plain(plain::Act::Ask, b"ask", sum);
-    replay_plain(plain::Act::Seek, b"timeline", sum)
+fn plain_others(rt: &(impl Files + Print), sum: Tally) -> io::Result<Tally> {
+    let sum = replay(rt, Kind::Pack, "pack", sum)?;
+    let sum = replay_plain(rt, plain::Act::Ask, "ask", sum)?;
+    replay_plain(rt, plain::Act::Seek, "timeline", sum)
 }
 
-fn chain_kinds(sum: Tally) -> Tally {
-    let sum = replay_chain(chain::Act::Run, b"chain", sum);
-    let sum = replay_chain(chain::Act::Run, b"chain_stop", sum);
-    let sum = replay_chain(chain::Act::Ask, b"chain_ask", sum);
-    replay_chain(chain::Act::Seek, b"chain_timeline", sum)
+fn chain_kinds(rt: &(impl Files + Print), sum: Tally) -> io::Result<Tally> {
+    let sum = replay_chain(rt, chain::Act::Run, "chain", sum)?;
+    let sum = replay_chain(rt, chain::Act::Run, "chain_stop", sum)?;
+    let sum = replay_chain(rt, chain::Act::Ask, "chain_ask", sum)?;
+    replay_chain(rt, chain::Act::Seek, "chain_timeline", sum)
 }
 
-fn main() {
+fn main(rt: HostRuntime) -> io::Result<()> {
     let none = Tally {
         at: 0,
         cases: 0,
         differ: 0,
     };
-    let plain = plain_others(plain_runs(none));
-    let chain = chain_kinds(plain);
-    report(b"all", replay(Kind::Encode, b"encode", chain));
+    let plain = plain_others(&rt, plain_runs(&rt, none)?)?;
+    let chain = chain_kinds(&rt, plain)?;
+    let all = replay(&rt, Kind::Encode, "encode", chain)?;
+    report(&rt, "all", all)
 }

@@ -1,37 +1,44 @@
 // Reads a listing from standard input, and writes its rows to standard output. It reads at most 65,536 bytes: the first
-// 65,536 have the same answer as the whole input (`answer-first`, in the specs of listing). Where a read fails, it
+// 65,536 have the same answer as the whole input (`answer_first`, in the proofs of listing). Where a read fails, it
 // writes nothing to standard output and one line to standard error. Where a write fails, it writes one line to standard
 // error.
 #![tactic(auto)]
 
-use listing::Listed;
+ghost use Rattle.std.specs.Prelude.{◌≡◌, OnOk, IfErr, IfSome, IsErrOf};
+ghost use Rattle.std.specs.Io.KnownBytes.{Appends, Keeps};
+ghost use Rattle.listing.specs.Output.{answer_to};
 
-// Writes the answer; where this fails, writes a line to standard error.
-fn write_output(answer: &[u8]) {
-    if !io::write_all(1, answer) {
-        io::write_all(2, b"seekrun: standard output cannot be written\n");
-    }
-}
+use listing::Listed;
+use program_input::Failed;
+use std::io::{Read, Write};
 
 // Writes the answer to the input's listing.
-fn answer(input: &[u8]) {
-    let mut output = io::large_buffer();
-    let listed = listing::list(input, &mut output);
-    match listed {
-        Listed::Printed(m) => {
-            write_output(&output[..m]);
-        }
-        Listed::Refused(_) => {}
+fn answer<W: Write>(input: &[u8], writer: &mut W) -> Result<(), Failed>
+    ensures written { OnOk result (Appends (W.contents writer.old) (W.contents writer.new) (answer_to input.now)) }
+    ensures failed { IfErr result (λ why. why ≡ Failed.Writing) }
+{
+    let mut output = [0u8; 65536];
+    match listing::list(input, &mut output) {
+        Listed::Printed(m) => program_input::write_output(writer, &output[..m]),
+        Listed::Refused(_) => Ok(()),
     }
 }
 
-fn main() {
-    let mut input = io::large_buffer();
-    let read = program_input::read_input(0, &mut input);
+// Reads a listing, and writes the answer to it.
+fn run<R: Read, W: Write>(reader: &mut R, writer: &mut W) -> Result<(), Failed>
+    ensures written { IfSome (R.remaining reader.old) (λ input. OnOk result (Appends (W.contents writer.old) (W.contents writer.new) (answer_to input))) }
+    ensures unread { IsErrOf result Failed.Reading → Keeps (W.contents writer.old) (W.contents writer.new) }
+{
+    let mut input = [0u8; 65536];
+    let read = program_input::read_input(reader, &mut input);
     if read.failed {
-        io::write_all(2, b"seekrun: standard input cannot be read\n");
-        return;
+        return Err(Failed::Reading);
     }
-    let n = read.size;
-    answer(&input[..n]);
+    answer(&input[..read.size], writer)
+}
+
+fn main(rt: HostRuntime) {
+    if let Err(why) = run(&mut rt.stdin(), &mut rt.stdout()) {
+        let _ = eprintln!(rt; "seekrun: {why}");
+    }
 }

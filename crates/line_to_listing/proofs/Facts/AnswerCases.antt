@@ -5,7 +5,7 @@ use Rattle.std.proofs.Common.{◌∙◌, arith, eq-eqb, ne_eqb, leb-true, length
 use Rattle.std.proofs.Math.Option.{Option, none, some}
 use Rattle.std.proofs.Math.ListN.{take}
 use Rattle.std.proofs.lemmas.List.{length-replicate}
-use Rattle.io.specs.Counts.{IsPrefixLen}
+use Rattle.program_input.specs.Counts.{IsPrefixLen}
 use Rattle.notation.specs.Choice.{pick}
 use Rattle.notation.specs.Scan.{first_fail}
 use Rattle.notation.proofs.Facts.Tests.{pick_true, pick_false, pick_cases}

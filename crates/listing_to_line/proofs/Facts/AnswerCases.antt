@@ -4,7 +4,7 @@ use Rattle.std.proofs.Common.{sym, ◌∙◌, arith, leb-true, length-take, leng
 use Rattle.std.proofs.Math.Path.{ap}
 use Rattle.std.proofs.lemmas.List.{length-replicate}
 use Rattle.std.proofs.Math.Seq.{paste}
-use Rattle.io.specs.Counts.{IsPrefixLen}
+use Rattle.program_input.specs.Counts.{IsPrefixLen}
 use Rattle.notation.proofs.Facts.Tests.{pick_cases}
 use Rattle.outcome.specs.declared.Refusal.{Refusal}
 use Rattle.outcome.specs.declared.Refusal.TheVariants as Why

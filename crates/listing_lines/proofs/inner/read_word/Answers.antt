@@ -1,0 +1,21 @@
+use Rattle.std.proofs.Common.{rules}
+use Rattle.listing_lines.proofs.Facts.FormCases.{below_256, word_none, word-start, word_bad, word_next_holds, word_end}
+use Rattle.listing_lines.proofs.inner.read_word.Goals as goal
+
+pub returns-then-l-eq0 : goal.returns-then-l-eq0
+returns-then-l-eq0 c = search (rules, word_none)
+
+pub loop-i-init : goal.loop-i-init
+loop-i-init c = search (rules, word-start)
+
+pub returns-in_default : goal.returns-in_default
+returns-in_default c = search (rules, word_bad)
+
+pub narrow-requires : goal.narrow-requires
+narrow-requires c = search below_256
+
+pub loop-i-preserved : goal.loop-i-preserved
+loop-i-preserved c = search (rules, word_next_holds)
+
+pub returns : goal.returns
+returns c = search (rules, word_end)

@@ -1,0 +1,13 @@
+use Rattle.std.proofs.Common.{rules}
+use mathlib.Core.Path.{refl}
+use Rattle.listing_reader.proofs.Facts.TurnCases.{calls_full, calls_bad, calls_on, call-left}
+use Rattle.listing_reader.proofs.turns.calls_turn.Goals as goal
+
+pub returns-then-n-ge64 : goal.returns-then-n-ge64
+returns-then-n-ge64 c = (λ t w. search calls_full, tt, refl)
+
+pub returns-in_default : goal.returns-in_default
+returns-in_default c = (λ t w. search calls_bad, tt, refl)
+
+pub returns : goal.returns
+returns c = (λ t w. search calls_on, search rules, search call-left)
