@@ -1,14 +1,14 @@
 -- WRITING THEN READING gives the table. Assumes nothing.
-use Rattle.std.specs.Prelude.{◌≡◌, List, ℕ, ◌+◌, ◌-◌, ◌*◌, ◌/◌, ◌%◌, ◌^◌, ◌≤◌, ◌<◌, ltb, length, take}
-use Rattle.std.proofs.Common.{sym, ap, subst, ◌∙◌, mod-lt, arith, ltb-true, ltb-false}
+use Rattle.std.specs.Prelude.{◌≡◌, List, ℕ, ◌+◌, ◌-◌, ◌*◌, ◌/◌, ◌%◌, ◌^◌, ◌≤◌, ◌<◌, ltb, length, get_or, take}
+use Rattle.std.proofs.Common.{sym, ap, subst, ◌∙◌, mod-lt, arith, ltb-true, ltb-false, ext_get_or}
 use Rattle.notation.proofs.Facts.Tests.{by_test}
-use Rattle.notation.proofs.Facts.Rows.{number_is, row_below}
 use Rattle.machine.specs.declared.Machine.{Machine}
+use Rattle.machine.specs.declared.Entry.{Entry}
 use Rattle.machine.proofs.Facts.CheckCases.{stride_one}
-use Rattle.machine.specs.Layout.{entry_count, entry_at}
-use Rattle.table_laws.specs.WellFormed.{EntryOf, WellFormed}
-use Rattle.table_laws.proofs.Facts.Reading.{entry_of_machine}
-use Rattle.table_laws.proofs.Facts.Bytes.{same_bytes}
+use Rattle.machine.specs.Layout.{entry_count, byte_at, entry_at}
+use Rattle.table_laws.specs.WellFormed.{entry_bytes, EntryOf, LaidOut, WellFormed}
+use Rattle.table_laws.proofs.Facts.Reading.{entry_read, entry_of_machine}
+use Rattle.table_text_form.proofs.Facts.Places.{number_is, row_below}
 use Rattle.table_text_rows.specs.Meaning.{RowUndefined, HasLine}
 use Rattle.table_text_reader.specs.Reading.{machine_of, table_size, read_into}
 use Rattle.table_text_reader.specs.Meaning.{GoodLine}
@@ -75,6 +75,22 @@ module _ (m : Machine) (s : List ℕ) (w : WellFormed m s) (z : ℕ) (h : HasLin
           let n : z * k + a ≡ i = omega arith in
           ap (entry_at s) (sym n) ∙ undefined a (omega arith) ∙ sym (Reads.last_undefined z k written table good enough a (omega arith)) ∙ ap (entry_at again) n
 
+  -- the bytes of an entry of a well_formed table
+  laid : (i j : ℕ) → i < (z + 1) * k → j < 8 → byte_at s i j ≡ get_or (entry_bytes (entry_at s i)) j 0
+  laid i j l b =
+      let x : LaidOut m s i = w 6 i (subst (λ (n : ℕ). i < n) (sym count_is) l) in
+      let e : entry_at s i ≡ x.entry = entry_read s i x.entry (let n = same_size in omega arith) x.written in
+      x.written j b ∙ ap (λ (y : Entry). get_or (entry_bytes y) j 0) (sym e)
+
+  same_bytes : (i j : ℕ) → i < (z + 1) * k → j < 8 → byte_at s i j ≡ byte_at again i j
+  same_bytes i j l b =
+      laid i j l b ∙ ap (λ (y : Entry). get_or (entry_bytes y) j 0) (same_entries i l ∙ Reads.entry_at_lem z k written table good enough i l)
+      ∙ sym (Reads.bytes_are z k written table good enough i j l b)
+
   pub read_back : again ≡ s
-  read_back = same_bytes (machine_of z k) m again s (Reads.table_well z k written table good enough) w (ap entry_count same_machine)
-      (λ i l. sym (same_entries i (subst (λ (n : ℕ). i < n) (ap entry_count same_machine ∙ count_is) l)))
+  read_back = sym (ext_get_or 0 s again (same_size ∙ sym (Reads.size_is z k written table good enough)) (λ p l.
+      let i = p / 8 in
+      let j = p % 8 in
+      let n : 8 * i + j ≡ p = omega arith in
+      let e = same_size in
+      subst (λ (x : ℕ). get_or s x 0 ≡ get_or again x 0) n (same_bytes i j (omega arith) (omega arith))))

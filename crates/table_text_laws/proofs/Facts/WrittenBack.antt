@@ -2,7 +2,6 @@
 use Rattle.std.specs.Prelude.{◌≡◌, refl, List, ℕ, zero, suc, ◌+◌, ◌-◌, ◌*◌, ◌/◌, ◌%◌, ◌≤◌, ◌<◌, ltb, length, get_or, take}
 use Rattle.std.proofs.Common.{sym, ap, subst, ◌∙◌, inl, mod-lt, arith, ltb-true, ltb-false, ext_get_or}
 use Rattle.notation.proofs.Facts.Tests.{by_test}
-use Rattle.notation.proofs.Facts.Rows.{number_is, row_below}
 use Rattle.symbol.specs.declared.Dir.TheVariants.{N}
 use Rattle.machine.specs.declared.Machine.{Machine}
 use Rattle.machine.specs.declared.Action.{Action}
@@ -11,6 +10,7 @@ use Rattle.machine.specs.declared.Entry.TheVariants.{Undefined, Defined}
 use Rattle.machine.specs.Layout.{entry_at}
 use Rattle.table_laws.specs.WellFormed.{WellFormed}
 use Rattle.table_text_form.specs.Line.{place}
+use Rattle.table_text_form.proofs.Facts.Places.{number_is, row_below}
 use Rattle.table_text_rows.specs.Meaning.{HasLine}
 use Rattle.table_text_reader.specs.Reading.{machine_of, table_size, read_into}
 use Rattle.table_text_reader.specs.Meaning.{GoodLine, DashedRow, MoveOf, Says, SaysAt}

@@ -2,9 +2,8 @@
 use Rattle.std.specs.Prelude.{◌≡◌, ℕ, ◌+◌, ◌*◌, ◌/◌, ◌%◌, ◌<◌, eqb}
 use Rattle.std.proofs.Common.{ap, ◌∙◌, mod-lt, lt_of_mul-lt-mul_right, arith}
 use Rattle.std.proofs.Math.Decide.{ℕ_discrete}
-use Rattle.notation.proofs.Facts.Rows.{rest_of, number_is}
 use Rattle.table_text_form.specs.Line.{place}
-use Rattle.table_text_form.proofs.Facts.Places.{place_col}
+use Rattle.table_text_form.proofs.Facts.Places.{rest_of, place_col, number_is}
 use Rattle.table_text_reader.specs.Reading.{letter_place}
 
 -- place i of a line of so many rows and symbols

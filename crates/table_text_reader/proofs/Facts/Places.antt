@@ -1,9 +1,8 @@
 -- The text of an entry, by the entry's number. Assumes nothing.
 use Rattle.std.specs.Prelude.{◌≡◌, List, ℕ, ◌+◌, ◌*◌, ◌/◌, ◌%◌, ◌<◌, length}
 use Rattle.std.proofs.Common.{sym, ap, subst, ◌∙◌, mod-lt, arith}
-use Rattle.notation.proofs.Facts.Rows.{row_of_lem, number_is, row_below}
 use Rattle.table_text_form.specs.Line.{place, EntryAt, OfForm}
-use Rattle.table_text_form.proofs.Facts.Places.{place_in}
+use Rattle.table_text_form.proofs.Facts.Places.{row_of_lem, place_in, number_is, row_below}
 use Rattle.table_text_reader.specs.Reading.{text_place}
 
 pub text_place_lem : (k q a : ℕ) → a < k → text_place k (q * k + a) ≡ place k q a

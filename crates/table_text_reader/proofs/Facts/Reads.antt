@@ -14,7 +14,6 @@ use Rattle.notation.specs.Scan.{first_fail}
 use Rattle.notation.proofs.Facts.Fill.{length_fill, fill_in, fill_past}
 use Rattle.notation.proofs.Facts.Scan.{Scanned, clean, failed, scanned, clean_none}
 use Rattle.notation.proofs.Facts.Tests.{by_test, clash, pick_cases, pick_true, pick_false}
-use Rattle.notation.proofs.Facts.Rows.{number_is, row_below, row_in}
 use Rattle.outcome.specs.declared.Refusal.TheVariants as Why
 use Rattle.machine.specs.declared.Entry.TheVariants.{Undefined}
 use Rattle.machine.proofs.Facts.CheckCases.{stride_one}
@@ -26,6 +25,7 @@ use Rattle.table_text_form.specs.declared.Scanned.TheVariants.{Formed, Malformed
 use Rattle.table_text_form.specs.Form.{form_of}
 use Rattle.table_text_form.specs.Line.{place, OfForm, MalformedAt}
 use Rattle.table_text_form.proofs.Facts.Columns.{formed_of_form}
+use Rattle.table_text_form.proofs.Facts.Places.{number_is, row_below, row_in}
 use Rattle.table_text_form.proofs.Facts.Accepts.{of_form_formed}
 use Rattle.table_text_form.proofs.Facts.Place.{place_right}
 use Rattle.table_text_reader.specs.declared.Read.{Read}

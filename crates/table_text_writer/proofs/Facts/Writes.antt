@@ -9,7 +9,6 @@ use Rattle.notation.specs.Choice.{pick}
 use Rattle.notation.specs.Fill.{fill_from}
 use Rattle.notation.proofs.Facts.Fill.{length_fill, fill_in, fill_past}
 use Rattle.notation.proofs.Facts.Tests.{by_test, pick_true, pick_false}
-use Rattle.notation.proofs.Facts.Rows.{row_in}
 use Rattle.outcome.specs.declared.Refusal.TheVariants as Why
 use Rattle.machine.specs.declared.Machine.{Machine}
 use Rattle.machine.specs.declared.Entry.{Entry}
@@ -19,7 +18,7 @@ use Rattle.table_laws.specs.WellFormed.{EntryOf, WellFormed}
 use Rattle.table_laws.proofs.Facts.CheckExact.{table_check_accepts}
 use Rattle.table_laws.proofs.Facts.Reading.{entry_of_machine}
 use Rattle.table_text_form.specs.Line.{place}
-use Rattle.table_text_form.proofs.Facts.Places.{place_row, place_col, place_in}
+use Rattle.table_text_form.proofs.Facts.Places.{place_row, place_col, place_in, row_in}
 use Rattle.table_text_rows.specs.Rows.{lettered_rows, has_line}
 use Rattle.table_text_rows.specs.Meaning.{HasLine}
 use Rattle.table_text_rows.proofs.Facts.Rows.{lettered_states, line_says, rows_is, line_holds}
