@@ -1,5 +1,5 @@
 /*
- * The Turing machine engines, for C. Link target/staticlib/libcapi.a, which `rt staticlib capi` makes for x86-64 Linux.
+ * The Turing machine engines, for C. Link crates/capi/out/libcapi.a, which `rt lib` in crates/capi makes for x86-64 Linux.
  *
  * Every function returns 0, or the number of the first refusal that applies (below). A refused call changes nothing but
  * out[0], and that only at 6, 10, 17, 19 and 20, which name a place there. No call allocates, prints, or keeps a pointer.

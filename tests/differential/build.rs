@@ -115,7 +115,7 @@ fn oracle(package: &Path, out: &Path) {
 }
 
 fn link(package: &Path) {
-    let lib = folder(package, "PORT_LIB_DIR", "../../target/staticlib");
+    let lib = folder(package, "PORT_LIB_DIR", "../../crates/capi/out");
     println!("cargo:rerun-if-changed={}", lib.join("libcapi.a").display());
     println!("cargo:rustc-link-search=native={}", lib.display());
     println!("cargo:rustc-link-lib=static=capi");

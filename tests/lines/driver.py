@@ -10,7 +10,7 @@ import tempfile
 HERE = pathlib.Path(__file__).resolve().parent
 TOP = HERE.parent.parent
 BUILT = TOP / "target" / "lines"
-LIBRARY = TOP / "target" / "staticlib" / "libcapi.a"
+LIBRARY = TOP / "crates" / "capi" / "out" / "libcapi.a"
 FLAGS = ["-std=c99", "-O2", "-Wall", "-Wextra", "-Werror"]
 
 ANSWER = struct.Struct("<BB8Q")

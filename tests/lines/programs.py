@@ -3,7 +3,7 @@
 
     python3 programs.py [--count N] [--seed S]
 
-Needs target/bin/line_to_listing, target/bin/listing_to_line and target/bin/seekrun (`rt check` with the three names).
+Needs the three programs as `rt run`, in their crates, or `rt ci` builds them: crates/NAME/out/NAME.
 Prints the differences, and at the end one line. Status 1 on a difference.
 """
 import argparse
@@ -16,7 +16,6 @@ import driver
 import generate
 import second
 
-BIN = driver.TOP / "target" / "bin"
 TO_LISTING, TO_LINE, SEEKRUN = "line_to_listing", "listing_to_line", "seekrun"
 SECONDS = 20
 LONGEST_LINE = 25 * 31 - 1
@@ -31,6 +30,11 @@ MACHINES = [
 
 
 # ---- running ----
+
+
+def program(name):
+    """A program as built."""
+    return driver.TOP / "crates" / name / "out" / name
 
 
 class Tally:
@@ -52,13 +56,13 @@ def shortened(value):
 
 def ran(name, stdin, stdout=subprocess.PIPE, before=None):
     """Standard output, standard error and the status of a program with such streams."""
-    done = subprocess.run([BIN / name], stdin=stdin, stdout=stdout, stderr=subprocess.PIPE, preexec_fn=before, timeout=SECONDS)
+    done = subprocess.run([program(name)], stdin=stdin, stdout=stdout, stderr=subprocess.PIPE, preexec_fn=before, timeout=SECONDS)
     return done.stdout or b"", done.stderr, done.returncode
 
 
 def output(name, data):
     """What a program writes to standard output. Words to standard error, or another status than 0, are put after it."""
-    done = subprocess.run([BIN / name], input=data, capture_output=True, timeout=SECONDS)
+    done = subprocess.run([program(name)], input=data, capture_output=True, timeout=SECONDS)
     return done.stdout if (done.stderr, done.returncode) == (b"", 0) else (done.stdout, done.stderr, done.returncode)
 
 
@@ -239,9 +243,9 @@ def main():
     options.add_argument("--count", type=int, default=45, help="how many random cases of each kind")
     options.add_argument("--seed", type=int, default=1, help="other random cases")
     given = options.parse_args()
-    missing = [name for name in (TO_LISTING, TO_LINE, SEEKRUN) if not (BIN / name).exists()]
+    missing = [name for name in (TO_LISTING, TO_LINE, SEEKRUN) if not program(name).exists()]
     if missing:
-        print(f"NOT RUN, there is no target/bin/{missing[0]}: `rt check {missing[0]}` makes it")
+        print(f"NOT RUN, there is no {program(missing[0]).relative_to(driver.TOP)}: `rt run` in crates/{missing[0]} makes it")
         return
     source, tally = random.Random(given.seed), Tally()
     try_lines(source, tally, given.count)

@@ -33,7 +33,7 @@ def program_of(given):
         print("NOT RUN, there is no C compiler (CC)")
         sys.exit(0)
     if not driver.LIBRARY.exists():
-        print(f"NOT RUN, there is no {driver.LIBRARY.relative_to(driver.TOP)}: `rt staticlib capi` makes it")
+        print(f"NOT RUN, there is no {driver.LIBRARY.relative_to(driver.TOP)}: `rt lib` in crates/capi makes it")
         sys.exit(1)
     try:
         return driver.build()

@@ -107,7 +107,7 @@ def main():
     options.add_argument("--count", type=int, default=5000)
     options.add_argument("--seed", type=int, default=1)
     options.add_argument("--only", type=int, help="one listing of the seed")
-    options.add_argument("--program", type=pathlib.Path, default=expected.TOP / "target" / "bin" / "seekrun")
+    options.add_argument("--program", type=pathlib.Path, default=expected.TOP / "crates" / "seekrun" / "out" / "seekrun")
     options.add_argument("--limit", type=int, default=20_000_000)
     given = options.parse_args()
     expected.build()

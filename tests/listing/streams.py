@@ -3,8 +3,8 @@
 
     python3 streams.py
 
-Needs target/bin/seekrun and target/bin/listing_cases (`rt check seekrun listing_cases`), and neither cargo nor the
-Rust's files. Status 1 on a difference. A program of Rattle has no exit status, so each must end with 0.
+Needs the two programs as `rt run`, in their crates, or `rt ci` builds them (crates/NAME/out/NAME), and neither cargo
+nor the Rust's files. Status 1 on a difference. A program of Rattle has no exit status, so each must end with 0.
 """
 import os
 import pathlib
@@ -15,8 +15,8 @@ import threading
 import time
 
 TOP = pathlib.Path(__file__).resolve().parents[2]
-SEEKRUN = TOP / "target" / "bin" / "seekrun"
-CASES = TOP / "target" / "bin" / "listing_cases"
+SEEKRUN = TOP / "crates" / "seekrun" / "out" / "seekrun"
+CASES = TOP / "crates" / "listing_cases" / "out" / "listing_cases"
 LISTING = (TOP / "crates" / "seekrun" / "stdin").read_bytes()
 ROWS = (TOP / "crates" / "seekrun" / "stdout").read_bytes()
 NO_INPUT = b"seekrun: standard input cannot be read\n"

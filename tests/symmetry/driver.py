@@ -11,7 +11,7 @@ import records
 HERE = pathlib.Path(__file__).resolve().parent
 TOP = HERE.parent.parent
 BUILT = TOP / "target" / "symmetry"
-LIBRARY = TOP / "target" / "staticlib" / "libcapi.a"
+LIBRARY = TOP / "crates" / "capi" / "out" / "libcapi.a"
 FLAGS = ["-std=c99", "-O2", "-Wall", "-Wextra", "-Werror"]
 
 HEADER = struct.Struct("<HIHBBIHI")

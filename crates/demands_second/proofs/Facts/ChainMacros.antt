@@ -120,7 +120,7 @@ module _ (m : Machine) (d : Table) where
       let e = verdict_unique m.tapes d c _ _ g v in
       let z : ◌≡◌ {A = ℕ} 0 1 = cc in absurd (omega arith)
 
-  lasts_one : {fuel i j : ℕ} {c : Config} {a : Action} {l r : Stack} → Lasts m d fuel c a l r i → Lasts m d fuel c a l r j → i ≡ j
+  lasts_one : {fuel : ℕ} {c : Config} {a : Action} {l r : Stack} {i j : ℕ} → Lasts m d fuel c a l r i → Lasts m d fuel c a l r j → i ≡ j
   lasts_one (one g h) (one g' h') = refl
   lasts_one (one g h) (ahead g' h') = absurd (h h')
   lasts_one {c = c} (one g h) (loop p v) = not_never c p g v
@@ -131,7 +131,7 @@ module _ (m : Machine) (d : Table) where
   lasts_one {c = c} (loop p v) (ahead g' h') = not_never c p g' v
   lasts_one (loop p v) (loop p' v') = refl
 
-  lasts_some : {fuel i : ℕ} {c : Config} {a : Action} {l r : Stack} → 0 < fuel → Lasts m d fuel c a l r i → 1 ≤ i
+  lasts_some : {fuel : ℕ} {c : Config} {a : Action} {l r : Stack} {i : ℕ} → 0 < fuel → Lasts m d fuel c a l r i → 1 ≤ i
   lasts_some f (one g h) = omega arith
   lasts_some f (ahead g h) = omega arith
   lasts_some f (loop p v) = f

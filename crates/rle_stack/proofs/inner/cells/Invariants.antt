@@ -1,8 +1,6 @@
 use Prim.Native.Nat.{◌-◌, ◌≤◌}
 use mathlib.Core.Path.{◌≡◌}
-use native.Mathlib.Omega.{arith}
 use Rattle.rle_stack.specs.Model.{sum_of}
-use Rattle.rle_stack.proofs.Facts.Sides.{sum_over, sum_next, sum_none, sum_all}
 use Rattle.rle_stack.proofs.inner.cells.Given as goal
 
 abbrev pub invariant-loop-i : goal.invariant-loop-i

@@ -1,4 +1,3 @@
-use Rattle.std.proofs.Common.{rules}
 use Rattle.rle_stack.proofs.Facts.SideCases.{lacks-none, lacks_new}
 use Rattle.rle_stack.proofs.inner.lacks.Goals as goal
 

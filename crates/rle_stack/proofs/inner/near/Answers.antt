@@ -1,4 +1,3 @@
-use Rattle.std.proofs.Common.{rules}
 use native.Mathlib.Omega.{arith}
 use Rattle.rle_stack.proofs.Facts.QuestionCases.{near_under, near_next}
 use Rattle.rle_stack.proofs.inner.near.Goals as goal

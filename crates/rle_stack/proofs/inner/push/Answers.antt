@@ -1,4 +1,3 @@
-use Rattle.std.proofs.Common.{rules}
 use native.Mathlib.Omega.{arith}
 use Rattle.rle_stack.proofs.Facts.Sides.{sum_last}
 use Rattle.rle_stack.proofs.Facts.SideCases.{push-none, push_grows, push_adds, has-place}

@@ -1,4 +1,3 @@
-use Rattle.std.proofs.Common.{rules}
 use Rattle.rle_stack.proofs.Facts.SideCases.{run_empty, run-over, run_rest}
 use Rattle.rle_stack.proofs.inner.run_fits.Goals as goal
 

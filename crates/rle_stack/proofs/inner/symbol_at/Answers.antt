@@ -1,8 +1,4 @@
-use Rattle.std.proofs.Common.{rules}
 use native.Mathlib.Omega.{arith}
-use mathlib.Core.Path.{◌≡◌, refl}
-use Prim.Native.Nat.{◌≤◌}
-use Rattle.rle_stack.specs.Model.{symbol_in}
 use Rattle.rle_stack.proofs.Facts.QuestionCases.{symbol_here, symbol_further, symbol_none}
 use Rattle.rle_stack.proofs.inner.symbol_at.Goals as goal
 

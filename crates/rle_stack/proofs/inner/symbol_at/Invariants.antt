@@ -1,8 +1,6 @@
-use native.Mathlib.Omega.{arith}
-use mathlib.Core.Path.{◌≡◌, refl}
+use mathlib.Core.Path.{◌≡◌}
 use Prim.Native.Nat.{◌≤◌}
 use Rattle.rle_stack.specs.Model.{symbol_in}
-use Rattle.rle_stack.proofs.Facts.QuestionCases.{symbol_here, symbol_further, symbol_none}
 use Rattle.rle_stack.proofs.inner.symbol_at.Given as goal
 
 abbrev pub invariant-loop-n : goal.invariant-loop-n

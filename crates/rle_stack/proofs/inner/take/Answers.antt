@@ -1,4 +1,3 @@
-use Rattle.std.proofs.Common.{rules}
 use Rattle.rle_stack.proofs.Facts.SideCases.{take_none, take_whole, take_part}
 use Rattle.rle_stack.proofs.inner.take.Goals as goal
 

@@ -1,4 +1,3 @@
-use Rattle.std.proofs.Common.{rules}
 use Rattle.notation.proofs.Facts.Tests.{tests}
 use Rattle.rle_stack.specs.Model.{symbol_under}
 use Rattle.rle_stack.proofs.inner.top.Goals as goal

@@ -1,9 +1,5 @@
-use Rattle.std.proofs.Common.{rules}
 use native.Mathlib.Omega.{arith}
-use mathlib.Core.Path.{◌≡◌}
-use Prim.Native.Nat.{◌-◌, ◌≤◌}
-use Rattle.rle_stack.specs.Model.{sum_of, weight_of}
-use Rattle.rle_stack.proofs.Facts.QuestionCases.{written_start, written_room, written_next, written_all}
+use Rattle.rle_stack.proofs.Facts.QuestionCases.{written_start, written_room, written_next}
 use Rattle.rle_stack.proofs.inner.written.Goals as goal
 
 pub loop-i-init : goal.loop-i-init

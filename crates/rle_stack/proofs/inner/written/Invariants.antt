@@ -1,8 +1,6 @@
-use native.Mathlib.Omega.{arith}
 use mathlib.Core.Path.{◌≡◌}
 use Prim.Native.Nat.{◌-◌, ◌≤◌}
 use Rattle.rle_stack.specs.Model.{sum_of, weight_of}
-use Rattle.rle_stack.proofs.Facts.QuestionCases.{written_start, written_room, written_next, written_all}
 use Rattle.rle_stack.proofs.inner.written.Given as goal
 
 abbrev pub invariant-loop-i : goal.invariant-loop-i

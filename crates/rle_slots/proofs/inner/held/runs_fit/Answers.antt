@@ -1,0 +1,21 @@
+use Rattle.std.proofs.Common.{rules}
+use Prim.Native.Nat.{◌-◌}
+use mathlib.Core.Path.{◌≡◌, sym, ◌∙◌}
+use borrow.Author.Tests.{not-true, not-false}
+use Rattle.notation.specs.Scan.{all_in}
+use Rattle.notation.proofs.Facts.Scan.{all_hit, all_next, all_end}
+use native.Mathlib.Nat.{sub-zero}
+use Rattle.rle_stack.specs.Model.{run_fits, runs_fit}
+use Rattle.rle_slots.specs.Model.Slots.{numbers_in}
+use Rattle.rle_slots.proofs.inner.held.runs_fit.Goals as goal
+
+pub returns-then-not-run_fits : goal.returns-then-not-run_fits
+unfolding runs_fit
+returns-then-not-run_fits c = all_hit _ _ _ _ c.loop-i.invariant c.loop-i-test.true (sym c.run_fits.ensures ∙ c.if-not-run_fits.true)
+
+pub loop-i-preserved : goal.loop-i-preserved
+loop-i-preserved c = all_next _ _ _ _ c.loop-i.invariant c.loop-i-test.true (sym c.run_fits.ensures ∙ c.if-not-run_fits.false)
+
+pub returns : goal.returns
+unfolding runs_fit
+returns c = all_end _ _ _ _ c.loop-i.invariant c.loop-i-test.false

@@ -1,0 +1,16 @@
+use Rattle.std.proofs.Common.{rules}
+use Rattle.timeline_rule.proofs.Facts.TurnCases.{loop_start, loop_stop, loop_fall, loop_next}
+use Rattle.rle_slots.specs.Model.Kind.{chain_kind}
+use native.Mathlib.Omega.{arith}
+use mathlib.Core.Path.{refl, ◌≡◌}
+use Rattle.rle_timeline.specs.Model.{Fits, with_lent}
+use Rattle.timeline_rule.specs.Invariants.{LoopInv}
+use Prim.Native.Nat.{◌-◌}
+use lib.ListN.{length}
+use Rattle.rle_timeline.proofs.Timeline.advance_to.Goals as goal
+
+pub returns-then-turn : goal.returns-then-turn
+returns-then-turn c = loop_stop chain_kind _ _ _ _ _ _ _ _ _ _ c.turn-turn.ensures c.loop-m.invariant.0 c.if-turn.true
+
+pub loop-m-preserved : goal.loop-m-preserved
+loop-m-preserved c = (loop_next chain_kind _ _ _ _ _ _ _ _ _ _ c.turn-turn.ensures c.loop-m.invariant.0 c.if-turn.false, omega (arith, c.turn-turn.auto, c.loop-m.invariant.1), omega (arith, c.turn-turn.auto, c.loop-m.invariant.2), omega (arith, c.turn-turn.auto, c.loop-m.invariant.3), omega (arith, c.turn-turn.auto, c.loop-m.invariant.4), omega (arith, c.turn-turn.auto, c.loop-m.invariant.5))

@@ -1,0 +1,13 @@
+use Rattle.std.proofs.Common.{rules}
+use Rattle.rle_timeline.proofs.Facts.CallCases.{back_refused, back_ready, back_done}
+use native.Mathlib.Omega.{arith}
+use Rattle.rle_timeline.proofs.Timeline.go_back.Goals as goal
+
+pub returns-in-Nothing : goal.returns-in-Nothing
+returns-in-Nothing c = back_refused _ _ _ _ _ _ _ _ _ _ _ _ _ _ _ _ c.rewind-found.ensures c.in-Nothing.is
+
+pub go_on-requires : goal.go_on-requires
+go_on-requires c = back_ready _ _ _ _ _ _ _ _ _ _ _ _ _ _ _ _ c.rewind-found.ensures _ c.in-Holds.is (λ j. (c.shared_slice_known-1.given j).fits) c.requires
+
+pub returns-in-Holds : goal.returns-in-Holds
+returns-in-Holds c = back_done _ _ _ _ _ _ _ _ _ _ _ _ _ _ _ _ c.rewind-found.ensures _ c.in-Holds.is _ c.go_on.ensures

@@ -1,0 +1,14 @@
+use Rattle.std.proofs.Common.{rules}
+use Rattle.timeline_rule.proofs.Facts.GoCases.{new_check_lem, new_first}
+use Rattle.rle_timeline.proofs.Facts.CallCases.{sizes_in}
+use Rattle.rle_slots.specs.Model.Kind.{chain_kind}
+use Rattle.rle_timeline.proofs.checks.new_check.Goals as goal
+
+pub returns-in-Refused : goal.returns-in-Refused
+returns-in-Refused c = new_check_lem chain_kind _ _ _ _ _ _ _ _ c.engine_check-checked.ensures _ c.in-Refused.is
+
+pub slot_size-size-requires : goal.slot_size-size-requires
+slot_size-size-requires c = sizes_in _ _ _ _ c.engine_check-checked.ensures c.in-Accepted.is
+
+pub returns-in-Accepted : goal.returns-in-Accepted
+returns-in-Accepted c = new_first chain_kind _ _ _ _ _ _ _ _ c.engine_check-checked.ensures _ _ c.slot_size-size.ensures c.in-Accepted.is c.first_check.ensures
