@@ -246,7 +246,7 @@ def main():
     missing = [name for name in (TO_LISTING, TO_LINE, SEEKRUN) if not program(name).exists()]
     if missing:
         print(f"NOT RUN, there is no {program(missing[0]).relative_to(driver.TOP)}: `rt run` in crates/{missing[0]} makes it")
-        return
+        sys.exit(1)
     source, tally = random.Random(given.seed), Tally()
     try_lines(source, tally, given.count)
     try_newlines(source, tally, given.count // 5)

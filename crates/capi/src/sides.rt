@@ -1,5 +1,5 @@
-// The runs of a side of the run-length engine's tape, as records. These two functions take the slice of records and are
-// proved by hand; they make no decision.
+// The runs of a side of the run-length engine's tape, as records. These two functions take the slice of records; they
+// make no decision.
 ghost use Rattle.std.specs.Prelude.{◌≡◌, length};
 ghost use Rattle.rle.specs.Model.Engine.{conf};
 ghost use Rattle.rle.specs.Model.Records.{left_answer, left_into, right_answer, right_into};

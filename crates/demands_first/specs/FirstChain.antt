@@ -24,8 +24,6 @@ use Rattle.rle.specs.Model.Questions.{get_answer, extent_answer, count_answer, w
 use Rattle.rle.specs.Model.Records.{left_answer, left_into, right_answer, right_into}
 use Rattle.rle_refines.specs.Meaning.{Stack, empty, config_of, ChainFits, left_end, right_end, Near, Alike}
 use Rattle.rle_refines.specs.Full.{height, Stacked}
-use Rattle.rle_refines.proofs.Facts.Fits.{fits_holds, holds_fits, ends-near}
-use Rattle.demands_second.proofs.Facts.ChainRun.{full_stays, full_there}
 use Rattle.demands_second.specs.Space.{GoesOn, ChainFull}
 use Rattle.demands_first.specs.FirstClaims.{TurnsAway, of_chain, of_answer, of_got, of_extent, of_counted, of_listed}
 use Rattle.demands_first.specs.FirstTests.{chain_new_tests, chain_run_tests, chain_ask_tests, chain_list_tests}

@@ -20,11 +20,8 @@ use Rattle.sim.specs.Model.Engine.{Conf}
 use Rattle.sim.specs.Model.Operations.{bare_of, sim_fits, words_right, engine_check, run_check, Given, given, run_answer, fast_answer, StepGiven, step_given, step_answer, Made, made, new_answer}
 use Rattle.sim.specs.Model.Questions.{question_check, get_answer, extent_answer, count_answer, window_into, find_answer}
 use Rattle.sim_refines.specs.Meaning.{config_of, EngineFits}
-use Rattle.sim_refines.proofs.Facts.MissingTapes.{bare_fits, fits_bare}
-use Rattle.sim_refines.proofs.Facts.Operations.{fast_done}
 use Rattle.demands_second.specs.Space.{GoesOn}
 use Rattle.demands_second.specs.Accepts.{PackedOf}
-use Rattle.demands_second.proofs.Facts.PlainAccepts.{words_pass, words_say}
 use Rattle.demands_first.specs.FirstClaims.{TurnsAway, of_fresh, of_answer, of_step, of_got, of_extent, of_counted, of_located}
 use Rattle.demands_first.specs.FirstTests.{plain_new_tests, plain_run_tests, plain_fast_tests, plain_ask_tests}
 use Rattle.demands_first.specs.FirstTimeline.{plain_engine_tests}

@@ -12,10 +12,8 @@ use Rattle.machine.specs.Model.Check.{table_check, lookup_of}
 use Rattle.machine.specs.Model.Packing.{pack_check, pack_into}
 use Rattle.machine.specs.Model.Word.{word_check}
 use Rattle.table_laws.specs.WellFormed.{Bytes, WellFormed, FirstRefusal}
-use Rattle.table_laws.proofs.Facts.CheckExact.{table_check_refuses_first, table_check_accepted, table_check_accepts}
 use Rattle.alphabet.specs.Model.{symbol_for, allowed_at, encode_check, encode_into}
 use Rattle.alphabet.specs.Glyphs.{First, Absent, named_numbers, Allowed, FirstNotAllowed}
-use Rattle.alphabet.proofs.Facts.Glyphs.{symbol_place, symbol_none, allowed_exact, refused_exact}
 use Rattle.demands_first.specs.FirstClaims.{TurnsAway, of_looked}
 use Rattle.demands_first.specs.FirstTests.{table_tests, pack_tests, word_tests, encode_tests}
 

@@ -1,8 +1,7 @@
 -- THE FIRST DEMAND for the timelines over the plain engine and over the run-length engine.
-use Rattle.std.specs.Prelude.{refl, [], ◌∷◌}
+use Rattle.std.specs.Prelude.{[], ◌∷◌}
 use Rattle.sim_slots.specs.Model.Kind.{plain_kind}
 use Rattle.rle_slots.specs.Model.Kind.{chain_kind}
-use Rattle.demands_first.specs.FirstClaims.{numbers_of}
 use Rattle.demands_first.specs.FirstTests.{chain_ask_tests}
 use Rattle.demands_first.specs.FirstSlots.{plain_meaning, chain_meaning}
 use Rattle.demands_first.specs.FirstTimeline.{plain_engine_tests, TimelineOperations}

@@ -1,50 +1,13 @@
 -- The proof of what specs/SecondPlain.antt states.
-use Rattle.std.specs.Prelude.{◌≡◌, refl, true, List, ℕ, ◌+◌, ◌≤◌, ◌<◌, ◌^◌, ℤ, pos, ◌+ℤ◌, length, get_or, ◌≤ℤ◌}
-use Rattle.notation.specs.Position.{dn}
-use Rattle.symbol.specs.declared.State.{State}
-use Rattle.symbol.specs.declared.Symbol.{Symbol}
-use Rattle.symbol.specs.declared.Dir.{Dir}
-use Rattle.outcome.specs.declared.NonHaltProof.{NonHaltProof}
-use Rattle.outcome.specs.declared.Outcome.{Outcome}
+use Rattle.std.specs.Prelude.{refl}
 use Rattle.outcome.specs.declared.Outcome.TheVariants.{NeverHalts}
-use Rattle.outcome.specs.declared.Status.{Status}
-use Rattle.machine.specs.declared.Machine.{Machine}
-use Rattle.machine.specs.declared.Checked.TheVariants.{Accepted}
-use Rattle.table_laws.specs.WellFormed.{Bytes, WellFormed}
-use Rattle.tape.specs.declared.Span.{Span}
-use Rattle.tape.specs.declared.Spot.{Spot}
-use Rattle.tape.specs.Answers.{Finds, Spans}
-use Rattle.run_rules.specs.declared.StopRule.{StopRule}
-use Rattle.run_rules.specs.declared.StopRule.TheVariants as Rule
-use Rattle.run_rules.specs.declared.Answer.TheVariants as Ans
-use Rattle.run_rules.specs.declared.questions.Got.TheVariants as Got
-use Rattle.run_rules.specs.declared.questions.Extent.TheVariants as Extent
-use Rattle.run_rules.specs.declared.questions.Counted.TheVariants as Counted
-use Rattle.run_rules.specs.declared.questions.Located.TheVariants as Located
-use Rattle.table_machine.specs.TableMachine.{run, start, Halted}
-use Rattle.table_machine.specs.Tables.{table_of}
-use Rattle.sim.specs.declared.Simulator.{Simulator}
-use Rattle.sim.specs.declared.StepAnswer.TheVariants as StepAns
-use Rattle.sim.specs.declared.Fresh.TheVariants as New
-use Rattle.sim.specs.Model.Engine.{Conf, conf}
-use Rattle.sim.specs.Model.Operations.{sim_fits, words_right, given, run_answer, fast_answer, step_given, step_answer, made, new_answer}
-use Rattle.sim.specs.Model.Questions.{question_check, get_answer, extent_answer, count_answer, window_into, find_answer}
-use Rattle.sim_refines.specs.Meaning.{config_of}
-use Rattle.sim_refines.specs.Counts.{Counts}
-use Rattle.sim_refines.specs.Operations.{HandedBack, RunHolds, StepHolds}
-use Rattle.sim_refines.specs.Lent.{PastKept, SameLive, SameGiven, SameStepGiven}
 use Rattle.sim_refines.proofs.Facts.Fresh.{new_holds, new_fits, new_past}
 use Rattle.sim_refines.proofs.Facts.PastLength.{run_kept, fast_kept, step_kept}
 use Rattle.sim_refines.proofs.Facts.NeverRead.{run_same, fast_same, step_same}
 use Rattle.sim_refines.proofs.Facts.Operations.{run_holds, run_never_halts, fast_agrees, fast_done, step_holds, step_handed_back}
 use Rattle.sim_refines.proofs.Facts.Rule.{run_off, fast_off}
-use Rattle.timeline_rule.specs.Model.Timeline.{Call}
-use Rattle.timeline_rule.specs.Model.Kind.{TimelineOf, call_on}
-use Rattle.sim_slots.specs.Model.Kind.{plain_kind}
 use Rattle.sim_timeline_laws.proofs.Facts.PastLength.{call_past}
-use Rattle.demands_second.specs.Accepts.{WordOf, FreshCells, PlainTaken, PackedOf}
 use Rattle.demands_second.proofs.Facts.PlainAccepts.{plain_new_answers, plain_run_answers, plain_fast_answers, plain_step_answers, plain_get_answers, plain_span_answers, plain_count_answers, plain_asked, plain_find_answers}
-use Rattle.demands_second.specs.PlainClaims.{tape_on}
 use Rattle.demands_second.proofs.Facts.PlainLive.{get_live, span_live, count_live, window_live, find_live}
 use Rattle.demands_second.proofs.Facts.PlainQuestions.{plain_gets, plain_spans, plain_counts, plain_windows, plain_finds}
 use Rattle.demands_second.proofs.Facts.Windows.{plain_window_past}

@@ -1,9 +1,8 @@
 -- THE SECOND DEMAND for the run-length engine. Each part is about the definitions that the contracts of its operations cite.
-use Rattle.std.specs.Prelude.{◌≡◌, refl, ◌↔◌, Bool, false, List, ℕ, ◌+◌, ◌≤◌, ◌<◌, ◌^◌, ℤ, pos, ◌+ℤ◌, length, get_or, ◌≤ℤ◌, ◌<ℤ◌}
+use Rattle.std.specs.Prelude.{◌≡◌, ◌↔◌, Bool, false, List, ℕ, ◌+◌, ◌≤◌, ◌<◌, ◌^◌, ℤ, pos, ◌+ℤ◌, length, get_or, ◌≤ℤ◌, ◌<ℤ◌}
 use Rattle.notation.specs.Position.{dn}
 use Rattle.symbol.specs.declared.State.{State}
 use Rattle.symbol.specs.declared.Symbol.{Symbol}
-use Rattle.symbol.specs.declared.Dir.TheVariants.{L, R}
 use Rattle.outcome.specs.declared.NonHaltProof.{NonHaltProof}
 use Rattle.outcome.specs.declared.Outcome.{Outcome}
 use Rattle.outcome.specs.declared.Outcome.TheVariants.{NeverHalts, OutOfFuel, Full}
@@ -35,10 +34,6 @@ use Rattle.rle_refines.specs.Meaning.{Stack, empty, stack_of, tape_of, config_of
 use Rattle.rle_refines.specs.Full.{height, Stacked}
 use Rattle.rle_refines.specs.Statement.{FullWithin}
 use Rattle.rle_refines.specs.Operations.{RunHolds}
-use Rattle.rle_refines.proofs.Facts.Patterns.{empty_exact}
-use Rattle.rle_refines.proofs.Facts.Operations.{engine_says, run_holds, run_never_halts, new_holds}
-use Rattle.rle_refines.proofs.Facts.Rule.{run_off}
-use Rattle.rle_refines.proofs.Facts.Questions.{get_is, extent_is, window_into_holds}
 use Rattle.demands_second.specs.Accepts.{WordOf, FreshPlaces, ChainTaken}
 use Rattle.demands_second.specs.ChainClaims.{MacroStep, Macros, Lists}
 

@@ -1,5 +1,5 @@
 -- THE SECOND DEMAND for the plain engine. Each part is about the definitions that the contracts of its operations cite.
-use Rattle.std.specs.Prelude.{◌≡◌, refl, true, List, ℕ, ◌+◌, ◌≤◌, ◌<◌, ◌^◌, ℤ, pos, ◌+ℤ◌, length, get_or, ◌≤ℤ◌}
+use Rattle.std.specs.Prelude.{◌≡◌, true, List, ℕ, ◌+◌, ◌≤◌, ◌<◌, ◌^◌, ℤ, pos, ◌+ℤ◌, length, get_or, ◌≤ℤ◌}
 use Rattle.notation.specs.Position.{dn}
 use Rattle.symbol.specs.declared.State.{State}
 use Rattle.symbol.specs.declared.Symbol.{Symbol}
@@ -33,15 +33,9 @@ use Rattle.sim_refines.specs.Meaning.{config_of}
 use Rattle.sim_refines.specs.Counts.{Counts}
 use Rattle.sim_refines.specs.Operations.{HandedBack, RunHolds, StepHolds}
 use Rattle.sim_refines.specs.Lent.{PastKept, SameLive, SameGiven, SameStepGiven}
-use Rattle.sim_refines.proofs.Facts.Fresh.{new_holds, new_fits, new_past}
-use Rattle.sim_refines.proofs.Facts.PastLength.{run_kept, fast_kept, step_kept}
-use Rattle.sim_refines.proofs.Facts.NeverRead.{run_same, fast_same, step_same}
-use Rattle.sim_refines.proofs.Facts.Operations.{run_holds, run_never_halts, fast_agrees, fast_done, step_holds, step_handed_back}
-use Rattle.sim_refines.proofs.Facts.Rule.{run_off, fast_off}
 use Rattle.timeline_rule.specs.Model.Timeline.{Call}
 use Rattle.timeline_rule.specs.Model.Kind.{TimelineOf, call_on}
 use Rattle.sim_slots.specs.Model.Kind.{plain_kind}
-use Rattle.sim_timeline_laws.proofs.Facts.PastLength.{call_past}
 use Rattle.demands_second.specs.Accepts.{WordOf, FreshCells, PlainTaken, PackedOf}
 use Rattle.demands_second.specs.PlainClaims.{tape_on}
 

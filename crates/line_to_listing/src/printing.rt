@@ -4,7 +4,7 @@ ghost use Rattle.table_text_writer.specs.Writing.{move_text};
 ghost use Rattle.listing_text.specs.Model.{Wrote};
 ghost use Rattle.line_to_listing.specs.Output.{number_then, machine_line, entry_line, entry_text, entry_lines, listing_of, place_text, refused_text};
 
-use listing_text::inner as write;
+use listing_text::inner as writer;
 use machine::inner::entry_at;
 use machine::{Action, Entry, Machine};
 use outcome::{Place, Refusal};
@@ -15,8 +15,8 @@ fn number(out: &mut [u8], at: usize, n: u64, after: u8) -> usize
     requires { at + 21 ≤ length out.old }
     ensures { Wrote out.old at (number_then n after) out.new result × (result ≤ at + 21) }
 {
-    let next = write::print_u64(out, at, n);
-    write::put(out, next, &[after])
+    let next = writer::print_u64(out, at, n);
+    writer::put(out, next, &[after])
 }
 
 // Prints the machine's four numbers as a line.
@@ -46,7 +46,7 @@ fn print_move(out: &mut [u8], at: usize, dir: Dir) -> usize
     requires { at + 2 ≤ length out.old }
     ensures { Wrote out.old at (move_text dir ∷ 32 ∷ []) out.new result × (result ≤ at + 2) }
 {
-    write::put(out, at, &[move_text(dir), b' '])
+    writer::put(out, at, &[move_text(dir), b' '])
 }
 
 // Prints the line of a defined entry: state, symbol read, symbol written, move, next state.
@@ -96,11 +96,11 @@ pub(crate) fn listing(out: &mut [u8], m: Machine, table: &[u8]) -> usize
     requires { (65536 ≤ length out.old) × (m.states * m.symbols ≤ 260) × (0 < m.symbols) }
     ensures { Wrote out.old 0 (listing_of m table.now) out.new result }
 {
-    let r1 = write::put(out, 0, b"tapes symbols states start\n");
+    let r1 = writer::put(out, 0, b"tapes symbols states start\n");
     let r2 = machine_line(out, r1, m);
-    let r3 = write::put(out, r2, b"state read write move next\n");
+    let r3 = writer::put(out, r2, b"state read write move next\n");
     let r4 = entries(out, r3, m.symbols, table, m.states * m.symbols);
-    write::put(out, r4, b"word\n\ncall number\n")
+    writer::put(out, r4, b"word\n\ncall number\n")
 }
 
 // Prints a space and a place, where there is one.
@@ -113,8 +113,8 @@ fn place(out: &mut [u8], at: usize, p: Place) -> usize
             return at;
         }
         Place::At(i) => {
-            let next = write::put(out, at, b" ");
-            return write::print_u64(out, next, i);
+            let next = writer::put(out, at, b" ");
+            return writer::print_u64(out, next, i);
         }
     }
 }
@@ -124,8 +124,8 @@ pub(crate) fn refused(out: &mut [u8], why: Refusal) -> usize
     requires { 50 ≤ length out.old }
     ensures { Wrote out.old 0 (refused_text why) out.new result }
 {
-    let r1 = write::put(out, 0, b"refused ");
-    let r2 = write::print_u64(out, r1, why.number() as u64);
+    let r1 = writer::put(out, 0, b"refused ");
+    let r2 = writer::print_u64(out, r1, why.number() as u64);
     let r3 = place(out, r2, why.place());
-    write::put(out, r3, b"\n")
+    writer::put(out, r3, b"\n")
 }

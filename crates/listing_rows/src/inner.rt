@@ -10,7 +10,7 @@ ghost use Rattle.listing_lines.specs.Model.{calls_of};
 ghost use Rattle.listing_rows.specs.Rows.{row_of, rows_of, rows_on, lent_in, reply_of, refused_line, row_line, row_lines, row_most};
 
 use super::printing;
-use listing_text::inner as write;
+use listing_text::inner as writer;
 use machine::Machine;
 use sim::{Answer, Simulator};
 use sim_timeline::Timeline;
@@ -20,9 +20,9 @@ pub fn refused(out: &mut [u8], at: usize, n: u64) -> usize
     requires { at + 29 ≤ length out.old }
     ensures { Wrote out.old at (refused_line n) out.new result × (result ≤ at + 29) }
 {
-    let r1 = write::put(out, at, b"refused ");
-    let r2 = write::print_u64(out, r1, n);
-    write::put(out, r2, b"\n")
+    let r1 = writer::put(out, at, b"refused ");
+    let r2 = writer::print_u64(out, r1, n);
+    writer::put(out, r2, b"\n")
 }
 
 // Prints the row of a call's answer.

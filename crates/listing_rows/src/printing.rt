@@ -7,7 +7,7 @@ ghost use Rattle.listing_text.specs.Show.{show, show_ℤ};
 ghost use Rattle.listing_text.specs.Model.{Wrote};
 ghost use Rattle.listing_rows.specs.Rows.{said, row_of, row_line, row_most};
 
-use listing_text::inner as write;
+use listing_text::inner as writer;
 use outcome::Outcome;
 use sim::Simulator;
 use tape::Tape;
@@ -19,19 +19,19 @@ fn answer(out: &mut [u8], at: usize, outcome: Outcome) -> usize
 {
     match outcome {
         Outcome::OutOfFuel { steps: _ } => {
-            return write::put(out, at, b"fuel");
+            return writer::put(out, at, b"fuel");
         }
         Outcome::Stopped { steps: _ } => {
-            return write::put(out, at, b"fuel");
+            return writer::put(out, at, b"fuel");
         }
         Outcome::Halted { steps: _, state: _ } => {
-            return write::put(out, at, b"halted");
+            return writer::put(out, at, b"halted");
         }
         Outcome::NeverHalts { steps: _, proof: _ } => {
-            return write::put(out, at, b"never");
+            return writer::put(out, at, b"never");
         }
         Outcome::Full { steps: _ } => {
-            return write::put(out, at, b"full");
+            return writer::put(out, at, b"full");
         }
     }
 }
@@ -41,8 +41,8 @@ fn number(out: &mut [u8], at: usize, n: u64) -> usize
     requires { at + 21 ≤ length out.old }
     ensures { Wrote out.old at (32 ∷ show n) out.new result × (result ≤ at + 21) }
 {
-    let next = write::put(out, at, b" ");
-    write::print_u64(out, next, n)
+    let next = writer::put(out, at, b" ");
+    writer::print_u64(out, next, n)
 }
 
 // Prints a space and the position of an index.
@@ -50,8 +50,8 @@ fn position(out: &mut [u8], at: usize, index: usize, origin: usize) -> usize
     requires { at + 22 ≤ length out.old }
     ensures { Wrote out.old at (32 ∷ show_ℤ (index ⊖ origin)) out.new result × (result ≤ at + 22) }
 {
-    let next = write::put(out, at, b" ");
-    write::print_position(out, next, index as u64, origin as u64)
+    let next = writer::put(out, at, b" ");
+    writer::print_position(out, next, index as u64, origin as u64)
 }
 
 // Prints the head's position, the lowest and the highest, each after a space.
@@ -83,5 +83,5 @@ pub(crate) fn row(
     let r3 = number(out, r2, state.0 as u64);
     let r4 = positions(out, r3, t);
     let r5 = number(out, r4, score);
-    write::put(out, r5, b"\n")
+    writer::put(out, r5, b"\n")
 }

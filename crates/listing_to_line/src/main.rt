@@ -14,7 +14,7 @@ ghost use Rattle.listing_text.specs.Model.{Wrote};
 ghost use Rattle.listing_to_line.specs.Output.{line_of, answer_to};
 
 use listing_reader::Parsed;
-use listing_text::inner as write;
+use listing_text::inner as writer;
 use machine::Machine;
 use program_input::Failed;
 use std::io::{Read, Write};
@@ -25,9 +25,9 @@ fn numbered_line(out: &mut [u8], text: &[u8], n: u64) -> usize
     requires { length text.now + 21 ≤ length out.old }
     ensures { Wrote out.old 0 (text.now ++ show n ++ bytes "\n") out.new result }
 {
-    let r1 = write::put(out, 0, text);
-    let r2 = write::print_u64(out, r1, n);
-    write::put(out, r2, b"\n")
+    let r1 = writer::put(out, 0, text);
+    let r2 = writer::print_u64(out, r1, n);
+    writer::put(out, r2, b"\n")
 }
 
 // Prints a text and a newline.
@@ -35,8 +35,8 @@ fn text_line(out: &mut [u8], text: &[u8]) -> usize
     requires { length text.now + 1 ≤ length out.old }
     ensures { Wrote out.old 0 (text.now ++ bytes "\n") out.new result }
 {
-    let r1 = write::put(out, 0, text);
-    write::put(out, r1, b"\n")
+    let r1 = writer::put(out, 0, text);
+    writer::put(out, r1, b"\n")
 }
 
 // Prints the line of a table.

@@ -1,5 +1,5 @@
 // The tape questions `left` and `right`, which write the runs of a side as records into a lent slice. These two take
-// the slice and are proved by hand; the check makes every decision.
+// the slice; the check makes every decision.
 ghost use Rattle.std.specs.Prelude.{◌≡◌, length};
 ghost use Rattle.rle.specs.Model.Engine.{conf};
 ghost use Rattle.rle.specs.Model.Records.{side_answer, left_answer, left_into, right_answer, right_into};

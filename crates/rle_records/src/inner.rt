@@ -1,4 +1,4 @@
-// Writes a side's runs into the slice. Only `fill` takes a slice of records: it is proved by hand, and decides nothing.
+// Writes a side's runs into the slice. Only `fill` takes a slice of records: it decides nothing.
 ghost use Rattle.std.specs.Prelude.{◌≡◌, ◌≤◌, ◌<◌, length};
 ghost use Rattle.rle_stack.specs.Model.{side};
 ghost use Rattle.rle_records.specs.Model.{run_at, records_of, room_for, written_of};

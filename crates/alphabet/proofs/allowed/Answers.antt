@@ -1,5 +1,4 @@
-use Rattle.std.proofs.Common.{rules}
-use Rattle.alphabet.proofs.Facts.EncodeCases.{allowed_missing, allowed_blank, allowed_input}
+use Rattle.alphabet.proofs.Facts.EncodeCases.{allowed_blank, allowed_input}
 use Rattle.alphabet.proofs.allowed.Goals as goal
 
 pub returns-then-is_blank : goal.returns-then-is_blank

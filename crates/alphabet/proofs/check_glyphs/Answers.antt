@@ -1,10 +1,4 @@
-use Rattle.std.proofs.Common.{rules}
 use Rattle.alphabet.proofs.Facts.EncodeCases.{glyph_over, glyph_next, glyphs_end}
-use Rattle.alphabet.specs.Model.{allowed_at}
-use Rattle.notation.specs.Scan.{first_fail}
-use lib.ListN.{length}
-use native.Mathlib.Nat.{sub-zero}
-use mathlib.Core.Path.{◌≡◌}
 use Prim.Native.Nat.{◌-◌}
 use Rattle.alphabet.proofs.check_glyphs.Goals as goal
 

@@ -1,4 +1,3 @@
-use Rattle.std.proofs.Common.{rules}
 use Rattle.alphabet.proofs.Facts.EncodeCases.{encodes_refused, encodes_short, encodes_whole}
 use Rattle.alphabet.proofs.encode.Goals as goal
 

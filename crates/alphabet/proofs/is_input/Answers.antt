@@ -1,4 +1,3 @@
-use Rattle.std.proofs.Common.{rules}
 use Rattle.alphabet.proofs.Facts.EncodeCases.{input_unset, input_flag}
 use Rattle.alphabet.proofs.is_input.Goals as goal
 

@@ -1,9 +1,6 @@
-use Rattle.alphabet.proofs.Facts.EncodeCases.{symbol_found, symbol_next, symbol_missing}
 use Rattle.alphabet.specs.Model.{differs}
 use Rattle.notation.specs.Scan.{first_fail}
 use lib.ListN.{length}
-use native.Mathlib.Nat.{sub-zero}
-use native.Mathlib.Omega.{arith}
 use mathlib.Core.Path.{◌≡◌}
 use Prim.Native.Nat.{◌-◌, min}
 use Rattle.alphabet.proofs.symbol_for.Given as goal

@@ -1,11 +1,7 @@
-use Rattle.alphabet.proofs.Facts.EncodeCases.{write_turn}
 use Rattle.alphabet.specs.Model.{byte_at}
 use Rattle.notation.specs.Fill.{fill_from}
-use Rattle.notation.proofs.Facts.Fill.{fill_end}
-use native.Mathlib.Omega.{arith}
-use lib.ListN.{length, length-set}
-use native.Mathlib.Nat.{sub-zero}
-use mathlib.Core.Path.{◌≡◌, refl}
+use lib.ListN.{length}
+use mathlib.Core.Path.{◌≡◌}
 use Prim.Native.Nat.{◌-◌}
 use Rattle.alphabet.proofs.write_symbols.Given as goal
 

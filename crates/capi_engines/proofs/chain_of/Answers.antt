@@ -1,4 +1,3 @@
-use Rattle.std.proofs.Common.{rules}
 use mathlib.Core.Path.{refl}
 use Rattle.capi_engines.specs.Model.Engines.{chain_of}
 use Rattle.capi_engines.proofs.chain_of.Goals as goal

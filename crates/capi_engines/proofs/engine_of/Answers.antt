@@ -1,4 +1,3 @@
-use Rattle.std.proofs.Common.{rules}
 use Rattle.capi_engines.proofs.Facts.Engines.{engine_read}
 use Rattle.capi_engines.proofs.engine_of.Goals as goal
 

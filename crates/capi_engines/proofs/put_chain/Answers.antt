@@ -1,4 +1,3 @@
-use Rattle.std.proofs.Common.{rules}
 use mathlib.Core.Path.{refl}
 use Rattle.capi_engines.specs.Model.Engines.{with_chain}
 use Rattle.capi_engines.proofs.put_chain.Goals as goal

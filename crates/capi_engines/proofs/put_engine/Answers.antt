@@ -1,4 +1,3 @@
-use Rattle.std.proofs.Common.{rules}
 use Rattle.capi_engines.proofs.Facts.Engines.{engine_stored}
 use Rattle.capi_engines.proofs.put_engine.Goals as goal
 

@@ -1,4 +1,3 @@
-use Rattle.std.proofs.Common.{rules}
 use mathlib.Core.Path.{refl}
 use Rattle.capi_engines.specs.Model.Engines.{times_from}
 use Rattle.capi_engines.proofs.times_of.Goals as goal

@@ -1,4 +1,3 @@
-use Rattle.std.proofs.Common.{rules}
 use Rattle.capi_rle.proofs.Facts.Calls.{chain_made, chain_turned}
 use Rattle.capi_rle.proofs.new.Goals as goal
 

@@ -1,4 +1,3 @@
-use Rattle.std.proofs.Common.{rules}
 use Rattle.capi_rle.proofs.Facts.Calls.{chain_ran}
 use Rattle.capi_rle.proofs.run.Goals as goal
 

@@ -1,4 +1,3 @@
-use Rattle.std.proofs.Common.{rules}
 use Rattle.capi_sim.proofs.Facts.Calls.{new_called, new_turned}
 use Rattle.capi_sim.proofs.new.Goals as goal
 

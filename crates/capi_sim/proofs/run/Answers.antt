@@ -1,4 +1,3 @@
-use Rattle.std.proofs.Common.{rules}
 use Rattle.capi_sim.proofs.Facts.Calls.{ran_called}
 use Rattle.capi_sim.proofs.run.Goals as goal
 

@@ -1,4 +1,3 @@
-use Rattle.std.proofs.Common.{rules}
 use Rattle.capi_sim.proofs.Facts.Calls.{step_called}
 use Rattle.capi_sim.proofs.step.Goals as goal
 

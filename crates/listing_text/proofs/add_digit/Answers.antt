@@ -1,4 +1,3 @@
-use Rattle.std.proofs.Common.{rules}
 use native.Mathlib.Omega.{arith}
 use borrow.Author.Tests.{not-true, not-false}
 use Rattle.listing_text.proofs.Facts.NumberCases.{digit_low, add_no, add_over, add_full, add_good}

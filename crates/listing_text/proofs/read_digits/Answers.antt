@@ -1,8 +1,5 @@
 use Rattle.std.proofs.Common.{rules}
-use mathlib.Core.Path.{◌≡◌, refl}
-use Prim.Native.Nat.{◌≤◌, ◌<◌, ◌-◌, ◌^◌}
-use native.Mathlib.Omega.{arith}
-use lib.ListN.{length, drop}
+use Prim.Native.Nat.{◌-◌}
 use Rattle.listing_text.proofs.Facts.NumberCases.{digits_fit, digits_next, digits_stop, digits-end}
 use Rattle.listing_text.specs.Numbers.{digits}
 use Rattle.listing_text.proofs.read_digits.Goals as goal

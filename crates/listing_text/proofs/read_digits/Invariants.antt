@@ -1,8 +1,6 @@
-use mathlib.Core.Path.{◌≡◌, refl}
+use mathlib.Core.Path.{◌≡◌}
 use Prim.Native.Nat.{◌≤◌, ◌<◌, ◌-◌, ◌^◌}
-use native.Mathlib.Omega.{arith}
 use lib.ListN.{length, drop}
-use Rattle.listing_text.proofs.Facts.NumberCases.{digits_fit, digits_next, digits_stop, digits-end}
 use Rattle.listing_text.specs.Numbers.{digits}
 use Rattle.listing_text.proofs.read_digits.Given as goal
 

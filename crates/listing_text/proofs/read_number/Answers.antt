@@ -1,4 +1,3 @@
-use Rattle.std.proofs.Common.{rules}
 use Rattle.listing_text.proofs.Facts.NumberCases.{number-none, number_zero, number_digits}
 use Rattle.listing_text.proofs.read_number.Goals as goal
 

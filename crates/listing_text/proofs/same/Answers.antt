@@ -1,10 +1,8 @@
 use Rattle.std.proofs.Common.{rules}
-use mathlib.Core.Path.{◌≡◌, refl}
-use Prim.Native.Nat.{◌≤◌, ◌-◌}
+use mathlib.Core.Path.{refl}
+use Prim.Native.Nat.{◌-◌}
 use native.Mathlib.Omega.{arith}
-use lib.ListN.{length}
 use Rattle.listing_text.proofs.Facts.PieceCases.{same_from, same_len, same_hit, same_next, same_end}
-use Rattle.listing_text.specs.Pieces.{same_list}
 use Rattle.listing_text.proofs.same.Goals as goal
 
 pub returns-then-a-b : goal.returns-then-a-b

@@ -1,8 +1,7 @@
-use mathlib.Core.Path.{◌≡◌, refl}
+use mathlib.Core.Path.{◌≡◌}
 use Prim.Native.Nat.{◌≤◌, ◌-◌}
-use native.Mathlib.Omega.{arith}
 use lib.ListN.{length}
-use Rattle.listing_text.proofs.Facts.PieceCases.{same_from, same_len, same_hit, same_next, same_end}
+use Rattle.listing_text.proofs.Facts.PieceCases.{same_from}
 use Rattle.listing_text.specs.Pieces.{same_list}
 use Rattle.listing_text.proofs.same.Given as goal
 

@@ -1,4 +1,3 @@
-use Rattle.std.proofs.Common.{rules}
 use Rattle.notation.proofs.Facts.Tests.{tests}
 use Rattle.listing_text.specs.Model.{zero_first}
 use Rattle.listing_text.proofs.zero_first.Goals as goal

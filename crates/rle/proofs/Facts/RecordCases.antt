@@ -1,4 +1,4 @@
--- What `left` and `right` answer and write: one fact for each return, and what their proof by hand requires. Assumes nothing.
+-- What `left` and `right` answer and write: one fact for each return, and what the copy requires. Assumes nothing.
 use Rattle.std.specs.Prelude.{◌≡◌, refl, List, ℕ, ◌≤◌, leb, length}
 use Rattle.std.proofs.Common.{arith, leb-true, leb-false}
 use Rattle.notation.proofs.Facts.Tests.{by_test}
@@ -65,7 +65,7 @@ live : (h : LeftOrRight) (m : Machine) (s : List ℕ) (σ : Conf) → engine_che
 live left m s σ passed = (sides_ok m σ (engine_says m s σ passed).fits).left.live
 live right m s σ passed = (sides_ok m σ (engine_says m s σ passed).fits).right.live
 
--- ---- what the proof by hand requires
+-- ---- what the copy requires
 
 pub list_fine : (h : LeftOrRight) (m : Machine) (s : List ℕ) (σ : Conf) (out : List Run) → Fine (side_of h σ).symbols (side_of h σ).lengths (side_of h σ).count out (answer_of h m s (length out) σ)
 list_fine h m s σ out = side_fine (side_of h σ).symbols (side_of h σ).lengths (side_of h σ).count out m s σ (live h m s σ)

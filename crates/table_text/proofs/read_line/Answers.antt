@@ -1,4 +1,3 @@
-use Rattle.std.proofs.Common.{rules}
 use Rattle.table_text_reader.proofs.Facts.ReadCases.{read_malformed, read_lacks, read_has}
 use Rattle.table_text_form.proofs.Facts.Columns.{formed_of_form}
 use mathlib.Core.Path.{sym, ◌∙◌}

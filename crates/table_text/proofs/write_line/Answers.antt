@@ -1,9 +1,8 @@
-use Rattle.std.proofs.Common.{rules, ap, not}
+use Rattle.std.proofs.Common.{ap, not}
 use Rattle.table_text_writer.proofs.Facts.WriteCases.{write_refused, write_none, write_short, write_whole}
 use Rattle.table_text_writer.proofs.Facts.Fits.{all_printable, line_small, line_some}
 use Rattle.table_text_rows.proofs.Facts.Rows.{line_says}
 use Rattle.machine.proofs.Facts.Check.{ranges}
-use borrow.Author.Tests.{not-false}
 use Prim.Native.Nat.{ℕ, ◌≤◌}
 use mathlib.Core.Path.{refl, sym, subst, ◌∙◌}
 use native.Mathlib.Omega.{arith}

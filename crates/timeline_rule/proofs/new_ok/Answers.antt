@@ -1,4 +1,3 @@
-use Rattle.std.proofs.Common.{rules}
 use Rattle.notation.proofs.Facts.Tests.{tests, via}
 use Rattle.timeline_rule.specs.Model.Timeline.{new_ok}
 use Rattle.timeline_rule.proofs.new_ok.Goals as goal

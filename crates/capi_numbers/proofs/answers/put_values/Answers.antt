@@ -1,4 +1,3 @@
-use Rattle.std.proofs.Common.{rules}
 use Rattle.capi_numbers.specs.Model.Answers.{with_five}
 use mathlib.Core.Path.{refl}
 use Rattle.capi_numbers.proofs.answers.put_values.Goals as goal

@@ -1,4 +1,3 @@
-use Rattle.std.proofs.Common.{rules}
 use Rattle.notation.specs.Choice.{pick}
 use borrow.Author.Tests.{eq-eqb, ne_eqb}
 use Rattle.capi_numbers.specs.Model.Parts.{entry_of}

@@ -1,4 +1,3 @@
-use Rattle.std.proofs.Common.{rules}
 use Rattle.capi_numbers.specs.Model.Parts.{action_from}
 use Rattle.capi_numbers.proofs.parts.put_action_at.Goals as goal
 

@@ -1,4 +1,3 @@
-use Rattle.std.proofs.Common.{rules}
 use mathlib.Core.Path.{refl}
 use Rattle.capi_numbers.specs.Model.Answers.{with_five}
 use Rattle.capi_numbers.proofs.parts.put_parts.Goals as goal

@@ -1,4 +1,3 @@
-use Rattle.std.proofs.Common.{rules}
 use Rattle.capi_rle.proofs.Facts.Timelines.{chain_timeline_called}
 use Rattle.capi_rle.proofs.timelines.call.Goals as goal
 

@@ -1,4 +1,3 @@
-use Rattle.std.proofs.Common.{rules}
 use Rattle.capi_sim.proofs.Facts.Timelines.{timeline_called}
 use Rattle.capi_sim.proofs.timelines.call.Goals as goal
 

@@ -1,4 +1,3 @@
-use Rattle.std.proofs.Common.{rules}
 use Rattle.capi_numbers.proofs.Facts.Timelines.{timeline_made, timeline_turned}
 use Rattle.capi_sim.proofs.timelines.new.Goals as goal
 

@@ -1,4 +1,3 @@
-use Rattle.std.proofs.Common.{rules}
 use Rattle.listing_text.proofs.Facts.Chain.{chain}
 use Rattle.listing_text.specs.Numbers.{below}
 use Rattle.listing_text.proofs.fields.below_at.Goals as goal

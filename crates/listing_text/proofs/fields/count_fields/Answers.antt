@@ -1,10 +1,8 @@
 use Rattle.std.proofs.Common.{rules}
-use mathlib.Core.Path.{◌≡◌, refl}
-use Prim.Native.Nat.{◌≤◌, ◌-◌, ◌+◌}
+use mathlib.Core.Path.{refl}
+use Prim.Native.Nat.{◌-◌}
 use native.Mathlib.Omega.{arith}
-use lib.ListN.{length}
 use Rattle.listing_text.proofs.Facts.PieceCases.{fields_from, count_next, count_end}
-use Rattle.listing_text.specs.Pieces.{fields}
 use Rattle.listing_text.proofs.fields.count_fields.Goals as goal
 
 pub loop-i-init : goal.loop-i-init

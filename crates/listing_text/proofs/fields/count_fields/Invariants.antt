@@ -1,8 +1,7 @@
-use mathlib.Core.Path.{◌≡◌, refl}
+use mathlib.Core.Path.{◌≡◌}
 use Prim.Native.Nat.{◌≤◌, ◌-◌, ◌+◌}
-use native.Mathlib.Omega.{arith}
 use lib.ListN.{length}
-use Rattle.listing_text.proofs.Facts.PieceCases.{fields_from, count_next, count_end}
+use Rattle.listing_text.proofs.Facts.PieceCases.{fields_from}
 use Rattle.listing_text.specs.Pieces.{fields}
 use Rattle.listing_text.proofs.fields.count_fields.Given as goal
 

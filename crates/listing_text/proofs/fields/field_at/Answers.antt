@@ -1,10 +1,7 @@
 use Rattle.std.proofs.Common.{rules}
-use mathlib.Core.Path.{◌≡◌, refl}
-use Prim.Native.Nat.{◌≤◌}
+use mathlib.Core.Path.{refl}
 use native.Mathlib.Omega.{arith}
-use lib.ListN.{length}
 use Rattle.listing_text.proofs.Facts.PieceCases.{field_from, field_next, field_none, field_end}
-use Rattle.listing_text.specs.Pieces.{field}
 use Rattle.listing_text.proofs.fields.field_at.Goals as goal
 
 pub loop-left-init : goal.loop-left-init

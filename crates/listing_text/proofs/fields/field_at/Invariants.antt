@@ -1,8 +1,7 @@
-use mathlib.Core.Path.{◌≡◌, refl}
+use mathlib.Core.Path.{◌≡◌}
 use Prim.Native.Nat.{◌≤◌}
-use native.Mathlib.Omega.{arith}
 use lib.ListN.{length}
-use Rattle.listing_text.proofs.Facts.PieceCases.{field_from, field_next, field_none, field_end}
+use Rattle.listing_text.proofs.Facts.PieceCases.{field_from}
 use Rattle.listing_text.specs.Pieces.{field}
 use Rattle.listing_text.proofs.fields.field_at.Given as goal
 

@@ -1,10 +1,7 @@
 use Rattle.std.proofs.Common.{rules}
-use mathlib.Core.Path.{◌≡◌}
-use Prim.Native.Nat.{◌≤◌}
 use native.Mathlib.Omega.{arith}
 use lib.ListN.{length, length-set}
 use Rattle.listing_text.proofs.Facts.PrintCases.{shown, shown_last, shown_next, shown_out, shown-start}
-use Rattle.listing_text.specs.Show.{show}
 use Rattle.listing_text.proofs.inner.digits_of.Goals as goal
 
 pub loop-p-init : goal.loop-p-init

@@ -1,8 +1,7 @@
 use mathlib.Core.Path.{◌≡◌}
 use Prim.Native.Nat.{◌≤◌}
-use native.Mathlib.Omega.{arith}
-use lib.ListN.{length, length-set}
-use Rattle.listing_text.proofs.Facts.PrintCases.{shown, shown_last, shown_next, shown_out, shown-start}
+use lib.ListN.{length}
+use Rattle.listing_text.proofs.Facts.PrintCases.{shown}
 use Rattle.listing_text.specs.Show.{show}
 use Rattle.listing_text.proofs.inner.digits_of.Given as goal
 

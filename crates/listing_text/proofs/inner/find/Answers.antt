@@ -1,9 +1,6 @@
 use Rattle.std.proofs.Common.{rules}
-use mathlib.Core.Path.{◌≡◌}
-use Prim.Native.Nat.{◌≤◌, ◌-◌, ◌+◌}
-use lib.ListN.{length, drop}
+use Prim.Native.Nat.{◌-◌}
 use Rattle.listing_text.proofs.Facts.PieceCases.{find_hit, find_next, find_end}
-use Rattle.listing_text.specs.Model.{up_to}
 use Rattle.listing_text.proofs.inner.find.Goals as goal
 
 pub returns-then-s-i : goal.returns-then-s-i

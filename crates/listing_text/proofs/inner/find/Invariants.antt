@@ -1,7 +1,6 @@
 use mathlib.Core.Path.{◌≡◌}
 use Prim.Native.Nat.{◌≤◌, ◌-◌, ◌+◌}
 use lib.ListN.{length, drop}
-use Rattle.listing_text.proofs.Facts.PieceCases.{find_hit, find_next, find_end}
 use Rattle.listing_text.specs.Model.{up_to}
 use Rattle.listing_text.proofs.inner.find.Given as goal
 

@@ -1,4 +1,3 @@
-use Rattle.std.proofs.Common.{rules}
 use native.Mathlib.Omega.{arith}
 use Rattle.listing_text.proofs.Facts.PrintCases.{byte_then}
 use Rattle.listing_text.proofs.inner.print_minus.Goals as goal

@@ -1,4 +1,3 @@
-use Rattle.std.proofs.Common.{rules}
 use Rattle.listing_text.proofs.Facts.PrintCases.{down_done, up_done}
 use Rattle.listing_text.proofs.inner.print_position.Goals as goal
 

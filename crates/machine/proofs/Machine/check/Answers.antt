@@ -1,4 +1,4 @@
-use Rattle.std.proofs.Common.{rules, ap, not}
+use Rattle.std.proofs.Common.{ap, not}
 use Rattle.machine.proofs.Facts.Check.{within-passed}
 use Rattle.machine.proofs.Facts.CheckCases.{count_fits, count_small, size_via}
 use Rattle.machine.specs.Model.Check.{table_check}

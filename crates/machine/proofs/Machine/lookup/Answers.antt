@@ -1,4 +1,3 @@
-use Rattle.std.proofs.Common.{rules}
 use mathlib.Core.Path.{sym, ◌∙◌}
 use Rattle.machine.proofs.Facts.Check.{ranges}
 use Rattle.machine.proofs.Facts.CheckCases.{looked_refused, looked_found}

@@ -1,4 +1,3 @@
-use Rattle.std.proofs.Common.{rules}
 use Rattle.machine.specs.Model.Check.{size_check}
 use Rattle.notation.proofs.Facts.Tests.{tests}
 use Rattle.machine.proofs.checks.check_size.Goals as goal

@@ -1,4 +1,3 @@
-use Rattle.std.proofs.Common.{rules}
 use Rattle.machine.proofs.Facts.CheckCases.{action_made}
 use Rattle.machine.proofs.inner.action_at.Goals as goal
 

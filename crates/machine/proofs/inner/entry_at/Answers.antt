@@ -1,4 +1,3 @@
-use Rattle.std.proofs.Common.{rules}
 use Rattle.machine.proofs.Facts.CheckCases.{entry_past, entry_none, entry_some}
 use Rattle.machine.proofs.inner.entry_at.Goals as goal
 

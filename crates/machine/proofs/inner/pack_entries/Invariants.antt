@@ -1,11 +1,7 @@
 use Rattle.machine.specs.Model.Packing.{word_at}
-use Rattle.notation.proofs.Facts.Fill.{fill_end}
-use Rattle.machine.proofs.Facts.PackingCases.{pack_turn}
 use Rattle.notation.specs.Fill.{fill_from}
-use lib.ListN.{length, length-set}
-use native.Mathlib.Omega.{arith}
-use native.Mathlib.Nat.{sub-zero}
-use mathlib.Core.Path.{◌≡◌, refl}
+use lib.ListN.{length}
+use mathlib.Core.Path.{◌≡◌}
 use Prim.Native.Nat.{◌≤◌, ◌-◌}
 use Rattle.machine.proofs.inner.pack_entries.Given as goal
 

@@ -1,4 +1,3 @@
-use Rattle.std.proofs.Common.{rules}
 use Rattle.machine.proofs.Facts.PackingCases.{word_made}
 use Rattle.machine.proofs.packed.pack_action.Goals as goal
 

@@ -1,4 +1,3 @@
-use Rattle.std.proofs.Common.{rules}
 use Rattle.outcome.specs.declared.Refusal.TheVariants as Why
 use Rattle.machine.specs.Model.Word.{symbols_check}
 use Rattle.machine.proofs.Facts.CheckCases.{scan_bad, scan_end}

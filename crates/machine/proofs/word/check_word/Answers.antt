@@ -1,4 +1,3 @@
-use Rattle.std.proofs.Common.{rules}
 use Rattle.machine.specs.Model.Word.{word_check}
 use Rattle.notation.proofs.Facts.Tests.{tests}
 use Rattle.machine.proofs.word.check_word.Goals as goal

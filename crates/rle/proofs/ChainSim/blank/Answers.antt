@@ -1,4 +1,3 @@
-use Rattle.std.proofs.Common.{rules}
 use Rattle.rle.proofs.Facts.QuestionCases.{blank_cur, blank_left, blank_right}
 use Rattle.rle.proofs.ChainSim.blank.Goals as goal
 

@@ -1,4 +1,3 @@
-use Rattle.std.proofs.Common.{rules}
 use Rattle.rle.proofs.Facts.QuestionCases.{asked_places, asked_sums, count_refused, count_done}
 use Rattle.rle.proofs.ChainSim.count_non_blank.Goals as goal
 

@@ -1,4 +1,3 @@
-use Rattle.std.proofs.Common.{rules}
 use Rattle.rle.proofs.Facts.EngineCases.{turn_halts, turn_never, turn_goes}
 use Rattle.rle.proofs.ChainSim.decide.Goals as goal
 

@@ -1,4 +1,3 @@
-use Rattle.std.proofs.Common.{rules}
 use Rattle.rle.proofs.Facts.FitsCases.{engine_table, engine_value}
 use Rattle.rle.proofs.ChainSim.engine_check.Goals as goal
 

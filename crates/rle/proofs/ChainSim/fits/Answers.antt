@@ -1,6 +1,4 @@
-use Rattle.std.proofs.Common.{rules}
 use native.Mathlib.Omega.{arith}
-use borrow.Author.Tests.{not-true, not-false}
 use Rattle.rle.proofs.Facts.FitsCases.{fits_counts, fits_head, fits_left, fits_right, fits_reach, counts_steps}
 use Rattle.rle.proofs.ChainSim.fits.Goals as goal
 

@@ -1,4 +1,3 @@
-use Rattle.std.proofs.Common.{rules}
 use Rattle.rle.proofs.Facts.EngineCases.{fuel_none, fuel_stops, fuel_goes}
 use Rattle.rle.proofs.ChainSim.fueled.Goals as goal
 

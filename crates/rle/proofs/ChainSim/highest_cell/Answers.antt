@@ -1,4 +1,3 @@
-use Rattle.std.proofs.Common.{rules}
 use native.Mathlib.Omega.{arith}
 use Rattle.rle.specs.Model.Engine.{conf}
 use Rattle.rle.proofs.Facts.QuestionCases.{highest_right, highest_head, highest_left, some_on_left}

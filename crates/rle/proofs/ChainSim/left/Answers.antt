@@ -1,4 +1,4 @@
-use Rattle.std.proofs.Common.{◌≡◌, ◌≤◌, ◌∙◌, ap, arith, length, rules}
+use Rattle.std.proofs.Common.{◌∙◌, ap}
 use Rattle.rle_stack.specs.Model.{side}
 use Rattle.rle_records.specs.Model.{records_of, written_of}
 use Rattle.rle.specs.Model.Engine.{conf}

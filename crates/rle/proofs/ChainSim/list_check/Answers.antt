@@ -1,4 +1,3 @@
-use Rattle.std.proofs.Common.{rules}
 use Rattle.rle.proofs.Facts.RecordCases.{list_refused, list_room}
 use Rattle.rle.proofs.ChainSim.list_check.Goals as goal
 

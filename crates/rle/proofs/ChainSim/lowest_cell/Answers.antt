@@ -1,7 +1,6 @@
-use Rattle.std.proofs.Common.{rules}
 use native.Mathlib.Omega.{arith}
 use Rattle.rle.specs.Model.Engine.{conf}
-use Rattle.rle.proofs.Facts.QuestionCases.{left_sum, lowest_left, lowest_head, lowest_right, some_on_right}
+use Rattle.rle.proofs.Facts.QuestionCases.{lowest_left, lowest_head, lowest_right, some_on_right}
 use Rattle.rle.proofs.ChainSim.lowest_cell.Goals as goal
 
 pub returns-then-tape-ne0 : goal.returns-then-tape-ne0

@@ -1,4 +1,3 @@
-use Rattle.std.proofs.Common.{rules}
 use native.Mathlib.Omega.{arith}
 use Rattle.rle.proofs.Facts.OperationCases.{new_refused, new_lays, fresh_start, new_made}
 use Rattle.rle.proofs.ChainSim.new.Goals as goal

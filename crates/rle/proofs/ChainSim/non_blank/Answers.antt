@@ -1,4 +1,3 @@
-use Rattle.std.proofs.Common.{rules}
 use Rattle.rle.proofs.Facts.QuestionCases.{asked_ok, extent_refused, extent_done}
 use Rattle.rle.proofs.ChainSim.non_blank.Goals as goal
 

@@ -1,4 +1,3 @@
-use Rattle.std.proofs.Common.{rules}
 use Rattle.rle.proofs.Facts.OperationCases.{ran_refused, stride_ok, run_ok, ran_done}
 use Rattle.rle.proofs.ChainSim.run.Goals as goal
 

@@ -1,5 +1,3 @@
-use Rattle.std.proofs.Common.{rules}
-use borrow.Author.Tests.{not-true, not-false}
 use Rattle.rle.proofs.Facts.FitsCases.{run_refused, run-over, run_passed}
 use Rattle.rle.proofs.ChainSim.run_check.Goals as goal
 

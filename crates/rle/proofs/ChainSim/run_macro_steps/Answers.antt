@@ -1,9 +1,5 @@
-use Rattle.std.proofs.Common.{rules}
 use native.Mathlib.Omega.{arith}
-use Rattle.run_rules.specs.Model.Task.{task}
-use Rattle.rle.specs.Model.Engine.{conf}
-use Rattle.rle.specs.Invariants.{Going}
-use Rattle.rle.proofs.Facts.RunCases.{going_start, going_ends, going_make, going_full, going_fine, going_counts, going_on}
+use Rattle.rle.proofs.Facts.RunCases.{going_ends, going_make, going_full, going_fine, going_counts, going_on}
 use Rattle.rle.proofs.ChainSim.run_macro_steps.Goals as goal
 
 pub returns-in-Ends : goal.returns-in-Ends

@@ -1,8 +1,6 @@
-use native.Mathlib.Omega.{arith}
 use Rattle.run_rules.specs.Model.Task.{task}
 use Rattle.rle.specs.Model.Engine.{conf}
 use Rattle.rle.specs.Invariants.{Going}
-use Rattle.rle.proofs.Facts.RunCases.{going_start, going_ends, going_make, going_full, going_fine, going_counts, going_on}
 use Rattle.rle.proofs.ChainSim.run_macro_steps.Given as goal
 
 abbrev pub invariant-loop-outcome : goal.invariant-loop-outcome

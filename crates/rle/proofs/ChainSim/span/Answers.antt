@@ -1,7 +1,5 @@
-use Rattle.std.proofs.Common.{rules}
 use mir.ValLaws.{to_z-of_z}
 use mir.Syntax.{w64}
-use mathlib.Core.Path.{sym, ◌∙◌}
 use Rattle.rle.proofs.Facts.QuestionCases.{span_empty, span_cells}
 use Rattle.rle.proofs.ChainSim.span.Goals as goal
 

@@ -1,5 +1,3 @@
-use Rattle.std.proofs.Common.{rules}
-use borrow.Author.Tests.{not-true, not-false}
 use Rattle.rle.proofs.Facts.FitsCases.{value_tapes, value_lefts, value_rights, value_misfit, value_passed}
 use Rattle.rle.proofs.ChainSim.value_check.Goals as goal
 

@@ -1,4 +1,3 @@
-use Rattle.std.proofs.Common.{rules}
 use mathlib.Core.Path.{sym, ◌∙◌}
 use mir.ValLaws.{to_z-of_z}
 use mir.Syntax.{w64}

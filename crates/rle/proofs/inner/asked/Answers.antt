@@ -1,4 +1,3 @@
-use Rattle.std.proofs.Common.{rules}
 use Rattle.rle.proofs.Facts.EngineCases.{asked_loops, asked_none}
 use Rattle.rle.proofs.inner.asked.Goals as goal
 

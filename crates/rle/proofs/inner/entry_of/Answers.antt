@@ -1,4 +1,3 @@
-use Rattle.std.proofs.Common.{rules}
 use Rattle.run_checks.proofs.Facts.LookCases.{entry_is}
 use Rattle.rle.proofs.inner.entry_of.Goals as goal
 

@@ -1,4 +1,3 @@
-use Rattle.std.proofs.Common.{rules}
 use Rattle.rle.proofs.Facts.EngineCases.{loops_leaves, loops_keeps}
 use Rattle.rle.proofs.inner.loops_on.Goals as goal
 

@@ -1,4 +1,3 @@
-use Rattle.std.proofs.Common.{rules}
 use Rattle.rle.proofs.Facts.VerdictCases.{verdict_halts, verdict_never, verdict_spent}
 use Rattle.rle.proofs.inner.verdict.Goals as goal
 

@@ -1,5 +1,5 @@
 -- The first i places have runs 0 to i − 1, and the others are unchanged.
-use Rattle.std.proofs.Common.{◌-◌, ◌≡◌, ◌≤◌, length}
+use Rattle.std.proofs.Common.{◌-◌, ◌≡◌, ◌≤◌}
 use Rattle.rle_records.specs.Model.{lay}
 use Rattle.rle_records.proofs.inner.fill.Given as goal
 

@@ -1,4 +1,3 @@
-use Rattle.std.proofs.Common.{rules}
 use Rattle.rle_records.proofs.Facts.Records.{room_short, room_enough}
 use Rattle.rle_records.proofs.inner.room_for.Goals as goal
 

@@ -1,6 +1,4 @@
-use Rattle.std.proofs.Common.{rules}
 use Rattle.rle_slots.proofs.Facts.AdvanceCases.{advance_stride, advance_ok, advance_ends, advance_verdict}
-use borrow.Author.Tests.{not-true, not-false}
 use Rattle.rle_slots.proofs.inner.advance.Goals as goal
 
 pub stride-stride-requires : goal.stride-stride-requires

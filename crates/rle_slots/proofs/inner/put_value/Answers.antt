@@ -1,6 +1,4 @@
-use Rattle.std.proofs.Common.{rules}
 use Rattle.rle_slots.proofs.Facts.SlotCases.{value_written}
-use native.Mathlib.Omega.{arith}
 use Rattle.rle_slots.proofs.inner.put_value.Goals as goal
 
 pub returns : goal.returns

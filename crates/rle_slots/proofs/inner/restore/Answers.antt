@@ -1,4 +1,3 @@
-use Rattle.std.proofs.Common.{rules}
 use Rattle.rle_slots.proofs.Facts.SlotCases.{restore_none, restore_left, restore_right, restore_some}
 use native.Mathlib.Omega.{arith}
 use Rattle.rle_slots.proofs.inner.restore.Goals as goal

@@ -1,6 +1,4 @@
-use Rattle.std.proofs.Common.{rules}
 use Rattle.rle_slots.proofs.Facts.SlotCases.{saved}
-use native.Mathlib.Omega.{arith}
 use Rattle.rle_slots.proofs.inner.save.Goals as goal
 
 pub returns : goal.returns

@@ -1,12 +1,7 @@
-use Rattle.std.proofs.Common.{rules}
-use Rattle.timeline_rule.proofs.Facts.TurnCases.{loop_start, loop_stop, loop_fall, loop_next}
+use Rattle.timeline_rule.proofs.Facts.TurnCases.{loop_stop, loop_next}
 use Rattle.rle_slots.specs.Model.Kind.{chain_kind}
 use native.Mathlib.Omega.{arith}
-use mathlib.Core.Path.{refl, ◌≡◌}
-use Rattle.rle_timeline.specs.Model.{Fits, with_lent}
-use Rattle.timeline_rule.specs.Invariants.{LoopInv}
 use Prim.Native.Nat.{◌-◌}
-use lib.ListN.{length}
 use Rattle.rle_timeline.proofs.Timeline.advance_to.Goals as goal
 
 pub returns-then-turn : goal.returns-then-turn

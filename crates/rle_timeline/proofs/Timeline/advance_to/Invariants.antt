@@ -1,7 +1,5 @@
-use Rattle.timeline_rule.proofs.Facts.TurnCases.{loop_start, loop_stop, loop_fall, loop_next}
 use Rattle.rle_slots.specs.Model.Kind.{chain_kind}
-use native.Mathlib.Omega.{arith}
-use mathlib.Core.Path.{refl, ◌≡◌}
+use mathlib.Core.Path.{◌≡◌}
 use Rattle.rle_timeline.specs.Model.{Fits, with_lent}
 use Rattle.timeline_rule.specs.Invariants.{LoopInv}
 use Prim.Native.Nat.{◌-◌}

@@ -1,4 +1,3 @@
-use Rattle.std.proofs.Common.{rules}
 use Rattle.timeline_rule.proofs.Facts.WhichCases.{which_on}
 use Rattle.rle_slots.specs.Model.Kind.{chain_kind}
 use Rattle.rle_timeline.proofs.Timeline.call.Goals as goal

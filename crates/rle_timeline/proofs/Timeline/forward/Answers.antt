@@ -1,4 +1,3 @@
-use Rattle.std.proofs.Common.{rules}
 use Rattle.timeline_rule.proofs.Facts.CallCases.{forward_on}
 use Rattle.rle_slots.specs.Model.Kind.{chain_kind}
 use Rattle.rle_timeline.proofs.Timeline.forward.Goals as goal

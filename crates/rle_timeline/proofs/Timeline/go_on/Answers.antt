@@ -1,4 +1,3 @@
-use Rattle.std.proofs.Common.{rules}
 use Rattle.timeline_rule.proofs.Facts.GoCases.{on_goes}
 use Rattle.rle_slots.specs.Model.Kind.{chain_kind}
 use Rattle.rle_timeline.proofs.Timeline.go_on.Goals as goal

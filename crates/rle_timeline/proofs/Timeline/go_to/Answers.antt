@@ -1,8 +1,6 @@
-use Rattle.std.proofs.Common.{rules}
-use Rattle.timeline_rule.proofs.Facts.GoCases.{to_here, to_back, to_on, to_loop}
+use Rattle.timeline_rule.proofs.Facts.GoCases.{to_here, to_back, to_on}
 use Rattle.rle_timeline.proofs.Facts.CallCases.{stay_asks}
 use Rattle.rle_slots.specs.Model.Kind.{chain_kind}
-use Rattle.rle_timeline.proofs.Facts.Engine.{chain_sound}
 use Rattle.rle_timeline.proofs.Timeline.go_to.Goals as goal
 
 pub advance-told-requires : goal.advance-told-requires

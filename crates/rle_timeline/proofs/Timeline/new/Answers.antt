@@ -1,4 +1,3 @@
-use Rattle.std.proofs.Common.{rules}
 use Rattle.timeline_rule.proofs.Facts.NewCases.{new_refused, new_passed, new_room, new_made}
 use Rattle.rle_timeline.proofs.Facts.CallCases.{passed-sizes, new_save}
 use Rattle.rle_slots.specs.Model.Kind.{chain_kind}

@@ -1,9 +1,7 @@
-use Rattle.std.proofs.Common.{rules}
-use Rattle.timeline_rule.proofs.Facts.TurnCases.{rec_fit, rec_low, rec_not, rec_more, rec_yes}
+use Rattle.timeline_rule.proofs.Facts.TurnCases.{rec_low, rec_not, rec_more, rec_yes}
 use Rattle.rle_timeline.proofs.Facts.CallCases.{rec_save}
 use Rattle.rle_timeline.proofs.Facts.Engine.{chain_sound}
 use Rattle.rle_slots.specs.Model.Kind.{chain_kind}
-use borrow.Author.Tests.{not-true, not-false}
 use native.Mathlib.Omega.{arith}
 use Rattle.rle_timeline.proofs.Timeline.record_due.Goals as goal
 

@@ -1,4 +1,3 @@
-use Rattle.std.proofs.Common.{rules}
 use Rattle.timeline_rule.proofs.Facts.TurnCases.{turn_stride, turn_there, turn_stuck, turn_on_holds}
 use Rattle.rle_timeline.proofs.Facts.CallCases.{stride_at}
 use Rattle.rle_timeline.proofs.Facts.Engine.{chain_sound}

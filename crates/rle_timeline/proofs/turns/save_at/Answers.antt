@@ -1,6 +1,4 @@
-use Rattle.std.proofs.Common.{rules}
 use Rattle.timeline_rule.proofs.Facts.TurnCases.{saved_is}
-use Rattle.rle_timeline.proofs.Facts.CallCases.{part_long}
 use Rattle.rle_slots.specs.Model.Kind.{chain_kind}
 use native.Mathlib.Omega.{arith}
 use Rattle.rle_timeline.proofs.turns.save_at.Goals as goal

@@ -1,4 +1,3 @@
-use Rattle.std.proofs.Common.{rules}
 use Rattle.run_rules.specs.Model.Task.{matches}
 use mathlib.Core.Path.{refl}
 use Rattle.run_rules.proofs.inner.matches.Goals as goal

@@ -1,5 +1,3 @@
-use Rattle.std.proofs.Common.{rules}
-use native.Mathlib.Omega.{arith}
 use Rattle.sim.proofs.Facts.EngineCases.{stepped, rooms_each}
 use Rattle.sim.proofs.Simulator.advance.Goals as goal
 

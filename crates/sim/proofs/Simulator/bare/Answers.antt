@@ -1,4 +1,3 @@
-use Rattle.std.proofs.Common.{rules}
 use Rattle.sim.specs.Model.Operations.{bare_sim}
 use mathlib.Core.Path.{refl}
 use Rattle.sim.proofs.Simulator.bare.Goals as goal

@@ -1,6 +1,5 @@
-use Rattle.std.proofs.Common.{rules}
-use Rattle.sim.proofs.Facts.BurstCases.{burst_asks, same_run_one, words-none, words-given}
-use Rattle.sim.proofs.Facts.WideBurstSteps.{wide_asks, onward_asks, same_run_several}
+use Rattle.sim.proofs.Facts.BurstCases.{same_run_one}
+use Rattle.sim.proofs.Facts.WideBurstSteps.{same_run_several}
 use Rattle.sim.proofs.Simulator.burst.Goals as goal
 
 pub returns-then-packed : goal.returns-then-packed

@@ -1,7 +1,5 @@
-use Rattle.std.proofs.Common.{rules}
 use mathlib.Core.Path.{refl}
-use borrow.Author.Tests.{not-false}
-use Rattle.sim.proofs.Facts.BurstCases.{burst_starts, after_asks, same_run_burst, same_run_words}
+use Rattle.sim.proofs.Facts.BurstCases.{same_run_burst, same_run_words}
 use Rattle.sim_burst.specs.Model.Burst.{Is}
 use Rattle.sim.proofs.Simulator.burst_one.Goals as goal
 

@@ -1,4 +1,3 @@
-use Rattle.std.proofs.Common.{rules}
 use Rattle.sim.proofs.Facts.QuestionCases.{asked_ok, count_refused, count_done}
 use Rattle.sim.proofs.Simulator.count_non_blank.Goals as goal
 

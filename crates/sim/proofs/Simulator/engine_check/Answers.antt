@@ -1,4 +1,3 @@
-use Rattle.std.proofs.Common.{rules}
 use Rattle.sim.proofs.Facts.OperationCases.{engine_table, engine_value}
 use Rattle.sim.proofs.Simulator.engine_check.Goals as goal
 

@@ -1,7 +1,5 @@
-use Rattle.std.proofs.Common.{rules}
 use Rattle.machine.proofs.Facts.Check.{ranges}
 use mathlib.Core.Path.{sym, ◌∙◌}
-use borrow.Author.Tests.{not-true, not-false}
 use Rattle.sim.proofs.Facts.OperationCases.{fast_refused, fast_wrong, fast_passed}
 use Rattle.sim.proofs.Simulator.fast_check.Goals as goal
 

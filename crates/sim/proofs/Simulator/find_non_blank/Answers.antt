@@ -1,4 +1,3 @@
-use Rattle.std.proofs.Common.{rules}
 use mir.ValLaws.{to_z-of_z}
 use mir.Syntax.{w64}
 use Rattle.sim.proofs.Facts.QuestionCases.{asked_ok, find_refused, find_done}

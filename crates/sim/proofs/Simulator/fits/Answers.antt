@@ -1,4 +1,3 @@
-use Rattle.std.proofs.Common.{rules}
 use Rattle.sim.specs.Model.Operations.{sim_fits}
 use Rattle.notation.proofs.Facts.Tests.{tests, via}
 use Rattle.sim.proofs.Simulator.fits.Goals as goal

@@ -1,5 +1,3 @@
-use Rattle.std.proofs.Common.{rules}
-use borrow.Author.Tests.{not-true, not-false}
 use Rattle.sim.proofs.Facts.OperationCases.{fuel_refused, fuel_over, fuel_passed}
 use Rattle.sim.proofs.Simulator.fuel_check.Goals as goal
 

@@ -1,4 +1,3 @@
-use Rattle.std.proofs.Common.{rules}
 use Rattle.sim.specs.Model.Operations.{hand_back}
 use mathlib.Core.Path.{refl}
 use Rattle.sim.proofs.Simulator.hand_back.Goals as goal

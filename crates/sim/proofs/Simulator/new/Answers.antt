@@ -1,4 +1,3 @@
-use Rattle.std.proofs.Common.{rules}
 use native.Mathlib.Omega.{arith}
 use Rattle.run_checks.proofs.Facts.SizesCases.{fresh_ok}
 use Rattle.sim.proofs.Facts.OperationCases.{new_refused, new_made}

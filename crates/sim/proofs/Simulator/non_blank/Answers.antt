@@ -1,4 +1,3 @@
-use Rattle.std.proofs.Common.{rules}
 use Rattle.sim.proofs.Facts.QuestionCases.{asked_ok, extent_refused, extent_done}
 use Rattle.sim.proofs.Simulator.non_blank.Goals as goal
 

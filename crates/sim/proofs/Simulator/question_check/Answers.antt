@@ -1,4 +1,3 @@
-use Rattle.std.proofs.Common.{rules}
 use Rattle.sim.proofs.Facts.QuestionCases.{question_refused, question_lacks, question_passed}
 use Rattle.sim.proofs.Simulator.question_check.Goals as goal
 

@@ -1,5 +1,4 @@
-use Rattle.std.proofs.Common.{rules}
-use Rattle.sim.proofs.Facts.AnswerCases.{run_cleared, run_answers}
+use Rattle.sim.proofs.Facts.AnswerCases.{run_answers}
 use Rattle.sim.proofs.Simulator.run.Goals as goal
 
 pub returns : goal.returns

@@ -1,8 +1,7 @@
 use Rattle.std.proofs.Common.{rules}
-use mathlib.Core.Path.{refl}
 use native.Mathlib.Omega.{arith}
-use Rattle.sim.specs.Model.Engine.{task, conf}
-use Rattle.sim.proofs.Facts.TurnCases.{RunInv, loop_stop, loop_ok, loop_pos, loop_last, loop_next, len_then}
+use Rattle.sim.specs.Model.Engine.{task}
+use Rattle.sim.proofs.Facts.TurnCases.{loop_stop, loop_ok, loop_pos, loop_last, loop_next}
 use Rattle.sim.proofs.Facts.BurstCases.{same_run_inv}
 use Rattle.sim.proofs.Simulator.run_bursts.Goals as goal
 

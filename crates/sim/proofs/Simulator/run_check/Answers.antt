@@ -1,4 +1,3 @@
-use Rattle.std.proofs.Common.{rules}
 use mathlib.Core.List.{[]}
 use Rattle.sim.proofs.Facts.OperationCases.{run_refused, run_passed}
 use Rattle.sim.proofs.Simulator.run_check.Goals as goal

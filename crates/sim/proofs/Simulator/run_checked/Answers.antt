@@ -1,5 +1,3 @@
-use Rattle.std.proofs.Common.{rules}
-use Rattle.sim.proofs.Facts.AnswerCases.{ran_refused, ran_done}
 use Rattle.sim.proofs.Facts.OperationCases.{stride_ok, run_says, run_ok}
 use Rattle.sim.proofs.Simulator.run_checked.Goals as goal
 

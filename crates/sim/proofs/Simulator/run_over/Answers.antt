@@ -1,4 +1,3 @@
-use Rattle.std.proofs.Common.{rules}
 use Rattle.machine.proofs.Facts.Check.{ranges}
 use Rattle.sim.proofs.Simulator.run_over.Goals as goal
 

@@ -1,4 +1,3 @@
-use Rattle.std.proofs.Common.{rules}
 use Rattle.sim.proofs.Facts.AnswerCases.{fast_cleared, fast_answers}
 use Rattle.sim.proofs.Simulator.run_packed.Goals as goal
 

@@ -1,7 +1,4 @@
-use Rattle.std.proofs.Common.{rules}
-use mathlib.Core.Path.{refl, sym}
-use native.Mathlib.Omega.{arith}
-use lib.Seq.{length-take-le}
+use mathlib.Core.Path.{refl}
 use Rattle.sim.proofs.Facts.BurstCases.{small_words}
 use Rattle.sim.proofs.Simulator.run_small.Goals as goal
 

@@ -1,5 +1,4 @@
-use Rattle.std.proofs.Common.{rules}
-use Rattle.sim.proofs.Facts.AnswerCases.{run_cleared, step_answers}
+use Rattle.sim.proofs.Facts.AnswerCases.{step_answers}
 use Rattle.sim.proofs.Simulator.step.Goals as goal
 
 pub returns : goal.returns

@@ -1,4 +1,3 @@
-use Rattle.std.proofs.Common.{rules}
 use Rattle.sim.specs.Model.Operations.{value_check}
 use Rattle.notation.proofs.Facts.Tests.{tests, via}
 use Rattle.sim.proofs.Simulator.value_check.Goals as goal

@@ -1,4 +1,3 @@
-use Rattle.std.proofs.Common.{rules}
 use Rattle.sim.proofs.Facts.BurstCases.{misses_never, misses_from}
 use Rattle.sim.proofs.runs.stop_of.Goals as goal
 

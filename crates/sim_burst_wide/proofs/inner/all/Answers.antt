@@ -1,4 +1,3 @@
-use Rattle.std.proofs.Common.{rules}
 use Rattle.notation.proofs.Facts.Tests.{tests, via}
 use Rattle.sim_burst_wide.proofs.inner.all.Goals as goal
 

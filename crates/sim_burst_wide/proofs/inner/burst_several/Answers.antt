@@ -1,7 +1,5 @@
-use Rattle.std.proofs.Common.{rules}
 use borrow.Author.Tests.{not-false}
-use Rattle.sim_burst_wide.specs.Model.{Carried}
-use Rattle.sim_burst_wide.proofs.Facts.BurstCases.{heads_of, carried_start, carried_again, next_less}
+use Rattle.sim_burst_wide.proofs.Facts.BurstCases.{carried_start, carried_again}
 use Rattle.sim_burst_wide.proofs.inner.burst_several.Goals as goal
 
 pub loop-at-init : goal.loop-at-init

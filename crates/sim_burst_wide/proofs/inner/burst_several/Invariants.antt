@@ -1,6 +1,4 @@
-use borrow.Author.Tests.{not-false}
 use Rattle.sim_burst_wide.specs.Model.{Carried}
-use Rattle.sim_burst_wide.proofs.Facts.BurstCases.{heads_of, carried_start, carried_again, next_less}
 use Rattle.sim_burst_wide.proofs.inner.burst_several.Given as goal
 
 abbrev pub invariant-loop-at : goal.invariant-loop-at

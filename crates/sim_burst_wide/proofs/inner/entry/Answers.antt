@@ -1,6 +1,5 @@
-use Rattle.std.proofs.Common.{rules}
 use native.Mathlib.Omega.{arith}
-use Rattle.sim_burst_wide.proofs.Facts.BurstCases.{decoded_none, decoded_entry}
+use Rattle.sim_burst_wide.proofs.Facts.BurstCases.{decoded_entry}
 use Rattle.sim_burst_wide.proofs.inner.entry.Goals as goal
 
 pub returns : goal.returns

@@ -1,5 +1,4 @@
-use Rattle.std.proofs.Common.{rules}
-use Rattle.sim_burst_wide.proofs.Facts.BurstCases.{moved_tape_off, moved_tape_left}
+use Rattle.sim_burst_wide.proofs.Facts.BurstCases.{moved_tape_left}
 use Rattle.sim_burst_wide.proofs.inner.left.Goals as goal
 
 pub returns : goal.returns

@@ -1,4 +1,3 @@
-use Rattle.std.proofs.Common.{rules}
 use Rattle.sim_burst_wide.proofs.Facts.BurstCases.{next_steps}
 use Rattle.sim_burst_wide.proofs.inner.moved.Goals as goal
 

@@ -1,4 +1,3 @@
-use Rattle.std.proofs.Common.{rules}
 use Rattle.sim_burst_wide.proofs.Facts.BurstCases.{wrote_there, wrote_none}
 use Rattle.sim_burst_wide.proofs.inner.put.Goals as goal
 

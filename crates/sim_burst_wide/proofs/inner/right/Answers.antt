@@ -1,4 +1,3 @@
-use Rattle.std.proofs.Common.{rules}
 use Rattle.sim_burst_wide.proofs.Facts.BurstCases.{moved_tape_right}
 use Rattle.sim_burst_wide.proofs.inner.right.Goals as goal
 

@@ -1,6 +1,4 @@
-use Rattle.std.proofs.Common.{rules}
 use mathlib.Core.Path.{sym, ◌∙◌}
-use borrow.Author.Tests.{not-true, not-false}
 use Rattle.sim_slots.proofs.Facts.AdvanceCases.{again_asks, ends_ran, ends_tested}
 use Rattle.sim_slots.proofs.inner.advance.Goals as goal
 

@@ -1,5 +1,3 @@
-use Rattle.std.proofs.Common.{rules}
-use native.Mathlib.Omega.{arith}
 use Rattle.sim_slots.proofs.Facts.SlotCases.{fill_asks0, fill_asks1, fill_asks2, filled_is}
 use Rattle.sim_slots.proofs.inner.fill_all.Goals as goal
 

@@ -1,6 +1,4 @@
-use Rattle.std.proofs.Common.{rules}
 use Rattle.sim_slots.proofs.Facts.SlotCases.{fill_none, fill_some}
-use borrow.Author.Tests.{not-true, not-false}
 use Rattle.sim_slots.proofs.inner.fill_if.Goals as goal
 
 pub returns-then-not-has : goal.returns-then-not-has

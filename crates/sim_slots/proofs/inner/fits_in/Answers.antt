@@ -1,9 +1,6 @@
-use Rattle.std.proofs.Common.{rules}
-use native.Mathlib.Omega.{arith}
 use Rattle.sim_slots.proofs.Facts.SlotCases.{fits_second, fits_third}
 use Rattle.sim.specs.Model.Operations.{sim_fits}
 use Rattle.notation.proofs.Facts.Tests.{tests, via}
-use borrow.Author.Tests.{not-true, not-false}
 use Rattle.sim_slots.proofs.inner.fits_in.Goals as goal
 
 pub returns-then-m-q : goal.returns-then-m-q

@@ -1,4 +1,3 @@
-use Rattle.std.proofs.Common.{rules}
 use Rattle.sim_slots.specs.Model.Slots.{sim_in}
 use Rattle.sim_slots.proofs.inner.get_sim.Goals as goal
 

@@ -1,4 +1,3 @@
-use Rattle.std.proofs.Common.{rules}
 use Rattle.sim_slots.specs.Model.Slots.{tape_at}
 use Rattle.sim_slots.proofs.inner.get_tape.Goals as goal
 

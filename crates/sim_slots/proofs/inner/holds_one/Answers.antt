@@ -1,4 +1,3 @@
-use Rattle.std.proofs.Common.{rules}
 use Rattle.sim_slots.proofs.Facts.SlotCases.{holds_other, holds_fits}
 use Rattle.sim_slots.proofs.inner.holds_one.Goals as goal
 

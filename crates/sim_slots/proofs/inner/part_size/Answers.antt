@@ -1,4 +1,3 @@
-use Rattle.std.proofs.Common.{rules}
 use Rattle.notation.proofs.Facts.Tests.{tests}
 use Rattle.sim_slots.proofs.inner.part_size.Goals as goal
 

@@ -1,4 +1,3 @@
-use Rattle.std.proofs.Common.{rules}
 use Rattle.sim_slots.specs.Model.Slots.{put_held}
 use Rattle.sim_slots.proofs.inner.put_held.Goals as goal
 

@@ -1,6 +1,4 @@
-use Rattle.std.proofs.Common.{rules}
 use Rattle.sim_slots.proofs.Facts.SlotCases.{filled_asks, restored_none, restored_some}
-use borrow.Author.Tests.{not-true, not-false}
 use Rattle.sim_slots.proofs.inner.restore.Goals as goal
 
 pub returns-then-not-holds_one : goal.returns-then-not-holds_one

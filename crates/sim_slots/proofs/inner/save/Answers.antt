@@ -1,4 +1,3 @@
-use Rattle.std.proofs.Common.{rules}
 use native.Mathlib.Omega.{arith}
 use Rattle.sim_slots.proofs.Facts.SlotCases.{put_asks0, put_asks1, put_asks2, packed_is}
 use Rattle.sim_slots.proofs.inner.save.Goals as goal

@@ -1,4 +1,3 @@
-use Rattle.std.proofs.Common.{rules}
 use native.Mathlib.Omega.{arith}
 use Rattle.sim_slots.proofs.Facts.SlotCases.{sizes_small}
 use Rattle.sim_slots.proofs.inner.slot_size.Goals as goal

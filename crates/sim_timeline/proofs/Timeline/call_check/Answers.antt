@@ -1,4 +1,3 @@
-use Rattle.std.proofs.Common.{rules}
 use Rattle.timeline_rule.proofs.Facts.GoCases.{call_check_lem, call_later}
 use Rattle.sim_timeline.proofs.Facts.CallCases.{sizes_in, low_in}
 use Rattle.sim_slots.specs.Model.Kind.{plain_kind}

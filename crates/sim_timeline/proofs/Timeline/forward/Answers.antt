@@ -1,4 +1,3 @@
-use Rattle.std.proofs.Common.{rules}
 use Rattle.timeline_rule.proofs.Facts.CallCases.{forward_on}
 use Rattle.sim_slots.specs.Model.Kind.{plain_kind}
 use Rattle.sim_timeline.proofs.Timeline.forward.Goals as goal

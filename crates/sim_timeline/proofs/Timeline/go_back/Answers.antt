@@ -1,6 +1,4 @@
-use Rattle.std.proofs.Common.{rules}
 use Rattle.sim_timeline.proofs.Facts.CallCases.{back_refused, back_ready, back_done}
-use native.Mathlib.Omega.{arith}
 use Rattle.sim_timeline.proofs.Timeline.go_back.Goals as goal
 
 pub returns-in-Nothing : goal.returns-in-Nothing

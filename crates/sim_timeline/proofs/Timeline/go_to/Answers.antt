@@ -1,8 +1,6 @@
-use Rattle.std.proofs.Common.{rules}
-use Rattle.timeline_rule.proofs.Facts.GoCases.{to_here, to_back, to_on, to_loop}
+use Rattle.timeline_rule.proofs.Facts.GoCases.{to_here, to_back, to_on}
 use Rattle.sim_timeline.proofs.Facts.CallCases.{stay_asks}
 use Rattle.sim_slots.specs.Model.Kind.{plain_kind}
-use Rattle.sim_timeline.proofs.Facts.Engine.{plain_sound}
 use Rattle.sim_timeline.proofs.Timeline.go_to.Goals as goal
 
 pub advance-told-requires : goal.advance-told-requires

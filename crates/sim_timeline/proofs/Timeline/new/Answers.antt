@@ -1,4 +1,3 @@
-use Rattle.std.proofs.Common.{rules}
 use Rattle.timeline_rule.proofs.Facts.NewCases.{new_refused, new_passed, new_room, new_made}
 use Rattle.sim_timeline.proofs.Facts.CallCases.{passed-sizes, new_save}
 use Rattle.sim_slots.specs.Model.Kind.{plain_kind}

@@ -1,9 +1,7 @@
-use Rattle.std.proofs.Common.{rules}
-use Rattle.timeline_rule.proofs.Facts.TurnCases.{rec_fit, rec_low, rec_not, rec_more, rec_yes}
+use Rattle.timeline_rule.proofs.Facts.TurnCases.{rec_low, rec_not, rec_more, rec_yes}
 use Rattle.sim_timeline.proofs.Facts.CallCases.{rec_save}
 use Rattle.sim_timeline.proofs.Facts.Engine.{plain_sound}
 use Rattle.sim_slots.specs.Model.Kind.{plain_kind}
-use borrow.Author.Tests.{not-true, not-false}
 use native.Mathlib.Omega.{arith}
 use Rattle.sim_timeline.proofs.Timeline.record_due.Goals as goal
 

@@ -1,10 +1,4 @@
-use Rattle.std.proofs.Common.{rules}
-use Rattle.timeline_rule.proofs.Facts.GoCases.{back_small, back_inside}
 use Rattle.sim_timeline.proofs.Facts.CallCases.{rewind_found}
-use Rattle.sim_timeline.proofs.Facts.Engine.{plain_sound}
-use Rattle.sim_slots.specs.Model.Kind.{plain_kind}
-use native.Mathlib.Omega.{arith}
-use Rattle.sim_timeline.specs.Model.{Fits, with_lent}
 use Rattle.sim_timeline.proofs.Timeline.rewind.Goals as goal
 
 pub returns : goal.returns

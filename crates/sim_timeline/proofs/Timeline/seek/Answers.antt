@@ -1,4 +1,3 @@
-use Rattle.std.proofs.Common.{rules}
 use Rattle.timeline_rule.proofs.Facts.CallCases.{seek_none, seek_passed, seek_ready, seek_done}
 use Rattle.sim_timeline.proofs.Facts.CallCases.{passed-sizes}
 use Rattle.sim_slots.specs.Model.Kind.{plain_kind}

@@ -1,4 +1,3 @@
-use Rattle.std.proofs.Common.{rules}
 use Rattle.timeline_rule.proofs.Facts.GoCases.{new_check_lem, new_first}
 use Rattle.sim_timeline.proofs.Facts.CallCases.{sizes_in}
 use Rattle.sim_slots.specs.Model.Kind.{plain_kind}

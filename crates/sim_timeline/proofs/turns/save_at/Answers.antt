@@ -1,6 +1,4 @@
-use Rattle.std.proofs.Common.{rules}
 use Rattle.timeline_rule.proofs.Facts.TurnCases.{saved_is}
-use Rattle.sim_timeline.proofs.Facts.CallCases.{save_asks}
 use Rattle.sim_slots.specs.Model.Kind.{plain_kind}
 use native.Mathlib.Omega.{arith}
 use Rattle.sim_timeline.proofs.turns.save_at.Goals as goal

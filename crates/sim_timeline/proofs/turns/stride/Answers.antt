@@ -1,7 +1,4 @@
-use Rattle.std.proofs.Common.{rules}
-use Rattle.timeline_rule.proofs.Facts.TurnCases.{stride_is}
 use Rattle.sim_timeline.proofs.Facts.CallCases.{stride_asks}
-use Rattle.sim_slots.specs.Model.Kind.{plain_kind}
 use Rattle.sim_timeline.proofs.turns.stride.Goals as goal
 
 pub advance-requires : goal.advance-requires

@@ -1,8 +1,6 @@
-use Rattle.store_bytes.proofs.Facts.LoopCases.{copy_start, copy_turn, copy_end}
 use lib.Seq.{paste}
-use lib.ListN.{length, length-set}
-use native.Mathlib.Omega.{arith}
-use mathlib.Core.Path.{◌≡◌, refl}
+use lib.ListN.{length}
+use mathlib.Core.Path.{◌≡◌}
 use Prim.Native.Nat.{◌-◌, ◌≤◌}
 use Rattle.store_bytes.proofs.inner.copy_in.Given as goal
 

@@ -1,9 +1,6 @@
-use Rattle.store_bytes.proofs.Facts.LoopCases.{move_turn, move-end}
-use Rattle.store_bytes.proofs.Facts.Slots.{copied, copied_none}
+use Rattle.store_bytes.proofs.Facts.Slots.{copied}
 use lib.ListN.{length}
-use native.Mathlib.Omega.{arith}
-use native.Mathlib.Nat.{mul-le-mul_right}
-use mathlib.Core.Path.{◌≡◌, refl}
+use mathlib.Core.Path.{◌≡◌}
 use Prim.Native.Nat.{◌+◌, ◌-◌, ◌≤◌}
 use Rattle.store_bytes.proofs.inner.move_slot.Given as goal
 

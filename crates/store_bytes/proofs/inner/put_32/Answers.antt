@@ -1,4 +1,3 @@
-use Rattle.std.proofs.Common.{rules}
 use Rattle.store_bytes.specs.Bytes.{put32}
 use Rattle.store_bytes.proofs.inner.put_32.Goals as goal
 

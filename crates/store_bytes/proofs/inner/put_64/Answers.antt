@@ -1,4 +1,3 @@
-use Rattle.std.proofs.Common.{rules}
 use Rattle.store_bytes.specs.Bytes.{put64}
 use Rattle.store_bytes.proofs.inner.put_64.Goals as goal
 

@@ -1,8 +1,6 @@
-use Rattle.store_bytes.proofs.Facts.LoopCases.{thin_turn, thin_end, thin_room}
 use Rattle.store_bytes.specs.Model.{thin_by, move_slot}
 use lib.ListN.{length}
-use native.Mathlib.Omega.{arith}
-use mathlib.Core.Path.{◌≡◌, refl}
+use mathlib.Core.Path.{◌≡◌}
 use Prim.Native.Nat.{◌-◌, ◌≤◌}
 use Rattle.store_bytes.proofs.inner.thin.Given as goal
 

@@ -1,4 +1,3 @@
-use Rattle.std.proofs.Common.{rules}
 use native.Mathlib.Omega.{arith}
 use Rattle.symbol.proofs.Facts.Places.{index_in, index_before, index_past}
 use Rattle.symbol.proofs.position.index_of_raised.Goals as goal

@@ -1,4 +1,3 @@
-use Rattle.std.proofs.Common.{rules}
 use Rattle.table_bytes.proofs.Facts.EntryCases.{entry_zeros, entry_defined}
 use Rattle.table_bytes.proofs.inner.entry_ok.Goals as goal
 

@@ -1,12 +1,7 @@
-use Rattle.std.proofs.Common.{rules}
 use Rattle.notation.proofs.Facts.Scan.{first_next}
 use Rattle.symbol.proofs.Facts.Found.{first_found, first_nowhere}
-use Rattle.table_bytes.specs.Model.Entries.{entry_for}
-use borrow.Author.Tests.{not-true, not-false}
-use Rattle.notation.specs.Scan.{first_fail}
-use mathlib.Core.Path.{◌≡◌, sym, ◌∙◌}
+use mathlib.Core.Path.{sym, ◌∙◌}
 use native.Mathlib.Omega.{arith}
-use native.Mathlib.Nat.{sub-zero}
 use Prim.Native.Nat.{◌-◌}
 use Rattle.table_bytes.proofs.inner.first_bad.Goals as goal
 

@@ -1,11 +1,6 @@
-use Rattle.notation.proofs.Facts.Scan.{first_next}
-use Rattle.symbol.proofs.Facts.Found.{first_found, first_nowhere}
 use Rattle.table_bytes.specs.Model.Entries.{entry_for}
-use borrow.Author.Tests.{not-true, not-false}
 use Rattle.notation.specs.Scan.{first_fail}
-use mathlib.Core.Path.{◌≡◌, sym, ◌∙◌}
-use native.Mathlib.Omega.{arith}
-use native.Mathlib.Nat.{sub-zero}
+use mathlib.Core.Path.{◌≡◌}
 use Prim.Native.Nat.{◌-◌}
 use Rattle.table_bytes.proofs.inner.first_bad.Given as goal
 

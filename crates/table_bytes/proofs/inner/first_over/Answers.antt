@@ -1,13 +1,6 @@
-use Rattle.std.proofs.Common.{rules}
-use native.Mathlib.Omega.{arith}
 use Rattle.notation.proofs.Facts.Scan.{first_next}
 use Rattle.symbol.proofs.Facts.Found.{first_found, first_nowhere}
-use Rattle.symbol.specs.Kinds.{symbol_in}
-use Rattle.notation.specs.Scan.{first_fail}
 use borrow.Author.Tests.{lt-ltb, le-ltb}
-use lib.ListN.{length}
-use native.Mathlib.Nat.{sub-zero}
-use mathlib.Core.Path.{◌≡◌}
 use Prim.Native.Nat.{◌-◌}
 use Rattle.table_bytes.proofs.inner.first_over.Goals as goal
 

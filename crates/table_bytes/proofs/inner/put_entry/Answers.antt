@@ -1,6 +1,3 @@
-use Rattle.std.proofs.Common.{rules}
-use native.Mathlib.Omega.{arith}
-use lib.ListN.{length-set}
 use Rattle.table_bytes.proofs.Facts.Written.{entry_written}
 use Rattle.table_bytes.proofs.inner.put_entry.Goals as goal
 

@@ -1,6 +1,5 @@
-use Rattle.std.proofs.Common.{rules}
 use native.Mathlib.Omega.{arith}
-use Rattle.table_bytes.proofs.Facts.EntryCases.{square_fits, cube_fits, stride_one, stride_two, stride_three}
+use Rattle.table_bytes.proofs.Facts.EntryCases.{cube_fits, stride_one, stride_three}
 use Rattle.table_bytes.proofs.inner.stride.Goals as goal
 
 pub returns-then-tapes-eq1 : goal.returns-then-tapes-eq1

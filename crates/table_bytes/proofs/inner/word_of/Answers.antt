@@ -1,5 +1,4 @@
-use Rattle.std.proofs.Common.{rules}
-use Rattle.table_bytes.proofs.Facts.WordCases.{word_row_zero, word_row_holds, word_row_over, word_stride_over, row_fits}
+use Rattle.table_bytes.proofs.Facts.WordCases.{word_row_zero, word_row_holds, word_row_over, word_stride_over}
 use Rattle.table_bytes.proofs.inner.word_of.Goals as goal
 
 pub returns-then-next-eq0 : goal.returns-then-next-eq0

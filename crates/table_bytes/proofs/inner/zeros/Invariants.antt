@@ -1,8 +1,6 @@
 use Rattle.table_bytes.specs.Model.Entries.{zero_at}
-use Rattle.notation.proofs.Facts.Tests.{tests}
-use Rattle.notation.proofs.Facts.Scan.{all_hit, all_next, all_end}
 use Rattle.notation.specs.Scan.{all_in}
-use mathlib.Core.Path.{◌≡◌, refl}
+use mathlib.Core.Path.{◌≡◌}
 use Prim.Native.Nat.{◌*◌, ◌-◌}
 use Rattle.table_bytes.proofs.inner.zeros.Given as goal
 

@@ -1,4 +1,3 @@
-use Rattle.std.proofs.Common.{rules}
 use Rattle.table_text_form.proofs.Facts.Cases.{row_ended, row_goes_on}
 use Rattle.table_text.proofs.form.between.Goals as goal
 

@@ -1,4 +1,3 @@
-use Rattle.std.proofs.Common.{rules}
 use Rattle.table_text_form.proofs.Facts.Cases.{ends_as}
 use Rattle.table_text.proofs.form.ends.Goals as goal
 

@@ -1,4 +1,3 @@
-use Rattle.std.proofs.Common.{rules}
 use Rattle.notation.proofs.Facts.Tests.{tests, via}
 use Rattle.table_text_form.proofs.Facts.Cases.{begins_dash, begins_digit}
 use Rattle.table_text_form.specs.Form.{entry_begins}

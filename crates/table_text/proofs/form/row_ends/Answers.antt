@@ -1,4 +1,3 @@
-use Rattle.std.proofs.Common.{rules}
 use Rattle.notation.proofs.Facts.Tests.{tests, via}
 use Rattle.table_text_form.specs.Form.{row_ends}
 use Rattle.table_text.proofs.form.row_ends.Goals as goal

@@ -1,15 +1,8 @@
-use Rattle.std.proofs.Common.{rules}
-use mathlib.Core.Path.{◌≡◌, sym, subst, ◌∙◌}
-use Prim.Native.Nat.{◌-◌, ◌≤◌}
+use mathlib.Core.Path.{sym, subst, ◌∙◌}
+use Prim.Native.Nat.{◌-◌}
 use native.Mathlib.Omega.{arith}
-use lib.ListN.{length, drop}
-use Rattle.table_text_form.specs.Form.{scan, form_of}
 use Rattle.table_text_form.proofs.Facts.Good.{Good, good_first, good_rows, good_step}
 use Rattle.table_text_form.proofs.Facts.Cases.{scan_begins, scan_on, scan_stop, scan_formed, scan_early}
-use Rattle.table_text.proofs.form.ends.Reads as ends-reads
-use Rattle.table_text.proofs.form.made.Reads as made_reads
-use Rattle.table_text.proofs.form.step.Reads as step-reads
-use Rattle.table_text.proofs.form.width_of.Reads as width-of-reads
 use Rattle.table_text.proofs.form.scan.Goals as goal
 
 pub loop-i-init : goal.loop-i-init

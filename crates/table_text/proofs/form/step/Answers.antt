@@ -1,4 +1,3 @@
-use Rattle.std.proofs.Common.{rules}
 use Rattle.table_text_form.proofs.Facts.Cases.{step_as, step_made}
 use Rattle.notation.proofs.Facts.Tests.{itself}
 use Rattle.table_text.proofs.form.step.Goals as goal

@@ -1,7 +1,5 @@
-use Rattle.std.proofs.Common.{rules}
 use Rattle.table_text_reader.proofs.Facts.ReadCases.{entry_past, entry_inside}
-use Rattle.table_text_reader.proofs.Facts.Places.{text_in, text_entry}
-use native.Mathlib.Omega.{arith}
+use Rattle.table_text_reader.proofs.Facts.Places.{text_entry}
 use Rattle.table_text.proofs.reading.entry_in.Goals as goal
 
 pub returns-then-rows-symbols : goal.returns-then-rows-symbols

@@ -1,5 +1,4 @@
-use Rattle.std.proofs.Common.{rules}
-use Rattle.table_text_reader.proofs.Facts.ReadCases.{digit_low, letter_low, entry-made}
+use Rattle.table_text_reader.proofs.Facts.ReadCases.{entry-made}
 use Rattle.notation.proofs.Facts.Tests.{tests}
 use Rattle.table_text.proofs.reading.entry_of.Goals as goal
 

@@ -1,10 +1,7 @@
 use Rattle.table_text_reader.specs.Reading.{table_byte}
-use Rattle.notation.proofs.Facts.Fill.{fill_next, fill_end}
 use Rattle.notation.specs.Fill.{fill_from}
-use native.Mathlib.Nat.{sub-zero}
-use native.Mathlib.Omega.{arith}
-use lib.ListN.{length, length-set}
-use mathlib.Core.Path.{◌≡◌, refl}
+use lib.ListN.{length}
+use mathlib.Core.Path.{◌≡◌}
 use Prim.Native.Nat.{◌-◌}
 use Rattle.table_text.proofs.reading.fill_table.Given as goal
 

@@ -1,13 +1,8 @@
-use Rattle.std.proofs.Common.{rules}
 use Rattle.table_text_reader.specs.Reading.{has_byte}
 use Rattle.symbol.proofs.Facts.Found.{first_found, first_nowhere}
 use Rattle.notation.proofs.Facts.Scan.{first_next}
-use Rattle.notation.specs.Scan.{first_fail}
-use borrow.Author.Tests.{not-true, not-false}
-use mathlib.Core.Path.{◌≡◌, sym, ◌∙◌}
-use native.Mathlib.Nat.{sub-zero}
+use mathlib.Core.Path.{sym, ◌∙◌}
 use native.Mathlib.Omega.{arith}
-use lib.ListN.{length}
 use Prim.Native.Nat.{◌-◌}
 use Rattle.table_text.proofs.reading.first_lacking.Goals as goal
 

@@ -1,11 +1,6 @@
 use Rattle.table_text_reader.specs.Reading.{has_byte}
-use Rattle.symbol.proofs.Facts.Found.{first_found, first_nowhere}
-use Rattle.notation.proofs.Facts.Scan.{first_next}
 use Rattle.notation.specs.Scan.{first_fail}
-use borrow.Author.Tests.{not-true, not-false}
-use mathlib.Core.Path.{◌≡◌, sym, ◌∙◌}
-use native.Mathlib.Nat.{sub-zero}
-use native.Mathlib.Omega.{arith}
+use mathlib.Core.Path.{◌≡◌}
 use lib.ListN.{length}
 use Prim.Native.Nat.{◌-◌}
 use Rattle.table_text.proofs.reading.first_lacking.Given as goal

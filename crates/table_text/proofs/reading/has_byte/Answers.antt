@@ -1,4 +1,3 @@
-use Rattle.std.proofs.Common.{rules}
 use Rattle.notation.proofs.Facts.Tests.{tests}
 use Rattle.table_text_reader.specs.Reading.{has_byte}
 use Rattle.table_text.proofs.reading.has_byte.Goals as goal

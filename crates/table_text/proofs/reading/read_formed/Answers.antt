@@ -1,6 +1,4 @@
-use Rattle.std.proofs.Common.{rules}
-use Rattle.table_text_reader.proofs.Facts.ReadCases.{size_small, read_short, read_filled}
-use native.Mathlib.Omega.{arith}
+use Rattle.table_text_reader.proofs.Facts.ReadCases.{read_short, read_filled}
 use Rattle.table_text.proofs.reading.read_formed.Goals as goal
 
 pub returns-then-table-size : goal.returns-then-table-size

@@ -1,4 +1,3 @@
-use Rattle.std.proofs.Common.{rules}
 use Rattle.table_text_reader.proofs.Facts.ReadCases.{byte_undefined, byte_defined}
 use Rattle.table_text.proofs.reading.table_byte.Goals as goal
 

@@ -1,10 +1,6 @@
-use Rattle.std.proofs.Common.{rules}
-use Rattle.table_text_rows.specs.Rows.{moves_or, moves_at}
-use Rattle.notation.specs.Scan.{all_in}
-use native.Mathlib.Nat.{sub-zero}
+use Rattle.table_text_rows.specs.Rows.{moves_or}
 use Prim.Native.Nat.{◌-◌}
-use borrow.Author.Tests.{not-true, not-false}
-use mathlib.Core.Path.{◌≡◌, sym, ap, ◌∙◌}
+use mathlib.Core.Path.{sym, ap, ◌∙◌}
 use Rattle.notation.proofs.Facts.Scan.{all_hit, all_next, all_end}
 use Rattle.table_text.proofs.writing.all_move.Goals as goal
 

@@ -1,7 +1,4 @@
-use Rattle.std.proofs.Common.{rules}
 use Rattle.table_text_rows.specs.Rows.{has_line}
-use Rattle.table_text_writer.proofs.Facts.Fits.{product_small}
-use native.Mathlib.Omega.{arith}
 use Rattle.notation.proofs.Facts.Tests.{tests, via}
 use Rattle.table_text.proofs.writing.has_line.Goals as goal
 

@@ -1,4 +1,3 @@
-use Rattle.std.proofs.Common.{rules}
 use Rattle.table_text_rows.specs.Rows.{lettered_rows}
 use Rattle.notation.proofs.Facts.Tests.{tests, via}
 use Rattle.table_text.proofs.writing.lettered_rows.Goals as goal

@@ -1,9 +1,5 @@
-use Rattle.std.proofs.Common.{rules}
 use Rattle.table_text_writer.proofs.Facts.WriteCases.{byte_parts, byte_enters}
-use Rattle.table_text_writer.proofs.Facts.Fits.{product_small, printable_at}
-use native.Mathlib.Nat.{div-le_self, mod-le}
-use Prim.Native.Nat.{◌+◌, ◌*◌, ◌/◌}
-use native.Mathlib.Omega.{arith}
+use Rattle.table_text_writer.proofs.Facts.Fits.{printable_at}
 use Rattle.table_text.proofs.writing.line_byte.Goals as goal
 
 pub returns-then-c-symbols : goal.returns-then-c-symbols

@@ -1,11 +1,8 @@
-use Rattle.std.proofs.Common.{rules}
 use Rattle.table_text_writer.proofs.Facts.WriteCases.{row_begins}
-use Rattle.table_text_rows.specs.Rows.{is_undefined, undefined_at, row_undefined}
-use Rattle.notation.specs.Scan.{all_in}
-use Prim.Native.Nat.{◌-◌, ◌≤◌}
+use Rattle.table_text_rows.specs.Rows.{is_undefined}
+use Prim.Native.Nat.{◌-◌}
 use Rattle.table_text_writer.proofs.Facts.Fits.{product_small}
-use borrow.Author.Tests.{not-true, not-false}
-use mathlib.Core.Path.{◌≡◌, sym, ap, ◌∙◌}
+use mathlib.Core.Path.{sym, ap, ◌∙◌}
 use Rattle.notation.proofs.Facts.Scan.{all_hit, all_next, all_end}
 use native.Mathlib.Omega.{arith}
 use Rattle.table_text.proofs.writing.row_undefined.Goals as goal

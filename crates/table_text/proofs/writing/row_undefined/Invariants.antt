@@ -1,12 +1,7 @@
-use Rattle.table_text_writer.proofs.Facts.WriteCases.{row_begins}
-use Rattle.table_text_rows.specs.Rows.{is_undefined, undefined_at, row_undefined}
+use Rattle.table_text_rows.specs.Rows.{undefined_at, row_undefined}
 use Rattle.notation.specs.Scan.{all_in}
 use Prim.Native.Nat.{◌-◌, ◌≤◌}
-use Rattle.table_text_writer.proofs.Facts.Fits.{product_small}
-use borrow.Author.Tests.{not-true, not-false}
-use mathlib.Core.Path.{◌≡◌, sym, ap, ◌∙◌}
-use Rattle.notation.proofs.Facts.Scan.{all_hit, all_next, all_end}
-use native.Mathlib.Omega.{arith}
+use mathlib.Core.Path.{◌≡◌}
 use Rattle.table_text.proofs.writing.row_undefined.Given as goal
 
 abbrev pub invariant-loop-i : goal.invariant-loop-i

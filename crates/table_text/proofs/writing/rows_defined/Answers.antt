@@ -1,12 +1,6 @@
-use Rattle.std.proofs.Common.{rules}
 use Rattle.table_text_writer.proofs.Facts.WriteCases.{defined_not, defined_yes}
-use Rattle.table_text_rows.specs.Rows.{row_defined}
-use Rattle.notation.specs.Scan.{all_in}
-use native.Mathlib.Nat.{sub-zero}
 use Prim.Native.Nat.{◌-◌}
-use mathlib.Core.Path.{◌≡◌}
 use Rattle.notation.proofs.Facts.Scan.{all_hit, all_next, all_end}
-use native.Mathlib.Omega.{arith}
 use Rattle.table_text.proofs.writing.rows_defined.Goals as goal
 
 pub returns-then-row_undefined : goal.returns-then-row_undefined

@@ -1,4 +1,3 @@
-use Rattle.std.proofs.Common.{rules}
 use Rattle.notation.proofs.Facts.Tests.{tests, via}
 use borrow.Author.Tests.{not-false}
 use Rattle.tape.specs.Fits.{tape_fits}

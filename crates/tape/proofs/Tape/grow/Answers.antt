@@ -1,4 +1,3 @@
-use Rattle.std.proofs.Common.{rules}
 use Rattle.tape.proofs.Facts.MoveCases.{grow_fits, grow_left, grow_right, grow_none}
 use Rattle.tape.proofs.Tape.grow.Goals as goal
 

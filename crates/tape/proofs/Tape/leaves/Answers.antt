@@ -1,4 +1,3 @@
-use Rattle.std.proofs.Common.{rules}
 use Rattle.tape.proofs.Facts.MoveCases.{leaves_left, leaves_right, leaves_none}
 use Rattle.tape.proofs.Tape.leaves.Goals as goal
 

@@ -1,4 +1,3 @@
-use Rattle.std.proofs.Common.{rules}
 use Rattle.tape.proofs.Facts.MoveCases.{not_left, shift_left, shift_right, shift_none}
 use Rattle.tape.proofs.Tape.shifted.Goals as goal
 

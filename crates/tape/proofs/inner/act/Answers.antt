@@ -1,5 +1,3 @@
-use Rattle.std.proofs.Common.{rules}
-use mathlib.Core.Path.{sym, ◌∙◌}
 use native.Mathlib.Omega.{arith}
 use Rattle.tape.proofs.Facts.MoveCases.{act_none, act_inside, act_grown, grown_inside}
 use Rattle.tape.proofs.inner.act.Goals as goal

@@ -1,4 +1,3 @@
-use Rattle.std.proofs.Common.{rules}
 use mir.ValLaws.{to_z-of_z}
 use mir.Syntax.{w64}
 use Rattle.tape.proofs.Facts.QuestionCases.{find_none, find_left, find_right, find_here}

@@ -1,4 +1,3 @@
-use Rattle.std.proofs.Common.{rules}
 use Rattle.tape.proofs.Facts.MoveCases.{fresh-held}
 use Rattle.tape.proofs.inner.fresh.Goals as goal
 

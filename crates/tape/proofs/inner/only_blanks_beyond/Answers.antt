@@ -1,4 +1,3 @@
-use Rattle.std.proofs.Common.{rules}
 use Rattle.tape.proofs.Facts.QuestionCases.{beyond_left, beyond_right, beyond_none}
 use Rattle.tape.proofs.inner.only_blanks_beyond.Goals as goal
 

@@ -1,4 +1,3 @@
-use Rattle.std.proofs.Common.{rules}
 use Rattle.notation.proofs.Facts.Tests.{tests}
 use Rattle.tape.specs.Model.Moves.{read_of}
 use Rattle.tape.proofs.inner.read.Goals as goal

@@ -1,4 +1,3 @@
-use Rattle.std.proofs.Common.{rules}
 use Rattle.tape.proofs.Facts.MoveCases.{room_asked, room_given}
 use Rattle.tape.proofs.inner.room.Goals as goal
 

@@ -1,7 +1,6 @@
-use Rattle.std.proofs.Common.{rules}
 use mir.ValLaws.{to_z-of_z}
 use mir.Syntax.{w64}
-use Rattle.tape.proofs.Facts.QuestionCases.{found_fits, span_none, span_no_last, span_cells}
+use Rattle.tape.proofs.Facts.QuestionCases.{span_none, span_no_last, span_cells}
 use Rattle.tape.proofs.inner.span.Goals as goal
 
 pub returns-in-Nothing : goal.returns-in-Nothing

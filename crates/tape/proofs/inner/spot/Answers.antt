@@ -1,7 +1,6 @@
-use Rattle.std.proofs.Common.{rules}
 use mir.ValLaws.{to_z-of_z}
 use mir.Syntax.{w64}
-use Rattle.tape.proofs.Facts.QuestionCases.{found_fits, spot_none, spot_at}
+use Rattle.tape.proofs.Facts.QuestionCases.{spot_none, spot_at}
 use Rattle.tape.proofs.inner.spot.Goals as goal
 
 pub returns-in-Nothing : goal.returns-in-Nothing

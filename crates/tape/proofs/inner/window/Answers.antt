@@ -1,4 +1,3 @@
-use Rattle.std.proofs.Common.{rules}
 use mir.ValLaws.{to_z-of_z}
 use Rattle.tape.proofs.Facts.QuestionCases.{window_is}
 use Rattle.tape.proofs.inner.window.Goals as goal

@@ -1,10 +1,6 @@
-use native.Mathlib.Omega.{arith}
 use Prim.Native.Nat.{◌-◌}
 use mathlib.Core.Path.{◌≡◌}
 use Rattle.notation.specs.Scan.{all_in}
-use Rattle.notation.proofs.Facts.Scan.{all_hit, all_next, all_end}
-use Rattle.notation.proofs.Facts.Tests.{tests}
-use native.Mathlib.Nat.{sub-zero}
 use Rattle.symbol.specs.Kinds.{symbol_in}
 use Rattle.tape_cells.proofs.inner.all_below.Given as goal
 

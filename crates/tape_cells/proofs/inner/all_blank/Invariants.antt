@@ -1,8 +1,6 @@
 use Prim.Native.Nat.{◌-◌}
-use mathlib.Core.Path.{◌≡◌, refl}
+use mathlib.Core.Path.{◌≡◌}
 use Rattle.notation.specs.Scan.{all_in}
-use Rattle.notation.proofs.Facts.Scan.{all_hit, all_next, all_end}
-use Rattle.notation.proofs.Facts.Tests.{tests}
 use Rattle.tape_cells.specs.Model.{blank_at}
 use Rattle.tape_cells.proofs.inner.all_blank.Given as goal
 

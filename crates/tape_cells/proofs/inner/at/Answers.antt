@@ -1,5 +1,4 @@
-use Rattle.std.proofs.Common.{rules}
-use Rattle.tape_cells.proofs.Facts.LoopCases.{found_reach, found_at, found_none}
+use Rattle.tape_cells.proofs.Facts.LoopCases.{found_at, found_none}
 use Rattle.tape_cells.proofs.inner.at.Goals as goal
 
 pub returns-in-Nothing : goal.returns-in-Nothing

@@ -1,11 +1,9 @@
-use Rattle.std.proofs.Common.{rules}
 use Prim.Native.Nat.{◌-◌}
-use mathlib.Core.Path.{◌≡◌, refl}
+use mathlib.Core.Path.{refl}
 use lib.ListN.{length, length-set}
-use Rattle.notation.specs.Fill.{fill_from}
 use Rattle.notation.proofs.Facts.Fill.{fill_next, fill_end}
 use Rattle.notation.proofs.Facts.Tests.{tests}
-use Rattle.tape_cells.specs.Model.{blank_cell, blanked}
+use Rattle.tape_cells.specs.Model.{blanked}
 use native.Mathlib.Omega.{arith}
 use Rattle.tape_cells.proofs.inner.blank.Goals as goal
 

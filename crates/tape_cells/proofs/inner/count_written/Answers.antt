@@ -1,9 +1,7 @@
-use Rattle.std.proofs.Common.{rules}
-use Prim.Native.Nat.{◌≤◌, ◌-◌}
-use mathlib.Core.Path.{◌≡◌, refl}
+use Prim.Native.Nat.{◌-◌}
+use mathlib.Core.Path.{refl}
 use Rattle.notation.specs.ScanDown.{count_fails}
-use Rattle.notation.proofs.Facts.ScanDown.{count_turn, count_end}
-use Rattle.tape_cells.specs.Model.{blank_at}
+use Rattle.notation.proofs.Facts.ScanDown.{count_turn}
 use native.Mathlib.Omega.{arith}
 use Rattle.tape_cells.proofs.inner.count_written.Goals as goal
 

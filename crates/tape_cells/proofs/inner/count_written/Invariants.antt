@@ -1,9 +1,7 @@
 use Prim.Native.Nat.{◌≤◌, ◌-◌}
-use mathlib.Core.Path.{◌≡◌, refl}
+use mathlib.Core.Path.{◌≡◌}
 use Rattle.notation.specs.ScanDown.{count_fails}
-use Rattle.notation.proofs.Facts.ScanDown.{count_turn, count_end}
 use Rattle.tape_cells.specs.Model.{blank_at}
-use native.Mathlib.Omega.{arith}
 use Rattle.tape_cells.proofs.inner.count_written.Given as goal
 
 abbrev pub invariant-loop-i : goal.invariant-loop-i

@@ -1,10 +1,7 @@
-use Rattle.std.proofs.Common.{rules}
 use Prim.Native.Nat.{◌-◌}
-use mathlib.Core.Path.{◌≡◌, refl}
-use Rattle.notation.specs.Scan.{first_fail}
 use Rattle.notation.proofs.Facts.Scan.{first_next}
 use Rattle.symbol.proofs.Facts.Found.{first_found, first_nowhere}
-use Rattle.tape_cells.specs.Model.{blank_at, first_written}
+use Rattle.tape_cells.specs.Model.{first_written}
 use borrow.Author.Tests.{eq-eqb, ne_eqb}
 use Rattle.tape_cells.proofs.inner.first_written.Goals as goal
 

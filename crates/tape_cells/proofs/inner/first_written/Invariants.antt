@@ -1,10 +1,7 @@
 use Prim.Native.Nat.{◌-◌}
-use mathlib.Core.Path.{◌≡◌, refl}
+use mathlib.Core.Path.{◌≡◌}
 use Rattle.notation.specs.Scan.{first_fail}
-use Rattle.notation.proofs.Facts.Scan.{first_next}
-use Rattle.symbol.proofs.Facts.Found.{first_found, first_nowhere}
-use Rattle.tape_cells.specs.Model.{blank_at, first_written}
-use borrow.Author.Tests.{eq-eqb, ne_eqb}
+use Rattle.tape_cells.specs.Model.{blank_at}
 use Rattle.tape_cells.proofs.inner.first_written.Given as goal
 
 abbrev pub invariant-loop-i : goal.invariant-loop-i

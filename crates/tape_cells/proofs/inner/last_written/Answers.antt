@@ -1,10 +1,6 @@
-use Rattle.std.proofs.Common.{rules}
-use Prim.Native.Nat.{◌≤◌}
-use mathlib.Core.Path.{◌≡◌, refl}
-use Rattle.notation.specs.ScanDown.{last_fail}
 use Rattle.notation.proofs.Facts.ScanDown.{last_next}
 use Rattle.symbol.proofs.Facts.Found.{last_found, last_nowhere}
-use Rattle.tape_cells.specs.Model.{blank_at, last_written}
+use Rattle.tape_cells.specs.Model.{last_written}
 use borrow.Author.Tests.{eq-eqb, ne_eqb}
 use native.Mathlib.Omega.{arith}
 use Rattle.tape_cells.proofs.inner.last_written.Goals as goal

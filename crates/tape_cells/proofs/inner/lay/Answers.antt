@@ -1,12 +1,10 @@
 use Rattle.std.proofs.Common.{rules}
-use Prim.Native.Nat.{◌≤◌, ◌+◌, ◌-◌}
-use mathlib.Core.Path.{◌≡◌, refl}
+use Prim.Native.Nat.{◌-◌}
+use mathlib.Core.Path.{refl}
 use lib.ListN.{length, length-set}
-use Rattle.notation.specs.Fill.{fill_from}
 use Rattle.notation.proofs.Facts.Fill.{fill_next, fill_end}
 use Rattle.notation.proofs.Facts.Tests.{tests}
 use Rattle.tape_cells.proofs.Facts.LoopCases.{lay-start}
-use Rattle.tape_cells.specs.Model.{placed, laid}
 use native.Mathlib.Omega.{arith}
 use Rattle.tape_cells.proofs.inner.lay.Goals as goal
 

@@ -1,10 +1,7 @@
-use Rattle.std.proofs.Common.{rules}
-use Prim.Native.Nat.{◌≤◌, ◌+◌, ◌-◌}
-use mathlib.Core.Path.{◌≡◌, refl}
+use Prim.Native.Nat.{◌-◌}
+use mathlib.Core.Path.{refl}
 use lib.ListN.{length, length-set}
-use Rattle.notation.specs.Fill.{fill_from}
 use Rattle.tape_cells.proofs.Facts.LoopCases.{copy_start, copy_turn, copy_end}
-use Rattle.tape_cells.specs.Model.{placed}
 use native.Mathlib.Omega.{arith}
 use Rattle.tape_cells.proofs.inner.move_up.Goals as goal
 

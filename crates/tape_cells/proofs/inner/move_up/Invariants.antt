@@ -1,10 +1,8 @@
 use Prim.Native.Nat.{◌≤◌, ◌+◌, ◌-◌}
-use mathlib.Core.Path.{◌≡◌, refl}
-use lib.ListN.{length, length-set}
+use mathlib.Core.Path.{◌≡◌}
+use lib.ListN.{length}
 use Rattle.notation.specs.Fill.{fill_from}
-use Rattle.tape_cells.proofs.Facts.LoopCases.{copy_start, copy_turn, copy_end}
 use Rattle.tape_cells.specs.Model.{placed}
-use native.Mathlib.Omega.{arith}
 use Rattle.tape_cells.proofs.inner.move_up.Given as goal
 
 abbrev pub invariant-loop-i : goal.invariant-loop-i

@@ -1,4 +1,3 @@
-use Rattle.std.proofs.Common.{rules}
 use mir.ValLaws.{to_z-of_z}
 use Rattle.tape_positions.proofs.Facts.Cases.{index_reach, cell_at_lem}
 use Rattle.tape_positions.proofs.inner.cell.Goals as goal

@@ -1,4 +1,3 @@
-use Rattle.std.proofs.Common.{rules}
 use Rattle.tape_positions.proofs.Facts.Cases.{index_reach, raised_over, raised_at_holds}
 use native.Mathlib.Omega.{arith}
 use Rattle.tape_positions.proofs.inner.cell_above.Goals as goal

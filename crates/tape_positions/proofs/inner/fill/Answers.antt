@@ -1,11 +1,7 @@
 use Rattle.std.proofs.Common.{rules}
 use Prim.Native.Nat.{◌-◌}
-use mathlib.Core.Path.{◌≡◌, refl}
-use native.Mathlib.Nat.{sub-zero}
 use lib.ListN.{length, length-set}
-use Rattle.notation.specs.Fill.{fill_from}
 use Rattle.notation.proofs.Facts.Fill.{fill_end}
-use Rattle.tape_positions.specs.Model.{place_of, window_from}
 use Rattle.tape_positions.proofs.Facts.Cases.{window_turn}
 use native.Mathlib.Omega.{arith}
 use Rattle.tape_positions.proofs.inner.fill.Goals as goal

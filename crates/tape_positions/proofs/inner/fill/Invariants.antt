@@ -1,12 +1,8 @@
 use Prim.Native.Nat.{◌-◌}
-use mathlib.Core.Path.{◌≡◌, refl}
-use native.Mathlib.Nat.{sub-zero}
-use lib.ListN.{length, length-set}
+use mathlib.Core.Path.{◌≡◌}
+use lib.ListN.{length}
 use Rattle.notation.specs.Fill.{fill_from}
-use Rattle.notation.proofs.Facts.Fill.{fill_end}
 use Rattle.tape_positions.specs.Model.{place_of, window_from}
-use Rattle.tape_positions.proofs.Facts.Cases.{window_turn}
-use native.Mathlib.Omega.{arith}
 use Rattle.tape_positions.proofs.inner.fill.Given as goal
 
 abbrev pub invariant-loop-j : goal.invariant-loop-j

@@ -1,4 +1,3 @@
-use Rattle.std.proofs.Common.{rules}
 use native.Mathlib.Omega.{arith}
 use mir.ValLaws.{to_z-of_z}
 use Rattle.tape_positions.proofs.Facts.Cases.{last_is}

@@ -1,5 +1,4 @@
-use Rattle.std.proofs.Common.{rules, ap, not}
-use native.Mathlib.Omega.{arith}
+use Rattle.std.proofs.Common.{ap, not}
 use Rattle.notation.proofs.Facts.Tests.{tests, via}
 use Rattle.notation.specs.Limits.{interval_most}
 use Rattle.timeline_rule.specs.Model.Timeline.{times_ok}

@@ -1,6 +1,4 @@
-use Rattle.std.proofs.Common.{rules}
-use native.Mathlib.Omega.{arith}
-use Rattle.timeline_rule.proofs.Facts.DueCases.{thin_keep, thin_half, half_room}
+use Rattle.timeline_rule.proofs.Facts.DueCases.{thin_keep, thin_half}
 use Rattle.timeline_rule.proofs.Times.thinned.Goals as goal
 
 pub returns-then-n-self : goal.returns-then-n-self

@@ -1,6 +1,5 @@
 use Rattle.std.proofs.Common.{rules}
-use native.Mathlib.Omega.{arith}
-use Rattle.timeline_rule.proofs.Facts.DueCases.{due_product, due-near}
+use Rattle.timeline_rule.proofs.Facts.DueCases.{due-near}
 use Rattle.timeline_rule.proofs.inner.due.Goals as goal
 
 pub returns : goal.returns

@@ -1,6 +1,5 @@
 use Rattle.std.proofs.Common.{rules}
-use native.Mathlib.Omega.{arith}
-use Rattle.timeline_rule.proofs.Facts.DueCases.{due_small, due_yes, due_no}
+use Rattle.timeline_rule.proofs.Facts.DueCases.{due_yes, due_no}
 use Rattle.timeline_rule.proofs.inner.far_due.Goals as goal
 
 pub returns-then-count-room : goal.returns-then-count-room

@@ -1,4 +1,3 @@
-use Rattle.std.proofs.Common.{rules}
 use Rattle.timeline_rule.proofs.Facts.CheckCases.{first_settings, first_store, first_passed}
 use borrow.Author.Tests.{not-true, not-false}
 use Rattle.timeline_rule.proofs.inner.first_check.Goals as goal

@@ -1,4 +1,3 @@
-use Rattle.std.proofs.Common.{rules}
 use Rattle.timeline_rule.proofs.Facts.DueCases.{due_tells}
 use Rattle.timeline_rule.proofs.inner.is_due.Goals as goal
 

@@ -1,4 +1,3 @@
-use Rattle.std.proofs.Common.{rules}
 use Rattle.timeline_rule.proofs.Facts.CheckCases.{later_settings_holds, later_store, later_limit, later_passed}
 use borrow.Author.Tests.{not-true, not-false}
 use Rattle.timeline_rule.proofs.inner.later_check.Goals as goal

@@ -1,4 +1,3 @@
-use Rattle.std.proofs.Common.{rules}
 use Rattle.timeline_rule.proofs.Facts.DueCases.{stop_target, stop_due}
 use Rattle.timeline_rule.proofs.inner.stop.Goals as goal
 

@@ -1,4 +1,3 @@
-use Rattle.std.proofs.Common.{rules}
 use Rattle.timeline_rule.proofs.Facts.WhichCases.{target_seek, target_forward, target_back}
 use Rattle.timeline_rule.proofs.inner.target_of.Goals as goal
 

@@ -1,4 +1,3 @@
-use Rattle.std.proofs.Common.{rules}
 use Rattle.machine.proofs.Facts.PackingCases.{action_of_holds}
 use Rattle.machine.proofs.packed.Packed.action.Goals as goal
 

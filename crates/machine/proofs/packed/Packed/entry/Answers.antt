@@ -1,4 +1,3 @@
-use Rattle.std.proofs.Common.{rules}
 use Rattle.machine.proofs.Facts.PackingCases.{entry_of_holds, entry_of_none}
 use Rattle.machine.proofs.packed.Packed.entry.Goals as goal
 

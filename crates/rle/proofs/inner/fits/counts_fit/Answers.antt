@@ -1,4 +1,3 @@
-use Rattle.std.proofs.Common.{rules}
 use Rattle.notation.proofs.Facts.Tests.{tests, via}
 use Rattle.rle.specs.Fits.{counts_fit}
 use Rattle.rle.proofs.inner.fits.counts_fit.Goals as goal

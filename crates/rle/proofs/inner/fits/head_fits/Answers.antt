@@ -1,4 +1,3 @@
-use Rattle.std.proofs.Common.{rules}
 use Rattle.notation.proofs.Facts.Tests.{tests}
 use Rattle.rle.specs.Fits.{head_fits}
 use Rattle.rle.proofs.inner.fits.head_fits.Goals as goal

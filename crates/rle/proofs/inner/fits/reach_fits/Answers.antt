@@ -1,4 +1,3 @@
-use Rattle.std.proofs.Common.{rules}
 use Rattle.rle.proofs.Facts.FitsCases.{reach-left, reach_right}
 use Rattle.rle.proofs.inner.fits.reach_fits.Goals as goal
 

@@ -1,4 +1,3 @@
-use Rattle.std.proofs.Common.{rules}
 use Rattle.notation.proofs.Facts.Tests.{tests}
 use Rattle.rle_macro.proofs.inner.macro_step.all_or_one.Goals as goal
 

@@ -1,4 +1,3 @@
-use Rattle.std.proofs.Common.{rules}
 use native.Mathlib.Omega.{arith}
 use Rattle.rle_stack.proofs.Facts.Sides.{take-fewer}
 use Rattle.rle_macro.proofs.Facts.MacroStepCases.{carry_made}

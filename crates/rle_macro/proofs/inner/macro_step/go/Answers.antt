@@ -1,7 +1,5 @@
-use Rattle.std.proofs.Common.{rules}
 use native.Mathlib.Omega.{arith}
-use mathlib.Core.Path.{◌∙◌, sym, ap}
-use Rattle.rle_stack.specs.Model.{side, lacks}
+use Rattle.rle_stack.specs.Model.{lacks}
 use Rattle.rle_macro.proofs.Facts.MacroStepCases.{reach_some, go_full, go_goes}
 use Rattle.rle_macro.proofs.inner.macro_step.go.Goals as goal
 

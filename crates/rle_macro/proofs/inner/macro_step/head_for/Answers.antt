@@ -1,4 +1,3 @@
-use Rattle.std.proofs.Common.{rules}
 use Rattle.rle_macro.proofs.Facts.MacroStepCases.{head_left, head_right, head_stays}
 use Rattle.rle_macro.proofs.inner.macro_step.head_for.Goals as goal
 

@@ -1,4 +1,3 @@
-use Rattle.std.proofs.Common.{rules}
 use Rattle.rle_macro.proofs.Facts.MacroStepCases.{loops_left, loops_right, loops_stays}
 use Rattle.rle_macro.proofs.inner.macro_step.loops.Goals as goal
 

@@ -1,4 +1,3 @@
-use Rattle.std.proofs.Common.{rules}
 use Rattle.rle_macro.proofs.Facts.MacroStepCases.{make_left, make_right, make_stays}
 use Rattle.rle_macro.proofs.inner.macro_step.make.Goals as goal
 

@@ -1,4 +1,3 @@
-use Rattle.std.proofs.Common.{rules}
 use Rattle.rle_macro.proofs.Facts.MacroStepCases.{proof_left, proof_right, proof_stays}
 use Rattle.rle_macro.proofs.inner.macro_step.proof_of.Goals as goal
 

@@ -1,4 +1,4 @@
-use Rattle.std.proofs.Common.{rules, ap, not}
+use Rattle.std.proofs.Common.{ap, not}
 use Rattle.rle_stack.specs.Model.{side}
 use native.Mathlib.Omega.{arith}
 use Rattle.rle_stack.proofs.Facts.Sides.{ahead_within}

@@ -1,4 +1,3 @@
-use Rattle.std.proofs.Common.{rules}
 use Rattle.rle_macro.proofs.Facts.MacroStepCases.{walks_reads, walks_meets}
 use Rattle.rle_macro.proofs.inner.macro_step.walks.Goals as goal
 

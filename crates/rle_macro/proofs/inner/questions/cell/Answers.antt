@@ -1,4 +1,3 @@
-use Rattle.std.proofs.Common.{rules}
 use Rattle.rle_macro.proofs.Facts.QuestionCases.{cell_head, cell_left, cell_right}
 use Rattle.rle_macro.proofs.inner.questions.cell.Goals as goal
 

@@ -1,4 +1,3 @@
-use Rattle.std.proofs.Common.{rules}
 use Rattle.rle_macro.proofs.Facts.QuestionCases.{count_blank, count_one}
 use Rattle.rle_macro.proofs.inner.questions.count.Goals as goal
 

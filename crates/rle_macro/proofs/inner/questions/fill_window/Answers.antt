@@ -1,13 +1,11 @@
 use Rattle.std.proofs.Common.{rules}
 use native.Mathlib.Omega.{arith}
 use Prim.Native.Nat.{◌-◌}
-use mathlib.Core.Path.{◌≡◌, refl}
+use mathlib.Core.Path.{refl}
 use native.Mathlib.Nat.{sub-zero}
 use lib.ListN.{length, length-set}
-use Rattle.notation.specs.Fill.{fill_from}
 use Rattle.notation.proofs.Facts.Fill.{fill_next, fill_end}
-use Rattle.rle_stack.specs.Model.{side}
-use Rattle.rle_macro.specs.Model.Questions.{window_on, window_all}
+use Rattle.rle_macro.specs.Model.Questions.{window_all}
 use Rattle.rle_macro.proofs.inner.questions.fill_window.Goals as goal
 
 pub loop-j-init : goal.loop-j-init

@@ -1,4 +1,3 @@
-use Rattle.std.proofs.Common.{rules}
 use native.Mathlib.Omega.{arith}
 use Rattle.rle_macro.proofs.Facts.QuestionCases.{window_past, window_cell_holds}
 use Rattle.rle_macro.proofs.inner.questions.window_cell.Goals as goal

@@ -1,5 +1,3 @@
-use Rattle.std.proofs.Common.{rules}
-use borrow.Author.Tests.{not-true, not-false}
 use mathlib.Core.Path.{sym, ◌∙◌}
 use Rattle.machine.proofs.Facts.Word.{word_says}
 use Rattle.rle_counts.proofs.Facts.WordCases.{fresh_table, fresh_tapes, fresh_word, fresh_small, fresh_passed}

@@ -1,4 +1,3 @@
-use Rattle.std.proofs.Common.{rules}
 use Rattle.rle_counts.proofs.Facts.WordCases.{sizes_left, sizes_right, sizes_runs}
 use Rattle.rle_macro.proofs.inner.word.fresh_sizes.Goals as goal
 

@@ -1,7 +1,4 @@
-use Rattle.std.proofs.Common.{rules}
-use native.Mathlib.Omega.{arith}
-use Rattle.rle_stack.specs.Model.{side, places_of}
-use Rattle.rle_counts.proofs.Facts.WordCases.{Laying, laying_start, laying_asks, laying_on, laying_end}
+use Rattle.rle_counts.proofs.Facts.WordCases.{laying_start, laying_asks, laying_on, laying_end}
 use Rattle.rle_macro.proofs.inner.word.lay.Goals as goal
 
 pub loop-i-init : goal.loop-i-init

@@ -1,6 +1,5 @@
-use native.Mathlib.Omega.{arith}
 use Rattle.rle_stack.specs.Model.{side, places_of}
-use Rattle.rle_counts.proofs.Facts.WordCases.{Laying, laying_start, laying_asks, laying_on, laying_end}
+use Rattle.rle_counts.proofs.Facts.WordCases.{Laying}
 use Rattle.rle_macro.proofs.inner.word.lay.Given as goal
 
 abbrev pub invariant-loop-i : goal.invariant-loop-i

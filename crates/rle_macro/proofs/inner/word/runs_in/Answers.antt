@@ -1,9 +1,5 @@
-use Rattle.std.proofs.Common.{rules}
 use native.Mathlib.Omega.{arith}
-use Prim.Native.Nat.{◌+◌, ◌-◌, ◌≤◌}
-use mathlib.Core.Path.{◌≡◌, refl}
-use lib.ListN.{length}
-use Rattle.rle_counts.specs.Model.Words.{runs_of}
+use Prim.Native.Nat.{◌-◌}
 use Rattle.rle_counts.proofs.Facts.WordCases.{runs_next, runs-end}
 use Rattle.rle_macro.proofs.inner.word.runs_in.Goals as goal
 

@@ -1,9 +1,7 @@
-use native.Mathlib.Omega.{arith}
 use Prim.Native.Nat.{◌+◌, ◌-◌, ◌≤◌}
-use mathlib.Core.Path.{◌≡◌, refl}
+use mathlib.Core.Path.{◌≡◌}
 use lib.ListN.{length}
 use Rattle.rle_counts.specs.Model.Words.{runs_of}
-use Rattle.rle_counts.proofs.Facts.WordCases.{runs_next, runs-end}
 use Rattle.rle_macro.proofs.inner.word.runs_in.Given as goal
 
 abbrev pub invariant-loop-i : goal.invariant-loop-i

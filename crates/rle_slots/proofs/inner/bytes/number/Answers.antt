@@ -1,4 +1,3 @@
-use Rattle.std.proofs.Common.{rules}
 use Rattle.rle_slots.proofs.Facts.SlotCases.{number_here}
 use Rattle.rle_slots.proofs.inner.bytes.number.Goals as goal
 

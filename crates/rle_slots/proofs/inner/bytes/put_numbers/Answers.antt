@@ -1,10 +1,7 @@
-use Rattle.std.proofs.Common.{rules}
-use Rattle.rle_slots.proofs.Facts.SlotCases.{numbers_start, numbers_turn, numbers_end}
-use Rattle.rle_slots.specs.Model.Slots.{put_numbers}
-use mathlib.Core.Path.{◌≡◌, refl}
-use Prim.Native.Nat.{◌-◌, ◌≤◌}
+use Rattle.rle_slots.proofs.Facts.SlotCases.{numbers_start, numbers_turn}
+use mathlib.Core.Path.{refl}
+use Prim.Native.Nat.{◌-◌}
 use native.Mathlib.Omega.{arith}
-use lib.ListN.{length}
 use Rattle.rle_slots.proofs.inner.bytes.put_numbers.Goals as goal
 
 pub loop-i-init : goal.loop-i-init

@@ -1,8 +1,6 @@
-use Rattle.rle_slots.proofs.Facts.SlotCases.{numbers_start, numbers_turn, numbers_end}
 use Rattle.rle_slots.specs.Model.Slots.{put_numbers}
-use mathlib.Core.Path.{◌≡◌, refl}
+use mathlib.Core.Path.{◌≡◌}
 use Prim.Native.Nat.{◌-◌, ◌≤◌}
-use native.Mathlib.Omega.{arith}
 use lib.ListN.{length}
 use Rattle.rle_slots.proofs.inner.bytes.put_numbers.Given as goal
 

@@ -1,12 +1,7 @@
-use Rattle.std.proofs.Common.{rules}
 use Rattle.rle_slots.proofs.Facts.SlotCases.{take_turn}
-use Rattle.store_bytes.proofs.Facts.LoopCases.{copy_end}
-use Rattle.rle_slots.specs.Model.Slots.{numbers_in}
-use mathlib.Core.Path.{◌≡◌, refl}
-use Prim.Native.Nat.{◌-◌, ◌≤◌}
+use Prim.Native.Nat.{◌-◌}
 use native.Mathlib.Omega.{arith}
 use lib.ListN.{length, length-set}
-use lib.Seq.{paste}
 use Rattle.rle_slots.proofs.inner.bytes.take_numbers.Goals as goal
 
 pub loop-i-preserved : goal.loop-i-preserved

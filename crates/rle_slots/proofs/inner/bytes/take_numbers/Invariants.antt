@@ -1,10 +1,7 @@
-use Rattle.rle_slots.proofs.Facts.SlotCases.{take_turn}
-use Rattle.store_bytes.proofs.Facts.LoopCases.{copy_end}
 use Rattle.rle_slots.specs.Model.Slots.{numbers_in}
-use mathlib.Core.Path.{◌≡◌, refl}
+use mathlib.Core.Path.{◌≡◌}
 use Prim.Native.Nat.{◌-◌, ◌≤◌}
-use native.Mathlib.Omega.{arith}
-use lib.ListN.{length, length-set}
+use lib.ListN.{length}
 use lib.Seq.{paste}
 use Rattle.rle_slots.proofs.inner.bytes.take_numbers.Given as goal
 

@@ -1,10 +1,6 @@
-use Rattle.std.proofs.Common.{rules}
-use Prim.Native.Nat.{◌-◌, ◌≤◌}
-use mathlib.Core.Path.{◌≡◌}
+use Prim.Native.Nat.{◌-◌}
 use native.Mathlib.Omega.{arith}
-use Rattle.rle_stack.specs.Model.{sum_of}
-use Rattle.rle_stack.proofs.Facts.Sides.{sum_over, sum_next, sum_none, sum_all}
-use Rattle.rle_slots.specs.Model.Slots.{numbers_in}
+use Rattle.rle_stack.proofs.Facts.Sides.{sum_over, sum_next, sum_none}
 use Rattle.rle_slots.proofs.inner.held.cells.Goals as goal
 
 pub loop-i-init : goal.loop-i-init

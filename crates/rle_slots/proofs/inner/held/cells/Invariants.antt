@@ -1,8 +1,6 @@
 use Prim.Native.Nat.{◌-◌, ◌≤◌}
 use mathlib.Core.Path.{◌≡◌}
-use native.Mathlib.Omega.{arith}
 use Rattle.rle_stack.specs.Model.{sum_of}
-use Rattle.rle_stack.proofs.Facts.Sides.{sum_over, sum_next, sum_none, sum_all}
 use Rattle.rle_slots.specs.Model.Slots.{numbers_in}
 use Rattle.rle_slots.proofs.inner.held.cells.Given as goal
 

@@ -1,7 +1,5 @@
-use Rattle.std.proofs.Common.{rules}
 use Rattle.rle.proofs.Facts.FitsCases.{fits_counts, fits_head, fits_left, fits_right, fits_reach, counts_steps}
 use Rattle.rle_slots.proofs.Facts.SlotCases.{lefts_are, rights_are}
-use borrow.Author.Tests.{not-true, not-false}
 use native.Mathlib.Omega.{arith}
 use Rattle.rle_slots.proofs.inner.held.fits_in.Goals as goal
 

@@ -1,7 +1,4 @@
-use Rattle.std.proofs.Common.{rules}
 use Rattle.rle_counts.proofs.Facts.SumCases.{measure_places, measure_runs, measure_sum}
-use borrow.Author.Tests.{not-true, not-false}
-use native.Mathlib.Omega.{arith}
 use Rattle.rle_slots.proofs.inner.held.measure.Goals as goal
 
 pub returns-then-places-count : goal.returns-then-places-count

@@ -1,7 +1,4 @@
-use Rattle.std.proofs.Common.{rules}
 use Rattle.rle_slots.proofs.Facts.SlotCases.{peek_other, peek_misfit, peek_holds}
-use borrow.Author.Tests.{not-true, not-false}
-use native.Mathlib.Omega.{arith}
 use Rattle.rle_slots.proofs.inner.held.peek.Goals as goal
 
 pub returns-then-sim-step : goal.returns-then-sim-step

@@ -1,4 +1,3 @@
-use Rattle.std.proofs.Common.{rules}
 use Rattle.rle_stack.proofs.Facts.SideCases.{run_empty, run-over, run_rest}
 use mathlib.Core.Path.{sym, ◌∙◌}
 use Rattle.rle_slots.proofs.inner.held.run_fits.Goals as goal

@@ -1,12 +1,7 @@
-use Rattle.std.proofs.Common.{rules}
 use Prim.Native.Nat.{◌-◌}
-use mathlib.Core.Path.{◌≡◌, sym, ◌∙◌}
-use borrow.Author.Tests.{not-true, not-false}
-use Rattle.notation.specs.Scan.{all_in}
+use mathlib.Core.Path.{sym, ◌∙◌}
 use Rattle.notation.proofs.Facts.Scan.{all_hit, all_next, all_end}
-use native.Mathlib.Nat.{sub-zero}
 use Rattle.rle_stack.specs.Model.{run_fits, runs_fit}
-use Rattle.rle_slots.specs.Model.Slots.{numbers_in}
 use Rattle.rle_slots.proofs.inner.held.runs_fit.Goals as goal
 
 pub returns-then-not-run_fits : goal.returns-then-not-run_fits

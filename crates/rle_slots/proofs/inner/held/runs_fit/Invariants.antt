@@ -1,10 +1,7 @@
 use Prim.Native.Nat.{◌-◌}
-use mathlib.Core.Path.{◌≡◌, sym, ◌∙◌}
-use borrow.Author.Tests.{not-true, not-false}
+use mathlib.Core.Path.{◌≡◌}
 use Rattle.notation.specs.Scan.{all_in}
-use Rattle.notation.proofs.Facts.Scan.{all_hit, all_next, all_end}
-use native.Mathlib.Nat.{sub-zero}
-use Rattle.rle_stack.specs.Model.{run_fits, runs_fit}
+use Rattle.rle_stack.specs.Model.{run_fits}
 use Rattle.rle_slots.specs.Model.Slots.{numbers_in}
 use Rattle.rle_slots.proofs.inner.held.runs_fit.Given as goal
 

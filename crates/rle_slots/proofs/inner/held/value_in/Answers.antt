@@ -1,4 +1,3 @@
-use Rattle.std.proofs.Common.{rules}
 use Rattle.rle_slots.specs.Model.Slots.{value_in}
 use Rattle.rle_slots.proofs.inner.held.value_in.Goals as goal
 

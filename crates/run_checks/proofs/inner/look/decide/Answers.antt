@@ -1,5 +1,4 @@
-use Rattle.std.proofs.Common.{rules}
-use Rattle.run_checks.proofs.Facts.LookCases.{within_of, choice_halt, choice_never, choice_go}
+use Rattle.run_checks.proofs.Facts.LookCases.{choice_halt, choice_never, choice_go}
 use Rattle.run_checks.proofs.inner.look.decide.Goals as goal
 
 pub returns-in-Halt : goal.returns-in-Halt

@@ -1,4 +1,3 @@
-use Rattle.std.proofs.Common.{rules}
 use Rattle.run_checks.proofs.Facts.LookCases.{go_fuel, go_on, go_full}
 use Rattle.run_checks.proofs.inner.look.go.Goals as goal
 

@@ -1,5 +1,3 @@
-use Rattle.std.proofs.Common.{rules}
-use borrow.Author.Tests.{not-true, not-false}
 use Rattle.run_checks.proofs.Facts.LookCases.{judge_off, judge_leaves, judge_loop}
 use Rattle.run_checks.proofs.inner.look.judge.Goals as goal
 

@@ -1,4 +1,3 @@
-use Rattle.std.proofs.Common.{rules}
 use Rattle.run_checks.proofs.Facts.LookCases.{loop_stays, loop_several, loop_reads, loop_chain, loop_goes}
 use Rattle.run_checks.proofs.inner.look.loop_of.Goals as goal
 

@@ -1,4 +1,3 @@
-use Rattle.std.proofs.Common.{rules}
 use Rattle.notation.proofs.Facts.Tests.{tests}
 use Rattle.run_checks.proofs.inner.look.rewrites.Goals as goal
 

@@ -1,4 +1,3 @@
-use Rattle.std.proofs.Common.{rules}
 use Rattle.notation.proofs.Facts.Tests.{tests, via}
 use Rattle.run_checks.specs.Model.Look.{rooms_of}
 use Rattle.run_checks.proofs.inner.look.rooms.Goals as goal

@@ -1,4 +1,3 @@
-use Rattle.std.proofs.Common.{rules}
 use Rattle.run_checks.proofs.Facts.LookCases.{look_halt, look_judged}
 use Rattle.run_checks.proofs.inner.look.see.Goals as goal
 

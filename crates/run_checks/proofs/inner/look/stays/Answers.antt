@@ -1,4 +1,3 @@
-use Rattle.std.proofs.Common.{rules}
 use Rattle.run_checks.specs.Model.Look.{stays}
 use mathlib.Core.Path.{refl}
 use Rattle.run_checks.proofs.inner.look.stays.Goals as goal

@@ -1,4 +1,3 @@
-use Rattle.std.proofs.Common.{rules}
 use Rattle.run_checks.specs.Model.Look.{stays_all}
 use Rattle.notation.proofs.Facts.Tests.{tests, via}
 use Rattle.run_checks.proofs.inner.look.stays_all.Goals as goal

@@ -1,4 +1,3 @@
-use Rattle.std.proofs.Common.{rules}
 use lib.ListN.{length}
 use Rattle.run_checks.proofs.Facts.SizesCases.{blank_room, blank_has, blank_lacks}
 use Rattle.run_checks.proofs.inner.sizes.blank.Goals as goal

@@ -1,7 +1,5 @@
-use Rattle.std.proofs.Common.{rules}
 use Rattle.machine.proofs.Facts.Word.{word_says}
 use mathlib.Core.Path.{sym, ◌∙◌}
-use borrow.Author.Tests.{not-true, not-false}
 use Rattle.run_checks.proofs.Facts.SizesCases.{fresh_table, fresh_word, fresh_small, fresh_passed}
 use Rattle.run_checks.proofs.inner.sizes.fresh_check.Goals as goal
 

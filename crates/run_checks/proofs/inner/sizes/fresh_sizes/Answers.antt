@@ -1,4 +1,3 @@
-use Rattle.std.proofs.Common.{rules}
 use Rattle.run_checks.specs.Model.Sizes.{fresh_sizes}
 use Rattle.notation.proofs.Facts.Tests.{tests, via}
 use Rattle.run_checks.proofs.inner.sizes.fresh_sizes.Goals as goal

@@ -1,4 +1,3 @@
-use Rattle.std.proofs.Common.{rules}
 use Rattle.run_checks.specs.Model.Sizes.{fuel_fits}
 use Rattle.notation.proofs.Facts.Tests.{tests}
 use Rattle.run_checks.proofs.inner.sizes.fuel_fits.Goals as goal

@@ -1,4 +1,3 @@
-use Rattle.std.proofs.Common.{rules}
 use Rattle.run_checks.specs.Model.Sizes.{sizes_fit}
 use Rattle.notation.proofs.Facts.Tests.{tests, via}
 use Rattle.run_checks.proofs.inner.sizes.sizes_fit.Goals as goal

@@ -1,10 +1,5 @@
-use Rattle.std.proofs.Common.{rules}
 use Rattle.run_checks.proofs.Facts.SizesCases.{word_differs, word_agrees}
-use Rattle.run_checks.specs.Model.Sizes.{word_right}
 use Rattle.notation.proofs.Facts.Scan.{all_end}
-use Rattle.notation.specs.Scan.{all_in}
-use native.Mathlib.Nat.{sub-zero}
-use mathlib.Core.Path.{◌≡◌}
 use Prim.Native.Nat.{◌-◌}
 use Rattle.run_checks.proofs.inner.words.same_words.Goals as goal
 

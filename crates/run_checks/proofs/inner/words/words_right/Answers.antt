@@ -1,6 +1,3 @@
-use Rattle.std.proofs.Common.{rules}
-use native.Mathlib.Omega.{arith}
-use Rattle.machine.proofs.Facts.CheckCases.{count_small}
 use Rattle.run_checks.proofs.Facts.SizesCases.{words_several, words_number, words_compared}
 use Rattle.run_checks.proofs.inner.words.words_right.Goals as goal
 

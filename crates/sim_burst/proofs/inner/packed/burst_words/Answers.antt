@@ -1,10 +1,5 @@
-use Rattle.std.proofs.Common.{rules}
-use mathlib.Core.Path.{◌∙◌}
-use native.Mathlib.Omega.{arith}
 use borrow.Author.Tests.{not-false}
-use Rattle.sim_burst.specs.Model.Burst.{Reached}
-use Rattle.sim_burst.specs.Model.Words.{Packs}
-use Rattle.sim_burst.proofs.Facts.Burst.{reached_start, reached_again, reached_on, went_less, went_asks}
+use Rattle.sim_burst.proofs.Facts.Burst.{reached_start, reached_again, reached_on}
 use Rattle.sim_burst.proofs.Facts.Words.{row_start, word_says, word_small}
 use Rattle.sim_burst.proofs.inner.packed.burst_words.Goals as goal
 

@@ -1,9 +1,5 @@
-use native.Mathlib.Omega.{arith}
-use borrow.Author.Tests.{not-false}
 use Rattle.sim_burst.specs.Model.Burst.{Reached}
 use Rattle.sim_burst.specs.Model.Words.{Packs, RowOk}
-use Rattle.sim_burst.proofs.Facts.Burst.{reached_start, reached_again, went_less}
-use Rattle.sim_burst.proofs.Facts.Words.{row_start, row_again, word_says, word_small}
 use Rattle.sim_burst.proofs.inner.packed.stretch.Given as goal
 
 abbrev pub invariant-loop-at : goal.invariant-loop-at

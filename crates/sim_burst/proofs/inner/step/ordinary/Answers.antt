@@ -1,5 +1,4 @@
-use Rattle.std.proofs.Common.{rules}
-use Rattle.sim_burst.proofs.Facts.BurstCases.{ordinary_on, ordinary_off, ordinary_write, ordinary_read, ordinary_left, ordinary_right}
+use Rattle.sim_burst.proofs.Facts.BurstCases.{ordinary_left, ordinary_right}
 use Rattle.sim_burst.proofs.inner.step.ordinary.Goals as goal
 
 pub returns-then-decoded-eq0 : goal.returns-then-decoded-eq0

@@ -1,6 +1,4 @@
 use Prim.Native.Nat.{◌≤◌}
-use native.Mathlib.Omega.{arith}
-use Rattle.sim_burst.proofs.Facts.BurstCases.{left_found, left-none}
 use Rattle.sim_burst.proofs.inner.step.scan_left.Given as goal
 
 abbrev pub invariant-loop-i : goal.invariant-loop-i

@@ -1,6 +1,4 @@
 use Prim.Native.Nat.{◌<◌, ◌-◌}
-use native.Mathlib.Omega.{arith}
-use Rattle.sim_burst.proofs.Facts.BurstCases.{right_found, right_none}
 use Rattle.sim_burst.proofs.inner.step.scan_right.Given as goal
 
 abbrev pub invariant-loop-i : goal.invariant-loop-i

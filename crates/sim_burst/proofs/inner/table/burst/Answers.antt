@@ -1,10 +1,6 @@
-use Rattle.std.proofs.Common.{rules}
-use mathlib.Core.Path.{◌∙◌}
-use native.Mathlib.Omega.{arith}
 use borrow.Author.Tests.{not-false}
-use Rattle.sim_burst.specs.Model.Burst.{Reached, Is}
 use Rattle.sim_burst.proofs.Facts.BurstCases.{decoded_says}
-use Rattle.sim_burst.proofs.Facts.Burst.{reached_start, reached_again, reached_on, went_less, went_asks}
+use Rattle.sim_burst.proofs.Facts.Burst.{reached_start, reached_again, reached_on}
 use Rattle.sim_burst.proofs.inner.table.burst.Goals as goal
 
 pub loop-at-init : goal.loop-at-init

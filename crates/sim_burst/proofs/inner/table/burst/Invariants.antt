@@ -1,9 +1,4 @@
-use mathlib.Core.Path.{◌∙◌}
-use native.Mathlib.Omega.{arith}
-use borrow.Author.Tests.{not-false}
 use Rattle.sim_burst.specs.Model.Burst.{Reached, Is}
-use Rattle.sim_burst.proofs.Facts.BurstCases.{decoded_says}
-use Rattle.sim_burst.proofs.Facts.Burst.{reached_start, reached_again, reached_on, went_less, went_asks}
 use Rattle.sim_burst.proofs.inner.table.burst.Given as goal
 
 abbrev pub invariant-loop-at : goal.invariant-loop-at

@@ -1,5 +1,4 @@
-use Rattle.std.proofs.Common.{rules}
-use Rattle.sim_burst.proofs.Facts.BurstCases.{tells_none, tells_entry}
+use Rattle.sim_burst.proofs.Facts.BurstCases.{tells_entry}
 use Rattle.sim_burst.proofs.inner.table.decoded.Goals as goal
 
 pub returns : goal.returns

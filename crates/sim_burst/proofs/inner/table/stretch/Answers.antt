@@ -1,9 +1,6 @@
-use Rattle.std.proofs.Common.{rules}
-use native.Mathlib.Omega.{arith}
 use borrow.Author.Tests.{not-false}
-use Rattle.sim_burst.specs.Model.Burst.{Reached, Is}
 use Rattle.sim_burst.proofs.Facts.BurstCases.{decoded_says}
-use Rattle.sim_burst.proofs.Facts.Burst.{reached_start, reached_again, went_less}
+use Rattle.sim_burst.proofs.Facts.Burst.{reached_start, reached_again}
 use Rattle.sim_burst.proofs.inner.table.stretch.Goals as goal
 
 pub loop-at-init : goal.loop-at-init

@@ -1,8 +1,4 @@
-use native.Mathlib.Omega.{arith}
-use borrow.Author.Tests.{not-false}
 use Rattle.sim_burst.specs.Model.Burst.{Reached, Is}
-use Rattle.sim_burst.proofs.Facts.BurstCases.{decoded_says}
-use Rattle.sim_burst.proofs.Facts.Burst.{reached_start, reached_again, went_less}
 use Rattle.sim_burst.proofs.inner.table.stretch.Given as goal
 
 abbrev pub invariant-loop-at : goal.invariant-loop-at
