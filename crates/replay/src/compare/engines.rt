@@ -45,10 +45,8 @@ fn expect_cells(row: &[u64], at: usize, cells: &[u8]) -> usize {
         symbol: 0,
         length: 0,
     };
-    let mut i: usize = 0;
-    while i < cells.len() {
-        run = add_cell(row, run, cells[i]);
-        i += 1;
+    for cell in cells {
+        run = add_cell(row, run, *cell);
     }
     expect_run(row, run)
 }

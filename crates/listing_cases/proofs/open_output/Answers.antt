@@ -1,0 +1,6 @@
+use Rattle.listing_cases.proofs.Names.{is_text, output_name}
+use Rattle.listing_cases.proofs.open_output.Goals as goal
+
+pub unwrap-requires : goal.unwrap-requires
+unwrap-requires g c =
+    is_text _ _ _ _ (output_name _ _ _ c.digit-hundreds.ensures c.digit-tens.ensures c.digit-ones.ensures) c.from_utf8.ensures.cases
