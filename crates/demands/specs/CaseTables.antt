@@ -5,7 +5,7 @@ use Rattle.machine.specs.declared.Machine.{Machine}
 abbrev pub machine : (tapes symbols states : ℕ) → Machine
 machine t k n = record { tapes = t; symbols = k; states = n; start = 0 }
 
--- the entry "write, move, next" of a one_tape_holds table, with L 0, R 1, N 2; the two absent tapes have N
+-- the entry "write, move, next" of a one-tape table, with L 0, R 1, N 2; the two absent tapes have N
 abbrev pub entry1 : (write move next : ℕ) → List ℕ
 entry1 write move next = 1 ∷ next ∷ 0 ∷ write ∷ 0 ∷ 0 ∷ (move + 3 * 2 + 9 * 2) ∷ 0 ∷ []
 

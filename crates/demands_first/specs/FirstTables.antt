@@ -22,7 +22,7 @@ pub record TableOperations : Type 0 where
 
   -- the table check, "first in every operation that takes one"; it writes nothing
   pub check : (m : Machine) (s : List ℕ) → TurnsAway (1 ∷ 2 ∷ 3 ∷ 4 ∷ 5 ∷ 6 ∷ []) (table_tests m s) (λ (r : Checked). r) Refused (table_check m s)
-  -- in document 01's words, by the layout and not by the check: the refusal is the first that applies, 6 with the lowest entry; a well_formed table has none
+  -- in document 01's words, by the layout and not by the check: the refusal is the first that applies, 6 with the lowest entry; a well-formed table has none
   pub check_first : (m : Machine) (s : List ℕ) → Bytes s → (why : Refusal) → table_check m s ≡ Refused why → FirstRefusal m s why
   pub check_none : (m : Machine) (s : List ℕ) → Bytes s → (table_check m s ≡ Accepted) ↔ WellFormed m s
   -- the lookup of an entry: only the table check refuses

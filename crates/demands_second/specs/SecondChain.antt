@@ -103,7 +103,7 @@ pub record ChainEngine : Type 0 where
   pub rights : (m : Machine) (s : List ℕ) (σ : Conf) (out : List Run) (n : ℕ) → right_answer m s (length out) σ ≡ Filled n
       → Lists (stack_of (right_of σ)) n out (right_into m s σ out)
   -- "`get`, `non_blank`, `count_non_blank`, `window` .. answer over all of i64; a cell outside is blank": the questions read the table machine's tape. They give
-  -- the cell at a position of 64 bits, the smallest range of the non_blank cells (Spans), and their number (Counts)
+  -- the cell at a position of 64 bits, the smallest range of the non-blank cells (Spans), and their number (Counts)
   pub gets : (m : Machine) (s : List ℕ) (σ : Conf) (z : ℤ) → dn z ≤ 2 ^ 63 → (x : Symbol) → get_answer m s z σ ≡ Got.Found x → x.0 ≡ (tape_of σ).cell z
   pub spans : (m : Machine) (s : List ℕ) (σ : Conf) (x : Span) → extent_answer m s σ ≡ Extent.Found x → Spans (tape_of σ).cell x
   pub counts : (m : Machine) (s : List ℕ) (σ : Conf) (n : ℕ) → count_answer m s σ ≡ Counted.Found n → Counts (tape_of σ).cell n

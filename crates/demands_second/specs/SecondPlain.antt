@@ -107,7 +107,7 @@ pub record PlainEngine : Type 0 where
   pub step_past : (m : Machine) (s : List ℕ) (σ : Conf) → PastKept σ.c0 σ.c1 σ.c2 (step_answer m s σ).at
   pub call_past : (m : Machine) (s : List ℕ) (w : TimelineOf plain_kind) (c : Call) → PastKept w.engine.c0 w.engine.c1 w.engine.c2 (call_on plain_kind m s w c).1.engine
   -- "`get`, `non_blank`, `count_non_blank`, `window` and `find_non_blank` answer over all of i64; a cell outside is blank": the questions read tape i of the
-  -- configuration held. They give the cell at a position, the smallest range of the non_blank cells (Spans), and their number (Counts)
+  -- configuration held. They give the cell at a position, the smallest range of the non-blank cells (Spans), and their number (Counts)
   pub gets : (m : Machine) (s : List ℕ) (i : ℕ) (σ : Conf) (z : ℤ) (x : Symbol) → get_answer m s i z σ ≡ Got.Found x → x.0 ≡ (tape_on i (config_of m σ)).cell z
   pub spans : (m : Machine) (s : List ℕ) (i : ℕ) (σ : Conf) (x : Span) → extent_answer m s i σ ≡ Extent.Found x → Spans (tape_on i (config_of m σ)).cell x
   pub counts : (m : Machine) (s : List ℕ) (i : ℕ) (σ : Conf) (n : ℕ) → count_answer m s i σ ≡ Counted.Found n → Counts (tape_on i (config_of m σ)).cell n

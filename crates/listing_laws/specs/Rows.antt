@@ -50,5 +50,5 @@ module _ (s : List ℕ) (x : Sofar) where
         → row_of (answered o) u.engine.sim u.engine.c0
         ≡ row o (held_on plain_engine m t u).steps (held_on plain_engine m t u).state (held_on plain_engine m t u).tape0.head
         (held_on plain_engine m t u).tape0.low (held_on plain_engine m t u).tape0.high (count_of (held u.engine.sim.t0 u.engine.c0))
-    -- the score is the number of its non_blank cells
+    -- the score is the number of its non-blank cells
     pub score : (u : TimelineOf plain_kind) → Counts (held_on plain_engine m t u).tape0.cell (count_of (held u.engine.sim.t0 u.engine.c0))

@@ -17,7 +17,7 @@ use Rattle.listing_text.specs.Show.{show, show_ℤ}
 
 -- ---- what a row holds
 
--- the answer and "Fields after `answer`: step count, state, head, lowest, highest, non_blank cells of tape 0"; or a refusal's number
+-- the answer and "Fields after `answer`: step count, state, head, lowest, highest, non-blank cells of tape 0"; or a refusal's number
 pub data Row : Type 0 where
   row : Outcome → (steps state : ℕ) (head low high : ℤ) (score : ℕ) → Row
   turned_away : ℕ → Row

@@ -19,5 +19,7 @@ pub mod Rule
 pub mod SideCells
 pub mod Cells
 pub mod NonBlank
+mod NonBlankEnds
+mod SideCounts
 pub mod Counts
 pub mod Questions

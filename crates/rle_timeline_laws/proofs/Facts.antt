@@ -1,4 +1,5 @@
 pub mod Advance
+pub mod FitsWith
 pub mod Fits
 pub mod Slots
 pub mod Parts

@@ -1,4 +1,4 @@
--- A one_tape_holds table with L and R exchanged, and with its states permuted, in document 01's layout; a configuration reflected, and one with the state renamed, in
+-- A one-tape table with L and R exchanged, and with its states permuted, in document 01's layout; a configuration reflected, and one with the state renamed, in
 -- request 10's words. Nothing here cites `Mirror`, `Renaming` or `Bytes`. Definitions only.
 use Rattle.std.specs.Prelude.{◌≡◌, List, ℕ, ◌+◌, ◌*◌, ◌<◌, eqb, ℤ, neg_ℤ, length}
 use Rattle.notation.specs.Choice.{pick}
@@ -7,14 +7,14 @@ use Rattle.machine.specs.Layout.{byte_at}
 use Rattle.table_machine.specs.TableMachine.{Config}
 use Rattle.table_machine_symmetry.specs.Claims.{AcceptedTable}
 
--- "a one_tape_holds table" that the table check accepts
+-- "a one-tape table" that the table check accepts
 pub record OneTape (m : Machine) (s : List ℕ) : Type 0 where
   pub single : m.tapes ≡ 1
   pub table : AcceptedTable m s
 
 -- ---- "exchanging L and R"
 
--- "6 is d0 + 3 × d1 + 9 × d2 with L 0, R 1, N 2", and a tape the machine lacks has move N: so byte 6 of a one_tape_holds entry is 24 for L, 25 for R, 26 for N
+-- "6 is d0 + 3 × d1 + 9 × d2 with L 0, R 1, N 2", and a tape the machine lacks has move N: so byte 6 of a one-tape entry is 24 for L, 25 for R, 26 for N
 abbrev pub exchanged : ℕ → ℕ
 exchanged b = pick (eqb b 24) 25 (pick (eqb b 25) 24 b)
 
@@ -33,7 +33,7 @@ pub record Reflected (c d : Config) : Type 0 where
   pub lowest : d.tape0.low ≡ neg_ℤ c.tape0.high
   pub highest : d.tape0.high ≡ neg_ℤ c.tape0.low
 
--- ---- "permuting a one_tape_holds table's states, start included"
+-- ---- "permuting a one-tape table's states, start included"
 
 -- table t of machine p is table s of machine m with each state q renamed to `to q`: entry q × k + a of s has become entry `to q` × k + a of t
 pub record StatesPermuted (to : ℕ → ℕ) (m : Machine) (s : List ℕ) (p : Machine) (t : List ℕ) : Type 0 where

@@ -1,4 +1,4 @@
--- RENAMINGS (document 02, request 10): "permuting a one_tape_holds table's states, start included, gives .. the same steps, head and cells, the state renamed". Definitions only.
+-- RENAMINGS (document 02, request 10): "permuting a one-tape table's states, start included, gives .. the same steps, head and cells, the state renamed". Definitions only.
 use Rattle.std.specs.Prelude.{◌≡◌, ℕ, ◌<◌}
 use Rattle.symbol.specs.Kinds.{state_of}
 use Rattle.symbol.specs.declared.State.{State}

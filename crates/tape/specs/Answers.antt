@@ -24,7 +24,7 @@ pub data Finds (cell : ℤ → ℕ) (z : ℤ) (d : Dir) : Spot → Type 0 where
   no_cell : ((y : ℤ) → Toward d z y → cell y ≡ 0) → Finds cell z d Nowhere
   nearest : (y : ℤ) → Toward d z y → (cell y ≡ 0 → ⊥) → ((x : ℤ) → Toward d z x → Before d x y → cell x ≡ 0) → Finds cell z d (At y)
 
--- `non_blank`: the smallest range that contains every non_blank cell, if there is one
+-- `non_blank`: the smallest range that contains every non-blank cell, if there is one
 pub data Spans (cell : ℤ → ℕ) : Span → Type 0 where
   no_cells : ((y : ℤ) → cell y ≡ 0) → Spans cell Empty
   range : (a b : ℤ) → (cell a ≡ 0 → ⊥) → (cell b ≡ 0 → ⊥) → ((y : ℤ) → y <ℤ a → cell y ≡ 0) → ((y : ℤ) → b <ℤ y → cell y ≡ 0)

@@ -48,7 +48,7 @@ unfoldable pub found_cell : List ℕ → Found → ℕ
 found_cell c (Index.At i) = get_or c i 0
 found_cell c Index.Nothing = 0
 
--- the lowest non_blank cell from index `from` on, below `to`, and the highest below `to`
+-- the lowest non-blank cell from index `from` on, below `to`, and the highest below `to`
 unfoldable pub first_written : List ℕ → (from to : ℕ) → Found
 first_written c from to = found_of (first_fail (blank_at c) (to - from) from)
 

@@ -43,7 +43,7 @@ window_at o len c from out = window_from o len c (raised_of from) out
 abbrev pub cells_below : (up down o len : ℕ) → ℕ
 cells_below up down o len = min (o + up - down) len
 
--- the highest non_blank cell at position z or below it, and the lowest at z or above it
+-- the highest non-blank cell at position z or below it, and the lowest at z or above it
 abbrev pub last_up_to : (o len : ℕ) → List ℕ → ℤ → Found
 last_up_to o len c z = last_written c (cells_below (up z) (dn z) (o + 1) len)
 

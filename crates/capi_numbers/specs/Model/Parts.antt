@@ -48,7 +48,7 @@ looked_out (Look.Refused why) xs = refused_out why xs
 
 -- ---- packed words
 
--- the entry of a one_tape_holds table that these numbers describe: undefined where `defined` is 0, else with the write, the move and the next state
+-- the entry of a one-tape table that these numbers describe: undefined where `defined` is 0, else with the write, the move and the next state
 unfoldable pub entry_of : (defined write dir next : ℕ) → Entry
 entry_of defined write dir next =
     pick (eqb defined 0) Entry.Undefined (Entry.Defined (single_of (symbol_of write) (dir_of dir) (state_of next)))

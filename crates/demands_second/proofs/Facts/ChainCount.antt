@@ -1,4 +1,4 @@
--- The run-length engine's count is the number of the non_blank cells, in the plain engine's sense (Counts). Assumes nothing.
+-- The run-length engine's count is the number of the non-blank cells, in the plain engine's sense (Counts). Assumes nothing.
 use Rattle.std.specs.Prelude.{◌≡◌, Bool, List, eqb, ℤ}
 use Rattle.std.proofs.Common.{sym, ap, ◌∙◌, arith}
 use Prim.Native.Nat.{ℕ, ◌+◌, ◌-◌, ◌<◌, ◌^◌}

@@ -27,7 +27,7 @@ use Rattle.machine.specs.Model.Word.{symbol_in, symbols_check, word_check}
 use Rattle.table_laws.specs.WellFormed.{LaidOut, WellFormed}
 use Rattle.table_laws.proofs.Facts.CheckExact.{table_check_accepts}
 use Rattle.table_laws.proofs.Facts.Reading.{entry_read}
-use Rattle.table_laws.proofs.Facts.RoundTrip.{packed_table_accepted, packed_table_holds, packed_table_rest}
+use Rattle.table_laws.proofs.Facts.PackedTable.{packed_table_accepted, packed_table_holds, packed_table_rest}
 use Rattle.tape.specs.declared.Span.{Span}
 use Rattle.tape.specs.declared.Spot.{Spot}
 use Rattle.tape.specs.Model.Moves.{fresh_of}

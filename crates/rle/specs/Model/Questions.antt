@@ -33,7 +33,7 @@ window_cell σ raised j = window_on σ.sim.tape.head σ.sim.tape.cur (left_of σ
 unfoldable pub window_from : Conf → (raised : ℕ) → List ℕ → List ℕ
 window_from σ raised out = window_all σ.sim.tape.head σ.sim.tape.cur (left_of σ) (right_of σ) raised out
 
--- the raised positions of the lowest and the highest non_blank cell: the furthest of that side; else the head's; else the nearest of the other side
+-- the raised positions of the lowest and the highest non-blank cell: the furthest of that side; else the head's; else the nearest of the other side
 unfoldable pub lowest_of : Conf → ℕ
 lowest_of σ =
     pick (eqb σ.sim.tape.left 0)

@@ -1,10 +1,10 @@
 -- The lowest and the highest cell that is not blank, from the furthest and the nearest such cells of the two sides. Assumes nothing.
-use Rattle.std.specs.Prelude.{◌≡◌, refl, true, false, ℕ, ◌+◌, ◌-◌, eqb, ℤ}
+use Rattle.std.specs.Prelude.{◌≡◌, true, false, ℕ, ◌+◌, ◌-◌, eqb, ℤ}
 use Rattle.std.proofs.Common.{sym, ap, ◌∙◌, arith}
-use borrow.Author.Tests.{eqb-true, eqb-false, eq-eqb}
+use borrow.Author.Tests.{eqb-true, eq-eqb}
 use Rattle.notation.specs.Position.{◌⊖◌}
 use Rattle.notation.proofs.Facts.Position.{ints, diff-⊖}
-use Rattle.notation.proofs.Facts.Tests.{clash, both_split, both_true, pick_cases}
+use Rattle.notation.proofs.Facts.Tests.{clash, both_split, both_true}
 use Rattle.notation.specs.Limits.{raised_zero}
 use Rattle.symbol.specs.declared.Dir.{Dir}
 use Rattle.symbol.specs.declared.Dir.TheVariants.{L, R}
@@ -12,10 +12,10 @@ use Rattle.machine.specs.declared.Machine.{Machine}
 use Rattle.table_machine.specs.TableMachine.{Beyond}
 use Rattle.rle_stack.specs.Model.{Side, cells_of, near_of}
 use Rattle.rle.specs.Model.Engine.{Conf, left_of, right_of}
-use Rattle.rle.specs.Model.Questions.{lowest_of, highest_of, blank_tape}
+use Rattle.rle.specs.Model.Questions.{blank_tape}
 use Rattle.rle_refines.specs.Meaning.{stack_upto, stream, stream_of, tape_of, ChainFits}
 use Rattle.rle_refines.proofs.Facts.SideCells.{Bounds, side_ends}
-use Rattle.rle_refines.proofs.Facts.Cells.{here, leftward, rightward, left, right, cur, head, SeenAt, seen, at_head, at_left, at_right, left_in}
+use Rattle.rle_refines.proofs.Facts.Cells.{here, leftward, rightward, left, right, cur, head, SeenAt, seen, at_head, at_left, at_right}
 
 -- a is the last cell in direction x that is not blank
 pub record Last (x : Dir) (cell : ℤ → ℕ) (a : ℤ) : Type 0 where
@@ -27,10 +27,10 @@ no_runs : (x : Side) → x.count ≡ 0 → (d : ℕ) → stream_of x d ≡ 0
 no_runs x e d = ap (λ n. stream (stack_upto x.symbols x.lengths n) d) e
 
 module _ (m : Machine) (σ : Conf) (f : ChainFits m σ) where
-  left_ends : ¬ (σ.sim.tape.left ≡ 0) → Bounds (left σ) (near_of (left_of σ)) (cells_of (left_of σ))
+  pub left_ends : ¬ (σ.sim.tape.left ≡ 0) → Bounds (left σ) (near_of (left_of σ)) (cells_of (left_of σ))
   left_ends n = side_ends m.symbols σ.ls σ.ll σ.sim.tape.left f.lefts.runs n
 
-  right_ends : ¬ (σ.sim.tape.right ≡ 0) → Bounds (right σ) (near_of (right_of σ)) (cells_of (right_of σ))
+  pub right_ends : ¬ (σ.sim.tape.right ≡ 0) → Bounds (right σ) (near_of (right_of σ)) (cells_of (right_of σ))
   right_ends n = side_ends m.symbols σ.rs σ.rl σ.sim.tape.right f.rights.runs n
 
   pub all_blank : blank_tape σ ≡ true → (y : ℤ) → (tape_of σ).cell y ≡ 0
@@ -42,23 +42,23 @@ module _ (m : Machine) (σ : Conf) (f : ChainFits m σ) where
       by (leftward d e) = no_runs (left_of σ) (eqb-true _ _ (both_split (both_split t).1).0) d
       by (rightward d e) = no_runs (right_of σ) (eqb-true _ _ (both_split (both_split t).1).1) d
 
-  not_all : blank_tape σ ≡ false → cur σ ≡ 0 → σ.sim.tape.left ≡ 0 → σ.sim.tape.right ≡ 0 → ⊥
+  pub not_all : blank_tape σ ≡ false → cur σ ≡ 0 → σ.sim.tape.left ≡ 0 → σ.sim.tape.right ≡ 0 → ⊥
   unfolding blank_tape
   not_all t c l r = clash (both_true (eq-eqb _ _ c) (both_true (eq-eqb _ _ l) (eq-eqb _ _ r))) t
 
   -- the last cell in each direction, by where it lies
   module _ (p : ℕ) where
-    abbrev place : ℤ
+    abbrev pub place : ℤ
     place = p ⊖ raised_zero
 
-    abbrev IsLast : Dir → Type 0
+    abbrev pub IsLast : Dir → Type 0
     IsLast x = Last x (tape_of σ).cell place
 
     -- every cell beyond is blank, by where it lies from the head
     abbrev Off : Dir → Type 0
     Off x = (y : ℤ) (v : ℕ) → Beyond x place y → SeenAt σ y v → v ≡ 0
 
-    low_left : Bounds (left σ) (near_of (left_of σ)) (cells_of (left_of σ)) → p + cells_of (left_of σ) ≡ head σ → IsLast L
+    pub low_left : Bounds (left σ) (near_of (left_of σ)) (cells_of (left_of σ)) → p + cells_of (left_of σ) ≡ head σ → IsLast L
     low_left x q = record {
       written = λ e. x.far_written (sym (at_left σ place (cells_of (left_of σ) - 1) (omega (arith, diff-⊖ p raised_zero, x.some, x.within))) ∙ e);
       beyond = λ y b. off y _ b (seen σ y);
@@ -69,7 +69,7 @@ module _ (m : Machine) (σ : Conf) (f : ChainFits m σ) where
         off y v b (leftward d e) = x.past d (omega (ints, b, diff-⊖ p raised_zero))
         off y v b (rightward d e) = absurd (omega (ints, b, diff-⊖ p raised_zero))
 
-    low_head : σ.sim.tape.left ≡ 0 → ¬ (cur σ ≡ 0) → p ≡ head σ → IsLast L
+    pub low_head : σ.sim.tape.left ≡ 0 → ¬ (cur σ ≡ 0) → p ≡ head σ → IsLast L
     low_head n w q = record {
       written = λ e. w (sym (at_head σ place (omega (arith, diff-⊖ p raised_zero))) ∙ e);
       beyond = λ y b. off y _ b (seen σ y);
@@ -80,7 +80,7 @@ module _ (m : Machine) (σ : Conf) (f : ChainFits m σ) where
         off y v b (leftward d e) = no_runs (left_of σ) n d
         off y v b (rightward d e) = absurd (omega (ints, b, diff-⊖ p raised_zero))
 
-    low_right : σ.sim.tape.left ≡ 0 → cur σ ≡ 0 → Bounds (right σ) (near_of (right_of σ)) (cells_of (right_of σ)) → p ≡ head σ + near_of (right_of σ) → IsLast L
+    pub low_right : σ.sim.tape.left ≡ 0 → cur σ ≡ 0 → Bounds (right σ) (near_of (right_of σ)) (cells_of (right_of σ)) → p ≡ head σ + near_of (right_of σ) → IsLast L
     low_right n c x q = record {
       written = λ e. x.near_written (sym (at_right σ place (near_of (right_of σ) - 1) (omega (arith, diff-⊖ p raised_zero, x.some))) ∙ e);
       beyond = λ y b. off y _ b (seen σ y);
@@ -91,7 +91,7 @@ module _ (m : Machine) (σ : Conf) (f : ChainFits m σ) where
         off y v b (leftward d e) = no_runs (left_of σ) n d
         off y v b (rightward d e) = x.before d (omega (ints, b, diff-⊖ p raised_zero))
 
-    high_right : Bounds (right σ) (near_of (right_of σ)) (cells_of (right_of σ)) → p ≡ head σ + cells_of (right_of σ) → IsLast R
+    pub high_right : Bounds (right σ) (near_of (right_of σ)) (cells_of (right_of σ)) → p ≡ head σ + cells_of (right_of σ) → IsLast R
     high_right x q = record {
       written = λ e. x.far_written (sym (at_right σ place (cells_of (right_of σ) - 1) (omega (arith, diff-⊖ p raised_zero, x.some, x.within))) ∙ e);
       beyond = λ y b. off y _ b (seen σ y);
@@ -102,7 +102,7 @@ module _ (m : Machine) (σ : Conf) (f : ChainFits m σ) where
         off y v b (leftward d e) = absurd (omega (ints, b, diff-⊖ p raised_zero))
         off y v b (rightward d e) = x.past d (omega (ints, b, diff-⊖ p raised_zero))
 
-    high_head : σ.sim.tape.right ≡ 0 → ¬ (cur σ ≡ 0) → p ≡ head σ → IsLast R
+    pub high_head : σ.sim.tape.right ≡ 0 → ¬ (cur σ ≡ 0) → p ≡ head σ → IsLast R
     high_head n w q = record {
       written = λ e. w (sym (at_head σ place (omega (arith, diff-⊖ p raised_zero))) ∙ e);
       beyond = λ y b. off y _ b (seen σ y);
@@ -113,7 +113,7 @@ module _ (m : Machine) (σ : Conf) (f : ChainFits m σ) where
         off y v b (leftward d e) = absurd (omega (ints, b, diff-⊖ p raised_zero))
         off y v b (rightward d e) = no_runs (right_of σ) n d
 
-    high_left : σ.sim.tape.right ≡ 0 → cur σ ≡ 0 → Bounds (left σ) (near_of (left_of σ)) (cells_of (left_of σ)) → p + near_of (left_of σ) ≡ head σ → IsLast R
+    pub high_left : σ.sim.tape.right ≡ 0 → cur σ ≡ 0 → Bounds (left σ) (near_of (left_of σ)) (cells_of (left_of σ)) → p + near_of (left_of σ) ≡ head σ → IsLast R
     high_left n c x q = record {
       written = λ e. x.near_written (sym (at_left σ place (near_of (left_of σ) - 1) (omega (arith, diff-⊖ p raised_zero, x.some))) ∙ e);
       beyond = λ y b. off y _ b (seen σ y);
@@ -123,22 +123,3 @@ module _ (m : Machine) (σ : Conf) (f : ChainFits m σ) where
         off y v b (here e) = c
         off y v b (leftward d e) = x.before d (omega (ints, b, diff-⊖ p raised_zero))
         off y v b (rightward d e) = no_runs (right_of σ) n d
-
-  pub lowest_is : blank_tape σ ≡ false → IsLast (lowest_of σ) L
-  unfolding lowest_of
-  lowest_is t = pick_cases (eqb σ.sim.tape.left 0) _ _ (λ p. IsLast p L)
-      (λ u. let n = eqb-true _ _ u in
-      pick_cases (eqb (cur σ) 0) _ _ (λ p. IsLast p L)
-      (λ v. let c = eqb-true _ _ v in low_right (head σ + near_of (right_of σ)) n c (right_ends (not_all t c n)) refl)
-      (λ v. low_head (head σ) n (eqb-false _ _ v) refl))
-      (λ u. low_left (head σ - cells_of (left_of σ)) (left_ends (eqb-false _ _ u)) (omega (arith, left_in σ m f)))
-
-  pub highest_is : blank_tape σ ≡ false → IsLast (highest_of σ) R
-  unfolding highest_of
-  highest_is t = pick_cases (eqb σ.sim.tape.right 0) _ _ (λ p. IsLast p R)
-      (λ u. let n = eqb-true _ _ u in
-      pick_cases (eqb (cur σ) 0) _ _ (λ p. IsLast p R)
-      (λ v. let c = eqb-true _ _ v in let x = left_ends (λ l. not_all t c l n) in
-      high_left (head σ - near_of (left_of σ)) n c x (omega (arith, left_in σ m f, x.within)))
-      (λ v. high_head (head σ) n (eqb-false _ _ v) refl))
-      (λ u. high_right (head σ + cells_of (right_of σ)) (right_ends (eqb-false _ _ u)) refl)

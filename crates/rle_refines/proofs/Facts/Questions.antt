@@ -25,7 +25,8 @@ use Rattle.rle.specs.Fits.{engine_check}
 use Rattle.rle.specs.Model.Questions.{raised_cell, window_cell, window_from, window_on, window_all, blank_tape, span_of, get_answer, extent_answer, count_answer, window_into}
 use Rattle.rle_refines.specs.Meaning.{tape_of, ChainFits}
 use Rattle.rle_refines.proofs.Facts.Cells.{here, leftward, rightward, SeenAt, seen, side_past, cell_is, raised_is}
-use Rattle.rle_refines.proofs.Facts.NonBlank.{all_blank, lowest_is, highest_is}
+use Rattle.rle_refines.proofs.Facts.NonBlank.{all_blank}
+use Rattle.rle_refines.proofs.Facts.NonBlankEnds.{lowest_is, highest_is}
 use Rattle.rle_refines.proofs.Facts.Counts.{CountedOn, count_within}
 use Rattle.rle_refines.proofs.Facts.Operations.{engine_says}
 
@@ -62,7 +63,7 @@ module _ (m : Machine) (σ : Conf) (f : ChainFits m σ) (z : ℤ) (out : List �
       cell_is σ (raised_of z + j) ∙ ap (λ y. (tape_of σ).cell y) e)
       (λ t. sym (far_blank (z +ℤ pos j) (omega (arith, ltb-false (raised_of z + j) (2 ^ 64) t, diff-+pos z j))))
 
--- ---- the range of the non_blank cells: empty exactly where all are blank, else the lowest and the highest
+-- ---- the range of the non-blank cells: empty exactly where all are blank, else the lowest and the highest
 
 module _ (m : Machine) (σ : Conf) (f : ChainFits m σ) where
   pub non_blank_is : Spans (tape_of σ).cell (span_of σ)

@@ -3,10 +3,9 @@ use Rattle.std.specs.Prelude.{◌≡◌, true, List, ℕ, ◌+◌, ◌≤◌}
 use Rattle.std.proofs.Common.{sym, ◌∙◌, subst}
 use Rattle.notation.specs.Limits.{steps_most}
 use Rattle.machine.specs.declared.Machine.{Machine}
-use Rattle.machine.specs.declared.Checked.TheVariants.{Accepted}
 use Rattle.table_machine.specs.Tables.{table_of, TableOf}
 use Rattle.rle.specs.Model.Engine.{Conf}
-use Rattle.rle.specs.Fits.{places_fit, engine_check}
+use Rattle.rle.specs.Fits.{places_fit}
 use Rattle.rle_refines.specs.Statement.{Kept}
 use Rattle.rle_refines.proofs.Facts.Operations.{Passed, engine_says, engine_passes}
 use Rattle.timeline_laws.specs.Laws.{Advance}
@@ -14,13 +13,8 @@ use Rattle.timeline_laws.specs.TableRun.{machine}
 use Rattle.rle_slots.specs.Model.Advance.{advance_of}
 use Rattle.rle_slots.specs.Model.Slots.{lefts_of, rights_of}
 use Rattle.rle_timeline_laws.specs.Meaning.{Meant, mean_of, next_of, NoRoom}
+use Rattle.rle_timeline_laws.proofs.Facts.FitsWith.{Fits}
 use Rattle.rle_timeline_laws.proofs.Facts.Advance.{same_lefts, same_rights, advance_at, kept, advance_law}
-
--- the check accepts the engine, and it has the given numbers of places
-pub record Fits (m : Machine) (s : List ℕ) (lefts rights : ℕ) (σ : Conf) : Type 0 where
-  pub accepted : engine_check m s σ ≡ Accepted
-  pub in_lefts : lefts_of σ ≡ lefts
-  pub in_rights : rights_of σ ≡ rights
 
 -- the check of the places depends on their numbers alone
 places_same : (σ e : Conf) → lefts_of e ≡ lefts_of σ → rights_of e ≡ rights_of σ → places_fit σ ≡ true → places_fit e ≡ true

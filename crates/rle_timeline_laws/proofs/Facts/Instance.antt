@@ -23,7 +23,8 @@ use Rattle.rle_slots.specs.Model.Slots.{lefts_of, rights_of, bytes_for, Lent}
 use Rattle.rle_slots.specs.Model.Kind.{fresh_in}
 use Rattle.rle_timeline_laws.specs.Meaning.{meant, mean_of, next_of, NoRoom, chain_engine}
 use Rattle.rle_timeline_laws.proofs.Facts.Advance.{next_run}
-use Rattle.rle_timeline_laws.proofs.Facts.Fits.{Fits, fits_passed}
+use Rattle.rle_timeline_laws.proofs.Facts.FitsWith.{Fits}
+use Rattle.rle_timeline_laws.proofs.Facts.Fits.{fits_passed}
 use Rattle.rle_timeline_laws.proofs.Facts.Parts.{chain_parts}
 
 module _ (m : Machine) (s : List ℕ) (bytes : Bytes s) (e : Conf) (accepted : engine_check m s e ≡ Accepted) where

@@ -8,7 +8,8 @@ use Rattle.table_machine.proofs.Facts.Run.{step_halted, not_defined}
 use Rattle.timeline_laws.proofs.Facts.Parts.{Parts}
 use Rattle.rle_slots.specs.Model.Slots.{bytes_for}
 use Rattle.rle_timeline_laws.specs.Meaning.{Meant, meant, mean_of, next_of, NoRoom, chain_engine}
-use Rattle.rle_timeline_laws.proofs.Facts.Fits.{Fits, steps_low, advance_fits, advances}
+use Rattle.rle_timeline_laws.proofs.Facts.FitsWith.{Fits}
+use Rattle.rle_timeline_laws.proofs.Facts.Fits.{steps_low, advance_fits, advances}
 use Rattle.rle_timeline_laws.proofs.Facts.Slots.{slot_length, slot_back}
 
 module _ (m : Machine) (s : List ℕ) where

@@ -13,7 +13,8 @@ use Rattle.rle_slots.specs.Model.Slots.{lefts_of, rights_of, bytes_for, slot_siz
 use Rattle.rle_slots.proofs.Facts.LiveRuns.{SameLive, stack_live}
 use Rattle.rle_slots.proofs.Facts.RoundTrip.{pack_length, Returned, unpack_pack}
 use Rattle.rle_timeline_laws.specs.Meaning.{meant, mean_of, SameEngine}
-use Rattle.rle_timeline_laws.proofs.Facts.Fits.{Fits, fits_passed}
+use Rattle.rle_timeline_laws.proofs.Facts.FitsWith.{Fits}
+use Rattle.rle_timeline_laws.proofs.Facts.Fits.{fits_passed}
 
 -- the configuration from the value and the two stacks
 abbrev config_with : ChainSim → (left right : Stack) → Config

@@ -23,7 +23,7 @@ use Rattle.sim_refines.specs.Meaning.{tape_of}
 use Rattle.sim_refines.specs.Counts.{Among, Counts}
 use Rattle.sim_refines.proofs.Facts.Counts.{Fails, fails_of}
 
--- ---- the nearest non_blank cell: none exactly where there is no such cell, else the nearest
+-- ---- the nearest non-blank cell: none exactly where there is no such cell, else the nearest
 
 module _ (h : Held) (z : ℤ) (d : Dir) where
   pub find_is : Finds (tape_of h).cell z d (find_of h z d)
@@ -39,7 +39,7 @@ module _ (h : Held) (z : ℤ) (d : Dir) where
       holds r (no_cell q) = refl
       holds r (nearest y t w q) = absurd (w (r y t))
 
--- ---- the range of the non_blank cells: empty exactly where all are blank, else the lowest and the highest
+-- ---- the range of the non-blank cells: empty exactly where all are blank, else the lowest and the highest
 
 module _ (h : Held) where
   pub non_blank_is : Spans (tape_of h).cell (non_blank_of h)

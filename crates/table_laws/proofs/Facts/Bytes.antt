@@ -1,4 +1,4 @@
--- THE BYTES of a well_formed table are those of its entries, so its entries determine it. Assumes nothing.
+-- THE BYTES of a well-formed table are those of its entries, so its entries determine it. Assumes nothing.
 use Rattle.std.specs.Prelude.{◌≡◌, List, ℕ, zero, suc, ◌+◌, ◌*◌, ◌/◌, ◌%◌, ◌≤◌, ◌<◌, ltb, length, get_or}
 use Rattle.std.proofs.Common.{sym, ap, ◌∙◌, arith, ltb-true, ltb-false, ext_get_or}
 use Rattle.std.proofs.Math.Nat.{div-add-mod}
@@ -20,7 +20,7 @@ entry_bytes_lem m s w i j h b =
     let l : LaidOut m s i = w 6 i h in
     l.written j b ∙ ap (λ (e : Entry). get_or (entry_bytes e) j 0) (sym (entry_read s i l.entry (omega arith) l.written))
 
--- two well_formed tables with the same entries are the same bytes
+-- two well-formed tables with the same entries are the same bytes
 pub same_bytes : (m p : Machine) (s t : List ℕ) → WellFormed m s → WellFormed p t → entry_count m ≡ entry_count p
     → ((i : ℕ) → i < entry_count m → entry_at s i ≡ entry_at t i) → s ≡ t
 same_bytes m p s t w v count same =

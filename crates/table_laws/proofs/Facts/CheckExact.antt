@@ -1,4 +1,4 @@
--- THE TABLE CHECK: it accepts exactly the well_formed tables, and a refusal is the first that applies; 6 gives the lowest bad entry. Assumes nothing.
+-- THE TABLE CHECK: it accepts exactly the well-formed tables, and a refusal is the first that applies; 6 gives the lowest bad entry. Assumes nothing.
 use Rattle.std.specs.Prelude.{◌≡◌, Bool, true, false, List, ℕ, zero, suc, ◌*◌, ◌≤◌, ◌<◌, eqb, ltb, length}
 use Rattle.std.proofs.Common.{sym, ◌∙◌, subst, arith, ltb-true, eqb-true, le-leb, lt-ltb, eq-eqb}
 use Rattle.std.proofs.Math.Path.{ap}
@@ -87,7 +87,7 @@ module _ (m : Machine) (s : List ℕ) where
         (λ f. refused Why.Symbols (within_fails _ _ _ f) u1 tt r (demand_fails _ _ _ _ h1 f)))
         (λ f. refused Why.Tapes (within_fails _ _ _ f) u0 tt r (demand_fails _ _ _ _ h0 f))
 
-    -- ---- it accepts exactly the well_formed tables
+    -- ---- it accepts exactly the well-formed tables
     pub table_check_accepted : table_check m s ≡ Accepted → WellFormed m s
     table_check_accepted h = all
       where

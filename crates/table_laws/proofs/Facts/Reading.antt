@@ -1,4 +1,4 @@
--- THE LOOKUP: the entry read at a place of a well_formed table is the one whose bytes lie there. Assumes nothing.
+-- THE LOOKUP: the entry read at a place of a well-formed table is the one whose bytes lie there. Assumes nothing.
 use Rattle.std.specs.Prelude.{◌≡◌, refl, List, ℕ, ◌+◌, ◌*◌, ◌/◌, ◌%◌, ◌<◌, ltb, length, get_or}
 use Rattle.std.proofs.Math.Path.{sym, ap}
 use Rattle.std.proofs.Common.{◌∙◌, arith, lt-ltb, ltb-true, ltb-false, eq-eqb}

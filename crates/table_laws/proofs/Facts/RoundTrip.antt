@@ -1,11 +1,10 @@
--- PACKING: "Packing and unpacking a one_tape_holds entry gives the entry", and a packed table holds the word of each entry. Assumes nothing.
-use Rattle.std.specs.Prelude.{◌≡◌, List, ℕ, ◌*◌, ◌^◌, ◌≤◌, ◌<◌, eqb, length, get_or}
+-- PACKING: "Packing and unpacking a one-tape entry gives the entry", and a packed table holds the word of each entry. Assumes nothing.
+use Rattle.std.specs.Prelude.{◌≡◌, List, ℕ, ◌*◌, ◌^◌, ◌<◌, eqb}
 use Rattle.std.proofs.Math.Path.{refl, sym, ap}
-use Rattle.std.proofs.Common.{◌∙◌, mul-le-mul}
+use Rattle.std.proofs.Common.{◌∙◌}
 use native.Mathlib.Omega.{arith}
-use borrow.Author.Tests.{le-leb, ne_eqb, eq-eqb}
+use borrow.Author.Tests.{ne_eqb}
 use Rattle.notation.specs.Choice.{pick}
-use Rattle.notation.proofs.Facts.Fill.{fill_in, fill_past}
 use Rattle.notation.proofs.Facts.Tests.{pick_true, pick_false}
 use Rattle.symbol.specs.Kinds.{symbol_of, state_of}
 use Rattle.symbol.specs.declared.Dir.TheVariants.{R}
@@ -13,13 +12,12 @@ use Rattle.machine.specs.declared.Machine.{Machine}
 use Rattle.machine.specs.declared.Action.{Action}
 use Rattle.machine.specs.declared.Entry.{Entry}
 use Rattle.machine.specs.declared.Entry.TheVariants.{Undefined, Defined}
-use Rattle.machine.specs.declared.Checked.TheVariants.{Accepted}
-use Rattle.machine.specs.Layout.{entry_count, dir_of, entry_at, single_of}
+use Rattle.machine.specs.Layout.{dir_of, single_of}
 use Rattle.machine.proofs.Facts.Packed.{number_small, fit_parts}
-use Rattle.machine.specs.Model.Packing.{undefined_word, action_word, pack_word, word_at, word_row, word_action, word_entry, pack_check, pack_into}
+use Rattle.machine.specs.Model.Packing.{undefined_word, action_word, pack_word, word_row, word_action, word_entry}
 use Rattle.table_laws.specs.WellFormed.{ActionOf, EntryOf, WellFormed}
 use Rattle.table_laws.proofs.Facts.Entries.{number-move}
-use Rattle.table_laws.proofs.Facts.CheckExact.{table_check_accepts}
+use Rattle.table_laws.proofs.Facts.SingleTape.{rows_fit, single}
 
 -- document 01's example: write 1, move R, next state 1, stride 2
 pub packed_example : pack_word (Defined (single_of (symbol_of 1) R (state_of 1))) 2 ≡ 8590000385
@@ -40,58 +38,20 @@ module _ (a : Action) (stride : ℕ) (write : a.write0.0 < 256) (next : a.next.0
       pick_false _ _ _ (ne_eqb _ _ defined)
       ∙ ap Defined ((λ i. single_of (symbol_of (p.write_is i)) ((ap dir_of p.dir_is ∙ number-move a.dir0) i) (state_of (p.next_is i))) ∙ sym one)
 
--- ---- every entry of a well_formed table with one tape
+-- ---- every entry of a well-formed table with one tape
 
 module _ (m : Machine) (s : List ℕ) (w : WellFormed m s) (one : m.tapes ≡ 1) where
-  rows_fit : (a : Action) → ActionOf m a → a.next.0 * m.symbols < 2 ^ 32
-  rows_fit a o =
-      let n = w 3 in
-      let k = w 2 in
-      let l : a.next.0 * m.symbols ≤ 65535 * 256 = mul-le-mul {n₂ = 65535} {m₂ = 256} (omega (arith, o.next_in)) k.1 in
-      omega arith
-
-  single : (a : Action) → ActionOf m a → a ≡ single_of a.write0 a.dir0 a.next
-  single a o =
-      let x = o.lacks1 (omega arith) in
-      let y = o.lacks2 (omega arith) in
-      λ i. record {
-        next = a.next;
-        write0 = a.write0;
-        write1 = symbol_of (x.0 i);
-        write2 = symbol_of (y.0 i);
-        dir0 = a.dir0;
-        dir1 = x.1 i;
-        dir2 = y.1 i;
-      }
-
   pub packed_entry_unpacks : (e : Entry) → EntryOf m e → word_entry (pack_word e m.symbols) ≡ e
   unfolding word_entry
   packed_entry_unpacks Undefined o = pick_true (eqb undefined_word undefined_word) Undefined (Defined (word_action undefined_word)) refl
   packed_entry_unpacks (Defined a) o =
       let n = w 3 in
       let k = w 2 in
-      word_unpacks a m.symbols (omega (arith, o.write0_in)) (omega (arith, o.next_in)) (rows_fit a o) (single a o)
+      word_unpacks a m.symbols (omega (arith, o.write0_in)) (omega (arith, o.next_in)) (rows_fit m s w a o) (single m s w one a o)
 
   -- the row of a word is the number of the next state's first entry
   pub packed_row : (a : Action) → ActionOf m a → word_row (pack_word (Defined a) m.symbols) ≡ a.next.0 * m.symbols
   packed_row a o =
       let n = w 3 in
       let k = w 2 in
-      (fit_parts a m.symbols (omega (arith, o.write0_in)) (omega (arith, o.next_in)) (rows_fit a o)).row_is
-
-  -- ---- the whole table
-
-  module _ (out : List ℕ) (room : entry_count m ≤ length out) where
-    pub packed_table_accepted : pack_check m s (length out) ≡ Accepted
-    unfolding pack_check pick
-    packed_table_accepted = rw (table_check_accepts m s w, eq-eqb _ _ one, le-leb _ _ room)
-
-    -- place i holds the word of entry i
-    pub packed_table_holds : (i : ℕ) → i < entry_count m → get_or (pack_into m s out) i 0 ≡ pack_word (entry_at s i) m.symbols
-    unfolding pack_into word_at
-    packed_table_holds i h = rw packed_table_accepted (fill_in (word_at s m.symbols) (entry_count m) 0 out i 0 (omega arith) (omega arith) (omega arith))
-
-    -- the places past the table are unchanged
-    pub packed_table_rest : (i : ℕ) → entry_count m ≤ i → get_or (pack_into m s out) i 0 ≡ get_or out i 0
-    unfolding pack_into
-    packed_table_rest i h = rw packed_table_accepted (fill_past (word_at s m.symbols) (entry_count m) 0 out i 0 (omega arith))
+      (fit_parts a m.symbols (omega (arith, o.write0_in)) (omega (arith, o.next_in)) (rows_fit m s w a o)).row_is

@@ -1,4 +1,4 @@
--- THE BYTES of a mirrored and of a renamed table: a well_formed table, in which each entry is read again. Assumes nothing.
+-- THE BYTES of a mirrored and of a renamed table: a well-formed table, in which each entry is read again. Assumes nothing.
 use Rattle.std.specs.Prelude.{◌≡◌, refl, List, ℕ, zero, suc, ◌+◌, ◌*◌, ◌/◌, ◌%◌, ◌≤◌, ◌<◌, ◌^◌, ltb, length, get_or}
 use Rattle.std.proofs.Common.{sym, ap, ◌∙◌, mul-le-mul_left, mod-lt, arith, ltb-true, ltb-false, length-append, get_or-append-add}
 use Rattle.std.proofs.Math.Nat.{one-le-pow}

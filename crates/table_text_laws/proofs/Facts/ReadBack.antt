@@ -75,7 +75,7 @@ module _ (m : Machine) (s : List ℕ) (w : WellFormed m s) (z : ℕ) (h : HasLin
           let n : z * k + a ≡ i = omega arith in
           ap (entry_at s) (sym n) ∙ undefined a (omega arith) ∙ sym (Reads.last_undefined z k written table good enough a (omega arith)) ∙ ap (entry_at again) n
 
-  -- the bytes of an entry of a well_formed table
+  -- the bytes of an entry of a well-formed table
   laid : (i j : ℕ) → i < (z + 1) * k → j < 8 → byte_at s i j ≡ get_or (entry_bytes (entry_at s i)) j 0
   laid i j l b =
       let x : LaidOut m s i = w 6 i (subst (λ (n : ℕ). i < n) (sym count_is) l) in

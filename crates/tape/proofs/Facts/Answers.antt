@@ -37,7 +37,7 @@ module _ (h : Held) where
   written_at : (i : ℕ) → i < h.tape.len → blank_at h.cells i ≡ false → cell_of h (i ⊖ h.tape.origin) ≡ 0 → ⊥
   written_at i b z e = eqb-false (get_or h.cells i 0) 0 z (sym (cell_of_index _ _ _ i b) ∙ e)
 
-  -- ---- the nearest non_blank cell
+  -- ---- the nearest non-blank cell
 
   find_left_says : (z : ℤ) → Finds (cell_of h) z L (find_of h z L)
   unfolding find_of last_written spot_of
@@ -72,7 +72,7 @@ module _ (h : Held) where
   find_says z R = find_right_says z
   find_says z N = find_here_says z
 
-  -- ---- the range of the non_blank cells
+  -- ---- the range of the non-blank cells
 
   pub non_blank_says : Spans (cell_of h) (non_blank_of h)
   unfolding non_blank_of first_written last_written span_of

@@ -1,5 +1,5 @@
--- The questions on one tape (document 01, tape.rs): a cell by its position, the extent and the number of the non_blank cells, a window, and
--- the nearest non_blank cell. "A cell outside is blank." Definitions only.
+-- The questions on one tape (document 01, tape.rs): a cell by its position, the extent and the number of the non-blank cells, a window, and
+-- the nearest non-blank cell. "A cell outside is blank." Definitions only.
 use Rattle.std.specs.Prelude.{Bool, false, List, ℕ, ◌+◌, ◌-◌, eqb, ℤ}
 use Rattle.notation.specs.Choice.{pick}
 use Rattle.notation.specs.Scan.{all_in}
@@ -32,14 +32,14 @@ blank_beyond h N = false
 abbrev pub cell_of : Held → ℤ → ℕ
 cell_of h z = cell_at h.tape.origin h.tape.len h.cells z
 
--- ---- the non_blank cells
+-- ---- the non-blank cells
 
 unfoldable pub span_of : (origin : ℕ) → Found → Found → Span
 span_of o (Index.At i) (Index.At j) = Cells (i ⊖ o) (j ⊖ o)
 span_of o (Index.At i) Index.Nothing = Empty
 span_of o Index.Nothing last = Empty
 
--- the positions of the lowest and the highest non_blank cell
+-- the positions of the lowest and the highest non-blank cell
 unfoldable pub non_blank_of : Held → Span
 non_blank_of h =
     span_of h.tape.origin (first_written h.cells 0 h.tape.len) (last_written h.cells h.tape.len)
@@ -60,7 +60,7 @@ window_from h raised out = Views.window_from h.tape.origin h.tape.len h.cells ra
 abbrev pub window_of : Held → (from : ℤ) → List ℕ → List ℕ
 window_of h from out = window_from h (raised_of from) out
 
--- ---- the nearest non_blank cell
+-- ---- the nearest non-blank cell
 
 unfoldable pub spot_of : (origin : ℕ) → Found → Spot
 spot_of origin (Index.At i) = At (i ⊖ origin)
