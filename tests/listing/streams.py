@@ -4,7 +4,7 @@
     python3 streams.py
 
 Needs the two programs as `rt run`, in their crates, or `rt ci` builds them (crates/NAME/out/NAME), and neither cargo
-nor the Rust's files. Status 1 on a difference. A program of Rattle has no exit status, so each must end with 0.
+nor the Rust's files. Status 1 on a difference. These programs end with status 0, whatever happened.
 """
 import os
 import pathlib

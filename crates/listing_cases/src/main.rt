@@ -96,7 +96,7 @@ fn say(rt: &impl Print, n: usize, what: &str) -> io::Result<()> {
     print!(rt; "{n}{what}")
 }
 
-// Writes the line of a pair that differs. Where this fails, so does the last line.
+// Writes the line of a pair that differs. Where this fails, nothing is said: the last line tells of a closed output.
 fn report(rt: &impl Print, i: usize) {
     let _ = say(rt, i, " differs\n");
 }
