@@ -1,7 +1,6 @@
 -- The glyphs allowed in a word, defined on the lists alone: "A glyph is the first equal one among the first 256; it must be blank or flagged input, a missing flag counting as unset." Definitions only.
-use Rattle.std.specs.Prelude.{◌≡◌, List, [], ◌∷◌, ℕ, ◌<◌, length, get_or}
-use Rattle.alphabet.specs.declared.Named.{Named}
-use Rattle.alphabet.specs.declared.Named.TheVariants.{Missing, Found}
+use Rattle.symbol.specs.declared.Symbol.{Symbol}
+use Rattle.std.specs.Prelude.{◌≡◌, List, [], ◌∷◌, ℕ, ◌<◌, length, get_or, None, Option, Some}
 
 -- "the first equal one among the first 256": i is its place
 pub record First (glyphs : List ℕ) (glyph i : ℕ) : Type 0 where
@@ -15,9 +14,9 @@ abbrev pub Absent : (glyphs : List ℕ) (glyph : ℕ) → Type 0
 Absent glyphs glyph = (j : ℕ) → j < length glyphs → j < 256 → ¬ (get_or glyphs j 0 ≡ glyph)
 
 -- the number and the values of an answer: 0 for none, else 1 and the symbol
-abbrev pub named_numbers : Named → List ℕ
-named_numbers Missing = 0 ∷ []
-named_numbers (Found s) = 1 ∷ s.0 ∷ []
+abbrev pub named_numbers : Option Symbol → List ℕ
+named_numbers None = 0 ∷ []
+named_numbers (Some s) = 1 ∷ s.0 ∷ []
 
 -- "flagged input, a missing flag counting as unset"
 pub record Flagged (flags : List ℕ) (i : ℕ) : Type 0 where

@@ -4,7 +4,7 @@ ghost use Rattle.rle.specs.Model.Engine.{conf};
 ghost use Rattle.rle.specs.Fits.{engine_check};
 ghost use Rattle.rle.specs.Model.Questions.{get_answer, extent_answer, count_answer, window_into};
 ghost use Rattle.capi_engines.specs.Model.Engines.{machine_of, chain_of};
-ghost use Rattle.capi_numbers.specs.Model.Answers.{checked_code, checked_out, got_code, got_out, counted_code, counted_out, extent_code, extent_out};
+ghost use Rattle.capi_numbers.specs.Model.Answers.{result_code, result_out, unit_out, symbol_out, number_out, span_out};
 
 use capi_rle::questions;
 use machine::Machine;
@@ -27,7 +27,7 @@ pub extern "C" fn tm_chain_get<'a>(
     at: i64,
     out: &mut [u64; 8],
 ) -> u8
-    ensures { (result ≡ got_code (get_answer (machine_of tapes symbols states start) table.now at (conf (chain_of state cur engine.now) ls.now ll.now rs.now rl.now))) × (out.new ≡ got_out (get_answer (machine_of tapes symbols states start) table.now at (conf (chain_of state cur engine.now) ls.now ll.now rs.now rl.now)) out.old) }
+    ensures { (result ≡ result_code (get_answer (machine_of tapes symbols states start) table.now at (conf (chain_of state cur engine.now) ls.now ll.now rs.now rl.now))) × (out.new ≡ result_out symbol_out (get_answer (machine_of tapes symbols states start) table.now at (conf (chain_of state cur engine.now) ls.now ll.now rs.now rl.now)) out.old) }
 {
     let m = Machine {
         tapes,
@@ -55,7 +55,7 @@ pub extern "C" fn tm_chain_non_blank<'a>(
     engine: &[u64; 7],
     out: &mut [u64; 8],
 ) -> u8
-    ensures { (result ≡ extent_code (extent_answer (machine_of tapes symbols states start) table.now (conf (chain_of state cur engine.now) ls.now ll.now rs.now rl.now))) × (out.new ≡ extent_out (extent_answer (machine_of tapes symbols states start) table.now (conf (chain_of state cur engine.now) ls.now ll.now rs.now rl.now)) out.old) }
+    ensures { (result ≡ result_code (extent_answer (machine_of tapes symbols states start) table.now (conf (chain_of state cur engine.now) ls.now ll.now rs.now rl.now))) × (out.new ≡ result_out span_out (extent_answer (machine_of tapes symbols states start) table.now (conf (chain_of state cur engine.now) ls.now ll.now rs.now rl.now)) out.old) }
 {
     let m = Machine {
         tapes,
@@ -83,7 +83,7 @@ pub extern "C" fn tm_chain_count<'a>(
     engine: &[u64; 7],
     out: &mut [u64; 8],
 ) -> u8
-    ensures { (result ≡ counted_code (count_answer (machine_of tapes symbols states start) table.now (conf (chain_of state cur engine.now) ls.now ll.now rs.now rl.now))) × (out.new ≡ counted_out (count_answer (machine_of tapes symbols states start) table.now (conf (chain_of state cur engine.now) ls.now ll.now rs.now rl.now)) out.old) }
+    ensures { (result ≡ result_code (count_answer (machine_of tapes symbols states start) table.now (conf (chain_of state cur engine.now) ls.now ll.now rs.now rl.now))) × (out.new ≡ result_out number_out (count_answer (machine_of tapes symbols states start) table.now (conf (chain_of state cur engine.now) ls.now ll.now rs.now rl.now)) out.old) }
 {
     let m = Machine {
         tapes,
@@ -113,7 +113,7 @@ pub extern "C" fn tm_chain_window<'a>(
     cells: &mut [u8],
     out: &mut [u64; 8],
 ) -> u8
-    ensures { (result ≡ checked_code (engine_check (machine_of tapes symbols states start) table.now (conf (chain_of state cur engine.now) ls.now ll.now rs.now rl.now))) × (out.new ≡ checked_out (engine_check (machine_of tapes symbols states start) table.now (conf (chain_of state cur engine.now) ls.now ll.now rs.now rl.now)) out.old) × (cells.new ≡ window_into (machine_of tapes symbols states start) table.now from (conf (chain_of state cur engine.now) ls.now ll.now rs.now rl.now) cells.old) }
+    ensures { (result ≡ result_code (engine_check (machine_of tapes symbols states start) table.now (conf (chain_of state cur engine.now) ls.now ll.now rs.now rl.now))) × (out.new ≡ result_out unit_out (engine_check (machine_of tapes symbols states start) table.now (conf (chain_of state cur engine.now) ls.now ll.now rs.now rl.now)) out.old) × (cells.new ≡ window_into (machine_of tapes symbols states start) table.now from (conf (chain_of state cur engine.now) ls.now ll.now rs.now rl.now) cells.old) }
 {
     let m = Machine {
         tapes,

@@ -4,7 +4,7 @@ ghost use Rattle.machine.specs.Layout.{dir_of};
 ghost use Rattle.sim.specs.Model.Engine.{conf};
 ghost use Rattle.sim.specs.Model.Questions.{question_check, get_answer, extent_answer, count_answer, window_into, find_answer};
 ghost use Rattle.capi_engines.specs.Model.Engines.{machine_of, engine_of};
-ghost use Rattle.capi_numbers.specs.Model.Answers.{checked_code, checked_out, got_code, got_out, counted_code, counted_out, extent_code, extent_out, located_code, located_out};
+ghost use Rattle.capi_numbers.specs.Model.Answers.{result_code, result_out, unit_out, symbol_out, number_out, span_out, spot_out};
 
 use capi_sim::questions;
 use machine::Machine;
@@ -26,7 +26,7 @@ pub extern "C" fn tm_sim_get<'a>(
     at: i64,
     out: &mut [u64; 8],
 ) -> u8
-    ensures { (result ≡ got_code (get_answer (machine_of tapes symbols states start) table.now tape at (conf (engine_of state engine.now) c0.now c1.now c2.now))) × (out.new ≡ got_out (get_answer (machine_of tapes symbols states start) table.now tape at (conf (engine_of state engine.now) c0.now c1.now c2.now)) out.old) }
+    ensures { (result ≡ result_code (get_answer (machine_of tapes symbols states start) table.now tape at (conf (engine_of state engine.now) c0.now c1.now c2.now))) × (out.new ≡ result_out symbol_out (get_answer (machine_of tapes symbols states start) table.now tape at (conf (engine_of state engine.now) c0.now c1.now c2.now)) out.old) }
 {
     let m = Machine {
         tapes,
@@ -53,7 +53,7 @@ pub extern "C" fn tm_sim_non_blank<'a>(
     tape: u64,
     out: &mut [u64; 8],
 ) -> u8
-    ensures { (result ≡ extent_code (extent_answer (machine_of tapes symbols states start) table.now tape (conf (engine_of state engine.now) c0.now c1.now c2.now))) × (out.new ≡ extent_out (extent_answer (machine_of tapes symbols states start) table.now tape (conf (engine_of state engine.now) c0.now c1.now c2.now)) out.old) }
+    ensures { (result ≡ result_code (extent_answer (machine_of tapes symbols states start) table.now tape (conf (engine_of state engine.now) c0.now c1.now c2.now))) × (out.new ≡ result_out span_out (extent_answer (machine_of tapes symbols states start) table.now tape (conf (engine_of state engine.now) c0.now c1.now c2.now)) out.old) }
 {
     let m = Machine {
         tapes,
@@ -80,7 +80,7 @@ pub extern "C" fn tm_sim_count<'a>(
     tape: u64,
     out: &mut [u64; 8],
 ) -> u8
-    ensures { (result ≡ counted_code (count_answer (machine_of tapes symbols states start) table.now tape (conf (engine_of state engine.now) c0.now c1.now c2.now))) × (out.new ≡ counted_out (count_answer (machine_of tapes symbols states start) table.now tape (conf (engine_of state engine.now) c0.now c1.now c2.now)) out.old) }
+    ensures { (result ≡ result_code (count_answer (machine_of tapes symbols states start) table.now tape (conf (engine_of state engine.now) c0.now c1.now c2.now))) × (out.new ≡ result_out number_out (count_answer (machine_of tapes symbols states start) table.now tape (conf (engine_of state engine.now) c0.now c1.now c2.now)) out.old) }
 {
     let m = Machine {
         tapes,
@@ -109,7 +109,7 @@ pub extern "C" fn tm_sim_window<'a>(
     cells: &mut [u8],
     out: &mut [u64; 8],
 ) -> u8
-    ensures { (result ≡ checked_code (question_check (machine_of tapes symbols states start) table.now tape (conf (engine_of state engine.now) c0.now c1.now c2.now))) × (out.new ≡ checked_out (question_check (machine_of tapes symbols states start) table.now tape (conf (engine_of state engine.now) c0.now c1.now c2.now)) out.old) × (cells.new ≡ window_into (machine_of tapes symbols states start) table.now tape from (conf (engine_of state engine.now) c0.now c1.now c2.now) cells.old) }
+    ensures { (result ≡ result_code (question_check (machine_of tapes symbols states start) table.now tape (conf (engine_of state engine.now) c0.now c1.now c2.now))) × (out.new ≡ result_out unit_out (question_check (machine_of tapes symbols states start) table.now tape (conf (engine_of state engine.now) c0.now c1.now c2.now)) out.old) × (cells.new ≡ window_into (machine_of tapes symbols states start) table.now tape from (conf (engine_of state engine.now) c0.now c1.now c2.now) cells.old) }
 {
     let m = Machine {
         tapes,
@@ -139,7 +139,7 @@ pub extern "C" fn tm_sim_find<'a>(
     dir: u8,
     out: &mut [u64; 8],
 ) -> u8
-    ensures { (result ≡ located_code (find_answer (machine_of tapes symbols states start) table.now tape from (dir_of dir) (conf (engine_of state engine.now) c0.now c1.now c2.now))) × (out.new ≡ located_out (find_answer (machine_of tapes symbols states start) table.now tape from (dir_of dir) (conf (engine_of state engine.now) c0.now c1.now c2.now)) out.old) }
+    ensures { (result ≡ result_code (find_answer (machine_of tapes symbols states start) table.now tape from (dir_of dir) (conf (engine_of state engine.now) c0.now c1.now c2.now))) × (out.new ≡ result_out spot_out (find_answer (machine_of tapes symbols states start) table.now tape from (dir_of dir) (conf (engine_of state engine.now) c0.now c1.now c2.now)) out.old) }
 {
     let m = Machine {
         tapes,

@@ -3,7 +3,7 @@ ghost use Rattle.std.specs.Prelude.{◌≡◌, set};
 ghost use Rattle.machine.specs.Model.Packing.{pack_word, word_action, word_entry};
 ghost use Rattle.capi_numbers.specs.Model.Parts.{action_from, entry_out, entry_of, parts_out};
 
-use capi_numbers::parts;
+use capi_numbers::{answers, parts};
 use machine::packed::Packed;
 
 // The word of an entry, in out[0]: undefined where `defined` is 0, else with this write, move and next state.
@@ -38,7 +38,7 @@ pub extern "C" fn tm_packed_action(word: u64, out: &mut [u64; 8]) -> u8
 {
     let packed = Packed(word);
     let action = packed.action();
-    parts::put_action(out, action)
+    answers::put_value(out, action)
 }
 
 // The entry of a word, in the form of the lookup's.
@@ -48,5 +48,5 @@ pub extern "C" fn tm_packed_entry(word: u64, out: &mut [u64; 8]) -> u8
 {
     let packed = Packed(word);
     let entry = packed.entry();
-    parts::put_entry(out, entry)
+    answers::put_value(out, entry)
 }

@@ -6,7 +6,7 @@ ghost use Rattle.capi_engines.specs.Model.Engines.{machine_of, tape_from, engine
 
 use machine::Machine;
 use rle::{ChainSim, RunTape};
-use sim::{Simulator, StopRule};
+use sim::Simulator;
 use symbol::State;
 use tape::Tape;
 use timeline_rule::Times;
@@ -73,13 +73,13 @@ pub fn put_engine(xs: &mut [u64; 16], v: Simulator)
     put_tape(xs, 11, t2);
 }
 
-pub fn rule_of(n: u64) -> StopRule
+pub fn rule_of(n: u64) -> Option<State>
     ensures { result ≡ rule_of n }
 {
     if n < 65536 {
-        return StopRule::From(State(n as u16));
+        return Some(State(n as u16));
     }
-    StopRule::Never
+    None
 }
 
 pub fn chain_of(state: u16, cur: u8, xs: &[u64; 7]) -> ChainSim

@@ -1,16 +1,19 @@
 // Answers as numbers: a result, 0 or the number of a refusal, and values.
-ghost use Rattle.std.specs.Prelude.{◌≡◌};
+ghost use Rattle.std.specs.Prelude.{◌≡◌, List, ℕ};
 ghost use Rattle.outcome.specs.Numbers.{refusal_number};
-ghost use Rattle.capi_numbers.specs.Model.Answers.{place_out, refused_out, checked_code, checked_out, values_out, answer_code, answer_out, step_code, step_out, got_code, got_out, counted_code, counted_out, span_out, extent_code, extent_out, spot_out, located_code, located_out};
+ghost use Rattle.capi_numbers.specs.Model.Answers.{place_out, refused_out, result_code, result_out, values_out};
 
-use machine::Checked;
-use outcome::{Place, Refusal, Values};
-use sim::questions::{Counted, Extent, Got, Located};
-use sim::{Answer, StepAnswer};
-use symbol::position;
-use tape::{Span, Spot};
+use outcome::{Refusal, Values};
 
-fn put_values(xs: &mut [u64; 8], v: Values)
+// A value that a call's answer contains. It is written into the first places of `out`.
+pub trait Value {
+    ghost writes: { Self → List ℕ → List ℕ };
+
+    fn put(self, out: &mut [u64; 8])
+        ensures { out.new ≡ writes self out.old };
+}
+
+pub(crate) fn put_values(xs: &mut [u64; 8], v: Values)
     ensures { xs.new ≡ values_out v xs.old }
 {
     xs[0] = v.number as u64;
@@ -20,14 +23,11 @@ fn put_values(xs: &mut [u64; 8], v: Values)
     xs[4] = v.dir as u64;
 }
 
-fn put_place(xs: &mut [u64; 8], place: Place)
+fn put_place(xs: &mut [u64; 8], place: Option<u64>)
     ensures { xs.new ≡ place_out place xs.old }
 {
-    match place {
-        Place::At(i) => {
-            xs[0] = i;
-        }
-        Place::Unsaid => {}
+    if let Some(i) = place {
+        xs[0] = i;
     }
 }
 
@@ -38,128 +38,20 @@ pub fn refuse(xs: &mut [u64; 8], why: Refusal) -> u8
     why.number()
 }
 
-pub fn put_checked(xs: &mut [u64; 8], checked: Checked) -> u8
-    ensures { (result ≡ checked_code checked) × (xs.new ≡ checked_out checked xs.old) }
+// Writes a value; such a call refuses nothing.
+pub fn put_value<T: Value>(out: &mut [u64; 8], value: T) -> u8
+    ensures { (result ≡ 0) × (out.new ≡ T.writes value out.old) }
 {
-    match checked {
-        Checked::Accepted => {
-            return 0;
-        }
-        Checked::Refused(why) => {
-            return refuse(xs, why);
-        }
-    }
+    value.put(out);
+    0
 }
 
-pub fn put_answer(xs: &mut [u64; 8], answer: Answer) -> u8
-    ensures { (result ≡ answer_code answer) × (xs.new ≡ answer_out answer xs.old) }
+// Writes the value of an answer, or the place of its refusal.
+pub fn put_result<T: Value>(out: &mut [u64; 8], answer: Result<T, Refusal>) -> u8
+    ensures { (result ≡ result_code answer) × (out.new ≡ result_out T.writes answer out.old) }
 {
     match answer {
-        Answer::Done(outcome) => {
-            put_values(xs, outcome.to_values());
-            return 0;
-        }
-        Answer::Refused(why) => {
-            return refuse(xs, why);
-        }
-    }
-}
-
-pub fn put_step(xs: &mut [u64; 8], answer: StepAnswer) -> u8
-    ensures { (result ≡ step_code answer) × (xs.new ≡ step_out answer xs.old) }
-{
-    match answer {
-        StepAnswer::Done(status) => {
-            xs[0] = status.number() as u64;
-            return 0;
-        }
-        StepAnswer::Refused(why) => {
-            return refuse(xs, why);
-        }
-    }
-}
-
-pub fn put_got(out: &mut [u64; 8], answer: Got) -> u8
-    ensures { (result ≡ got_code answer) × (out.new ≡ got_out answer out.old) }
-{
-    match answer {
-        Got::Found(symbol) => {
-            out[0] = symbol.0 as u64;
-            return 0;
-        }
-        Got::Refused(why) => {
-            return refuse(out, why);
-        }
-    }
-}
-
-pub fn put_counted(out: &mut [u64; 8], answer: Counted) -> u8
-    ensures { (result ≡ counted_code answer) × (out.new ≡ counted_out answer out.old) }
-{
-    match answer {
-        Counted::Found(n) => {
-            out[0] = n;
-            return 0;
-        }
-        Counted::Refused(why) => {
-            return refuse(out, why);
-        }
-    }
-}
-
-fn put_span(out: &mut [u64; 8], span: Span)
-    ensures { out.new ≡ span_out span out.old }
-{
-    match span {
-        Span::Empty => {
-            out[0] = 0;
-        }
-        Span::Cells { from, to } => {
-            out[0] = 1;
-            out[1] = position::raised(from);
-            out[2] = position::raised(to);
-        }
-    }
-}
-
-pub fn put_extent(out: &mut [u64; 8], answer: Extent) -> u8
-    ensures { (result ≡ extent_code answer) × (out.new ≡ extent_out answer out.old) }
-{
-    match answer {
-        Extent::Found(span) => {
-            put_span(out, span);
-            return 0;
-        }
-        Extent::Refused(why) => {
-            return refuse(out, why);
-        }
-    }
-}
-
-fn put_spot(out: &mut [u64; 8], spot: Spot)
-    ensures { out.new ≡ spot_out spot out.old }
-{
-    match spot {
-        Spot::At(at) => {
-            out[0] = 1;
-            out[1] = position::raised(at);
-        }
-        Spot::Nowhere => {
-            out[0] = 0;
-        }
-    }
-}
-
-pub fn put_located(out: &mut [u64; 8], answer: Located) -> u8
-    ensures { (result ≡ located_code answer) × (out.new ≡ located_out answer out.old) }
-{
-    match answer {
-        Located::Found(spot) => {
-            put_spot(out, spot);
-            return 0;
-        }
-        Located::Refused(why) => {
-            return refuse(out, why);
-        }
+        Ok(value) => { put_value(out, value) }
+        Err(why) => refuse(out, why),
     }
 }

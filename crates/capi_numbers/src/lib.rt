@@ -3,3 +3,4 @@
 
 pub mod answers;
 pub mod parts;
+mod values;

@@ -13,8 +13,8 @@ ghost use Rattle.capi_rle.specs.Model.Calls.{chain_call, HandedBack, chain_new_c
 
 use capi_numbers::answers;
 use machine::Machine;
-use rle::{ChainSim, Fresh};
-use run_rules::Answer;
+use outcome::{Outcome, Refusal};
+use rle::ChainSim;
 
 // Makes a fresh engine.
 pub fn new(
@@ -34,13 +34,13 @@ pub fn new(
 {
     let fresh = ChainSim::new(m, table, word, ls, ll, rs, rl);
     match fresh {
-        Fresh::Made(sim) => {
+        Ok(sim) => {
             *state = sim.state.0;
             *cur = sim.tape.cur;
             capi_engines::put_chain(engine, sim);
             return 0;
         }
-        Fresh::Refused(why) => {
+        Err(why) => {
             return answers::refuse(out, why);
         }
     }
@@ -49,7 +49,7 @@ pub fn new(
 // Stores the engine after a run, and the run's answer, as numbers.
 fn hand_back(
     after: ChainSim,
-    answer: Answer,
+    answer: Result<Outcome, Refusal>,
     state: &mut u16,
     cur: &mut u8,
     engine: &mut [u64; 7],
@@ -60,7 +60,7 @@ fn hand_back(
     *state = after.state.0;
     *cur = after.tape.cur;
     capi_engines::put_chain(engine, after);
-    answers::put_answer(out, answer)
+    answers::put_result(out, answer)
 }
 
 // Runs over the table, with a stop rule and fuel.

@@ -12,7 +12,7 @@ ghost use Rattle.capi_rle.specs.Model.Timelines.{chain_timeline_call, chain_move
 use super::hand_back;
 use capi_numbers::answers;
 use machine::Machine;
-use rle_timeline::{Begun, Timeline};
+use rle_timeline::Timeline;
 
 pub fn new(
     m: Machine,
@@ -35,11 +35,11 @@ pub fn new(
     let sim = capi_engines::chain_of(state, cur, engine);
     let begun = Timeline::new(sim, m, table, ls, ll, rs, rl, store, most, every);
     match begun {
-        Begun::Made(timeline) => {
+        Ok(timeline) => {
             capi_engines::put_times(times, timeline.times);
             return 0;
         }
-        Begun::Refused(why) => {
+        Err(why) => {
             return answers::refuse(out, why);
         }
     }

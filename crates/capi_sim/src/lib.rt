@@ -13,7 +13,8 @@ ghost use Rattle.capi_sim.specs.Model.Calls.{call, HandedBack, new_call, step_ca
 
 use capi_numbers::answers;
 use machine::Machine;
-use sim::{Answer, Fresh, Simulator};
+use outcome::{Outcome, Refusal};
+use sim::Simulator;
 
 // Makes a fresh engine.
 pub fn new(
@@ -31,12 +32,12 @@ pub fn new(
 {
     let fresh = Simulator::new(m, table, word, c0, c1, c2);
     match fresh {
-        Fresh::Made(sim) => {
+        Ok(sim) => {
             *state = sim.state.0;
             capi_engines::put_engine(engine, sim);
             return 0;
         }
-        Fresh::Refused(why) => {
+        Err(why) => {
             return answers::refuse(out, why);
         }
     }
@@ -61,13 +62,13 @@ pub fn step(
     let answer = stepped.answer;
     *state = after.state.0;
     capi_engines::put_engine(engine, after);
-    answers::put_step(out, answer)
+    answers::put_result(out, answer)
 }
 
 // Stores the engine after a run, and the run's answer, as numbers.
 fn hand_back(
     after: Simulator,
-    answer: Answer,
+    answer: Result<Outcome, Refusal>,
     state: &mut u16,
     engine: &mut [u64; 16],
     out: &mut [u64; 8],
@@ -76,7 +77,7 @@ fn hand_back(
 {
     *state = after.state.0;
     capi_engines::put_engine(engine, after);
-    answers::put_answer(out, answer)
+    answers::put_result(out, answer)
 }
 
 // Runs over the table, with a stop rule and fuel.

@@ -12,7 +12,7 @@ ghost use Rattle.capi_sim.specs.Model.Timelines.{timeline_call, moved_call};
 use super::hand_back;
 use capi_numbers::answers;
 use machine::Machine;
-use sim_timeline::{Begun, Timeline};
+use sim_timeline::Timeline;
 
 pub fn new(
     m: Machine,
@@ -33,11 +33,11 @@ pub fn new(
     let sim = capi_engines::engine_of(state, engine);
     let begun = Timeline::new(sim, m, table, c0, c1, c2, store, most, every);
     match begun {
-        Begun::Made(timeline) => {
+        Ok(timeline) => {
             capi_engines::put_times(times, timeline.times);
             return 0;
         }
-        Begun::Refused(why) => {
+        Err(why) => {
             return answers::refuse(out, why);
         }
     }

@@ -1,19 +1,13 @@
 -- The runs of document 01's cases on the two engines, by the models that the contracts of `new` and `run` cite. Definitions only.
-use Rattle.std.specs.Prelude.{List, [], ◌∷◌, ℕ, replicate}
+use Rattle.sim.specs.declared.Simulator.{Simulator}
+use Rattle.std.specs.Prelude.{List, [], ◌∷◌, ℕ, replicate, Err, None, Ok, Result}
 use Rattle.outcome.specs.declared.Outcome.{Outcome}
 use Rattle.outcome.specs.declared.Refusal.{Refusal}
 use Rattle.outcome.specs.Numbers.{refusal_number}
 use Rattle.machine.specs.declared.Machine.{Machine}
-use Rattle.run_rules.specs.declared.StopRule.TheVariants.{Never}
-use Rattle.run_rules.specs.declared.Answer.{Answer}
-use Rattle.run_rules.specs.declared.Answer.TheVariants as Ans
-use Rattle.sim.specs.declared.Fresh.{Fresh}
-use Rattle.sim.specs.declared.Fresh.TheVariants as New
 use Rattle.sim.specs.Model.Engine.{conf}
 use Rattle.sim.specs.Model.Operations.{run_answer, Made, new_answer}
 use Rattle.rle.specs.declared.ChainSim.{ChainSim}
-use Rattle.rle.specs.declared.Fresh.{Fresh as ChainFresh}
-use Rattle.rle.specs.declared.Fresh.TheVariants as NewChain
 use Rattle.rle.specs.Model.Engine as Chain
 use Rattle.rle.specs.Model.Operations as Chains
 use Rattle.rle_refines.specs.Meaning.{Stack, stack_of}
@@ -27,15 +21,15 @@ pub data Says : Type 0 where
 abbrev pub refused_by : Refusal → Says
 refused_by why = refused (refusal_number why)
 
-abbrev pub says_of : Answer → Says
-says_of (Ans.Done o) = ended o
-says_of (Ans.Refused why) = refused_by why
+abbrev pub says_of : Result Outcome Refusal → Says
+says_of (Ok o) = ended o
+says_of (Err why) = refused_by why
 
 -- ---- the plain engine: a fresh one with 64 cells a tape, and a run of it
 
-abbrev pub run_fresh : Machine → List ℕ → ℕ → Made → Fresh → Says
-run_fresh m s fuel a (New.Refused why) = refused_by why
-run_fresh m s fuel a (New.Made v) = says_of (run_answer m s Never fuel (conf v a.c0 a.c1 a.c2)).answer
+abbrev pub run_fresh : Machine → List ℕ → ℕ → Made → Result Simulator Refusal → Says
+run_fresh m s fuel a (Err why) = refused_by why
+run_fresh m s fuel a (Ok v) = says_of (run_answer m s None fuel (conf v a.c0 a.c1 a.c2)).answer
 
 abbrev pub cells : List ℕ
 cells = replicate 64 7
@@ -50,9 +44,9 @@ plain m s w fuel =
 abbrev pub places : ℕ → List ℕ
 places n = replicate n 7
 
-abbrev pub on_fresh : {A : Type 0} → ChainFresh → (Refusal → A) → (ChainSim → A) → A
-on_fresh (NewChain.Refused why) turned made = turned why
-on_fresh (NewChain.Made v) turned made = made v
+abbrev pub on_fresh : {A : Type 0} → Result ChainSim Refusal → (Refusal → A) → (ChainSim → A) → A
+on_fresh (Err why) turned made = turned why
+on_fresh (Ok v) turned made = made v
 
 abbrev pub from_fresh : {A : Type 0} → (lefts : ℕ) → Machine → (table word : List ℕ) → (Refusal → A) → (Chain.Conf → A) → A
 from_fresh n m s w turned made =
@@ -62,9 +56,9 @@ from_fresh n m s w turned made =
 -- runs one after the other: the last answer, and the number of macro steps that the engine has made by then
 abbrev pub runs : Machine → List ℕ → (fuel : ℕ) (later : List ℕ) → Chain.Conf → Says × ℕ
 runs m s fuel [] σ =
-    let g : Chains.Given = Chains.run_answer m s Never fuel σ in
+    let g : Chains.Given = Chains.run_answer m s None fuel σ in
     (says_of g.answer, g.at.sim.macros)
-runs m s fuel (next ∷ later) σ = runs m s next later (Chains.run_answer m s Never fuel σ).at
+runs m s fuel (next ∷ later) σ = runs m s next later (Chains.run_answer m s None fuel σ).at
 
 abbrev pub chain_with : (lefts : ℕ) → Machine → (table word : List ℕ) → (fuel : ℕ) (later : List ℕ) → Says × ℕ
 chain_with n m s w fuel later = from_fresh n m s w (λ why. (refused_by why, 0)) (runs m s fuel later)

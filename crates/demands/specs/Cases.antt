@@ -1,5 +1,5 @@
 -- THE STARRED CASES of document 01: "The starred cases below are proved together as one table about the definitions". The contracts cite these definitions.
-use Rattle.std.specs.Prelude.{◌≡◌, refl, List, [], ◌∷◌, ℕ, ◌+◌, ◌^◌}
+use Rattle.std.specs.Prelude.{◌≡◌, refl, List, [], ◌∷◌, ℕ, ◌+◌, ◌^◌, Some}
 use Rattle.notation.specs.Choice.{pick, both}
 use Rattle.notation.specs.Scan.{all_in, first_fail}
 use Rattle.notation.specs.Fill.{fill_from}
@@ -8,7 +8,6 @@ use Rattle.symbol.specs.declared.Dir.TheVariants.{R}
 use Rattle.outcome.specs.declared.NonHaltProof.TheVariants.{StayLoop, ChainToInfinity}
 use Rattle.outcome.specs.declared.Outcome.TheVariants.{Halted, OutOfFuel, NeverHalts}
 use Rattle.machine.specs.declared.Machine.{Machine}
-use Rattle.machine.specs.declared.Entry.TheVariants.{Defined}
 use Rattle.machine.specs.Layout.{action_at, entry_at, single_of}
 use Rattle.machine.specs.Model.Check.{entry_ok, entries_check, size_check, table_check}
 use Rattle.machine.specs.Model.Packing.{action_word, pack_word}
@@ -71,7 +70,7 @@ starred =
     ∷ case (ended (Halted 4 (state_of 0)), 1) (chain_with 8 (one 1) keeper (1 ∷ 1 ∷ 1 ∷ 1 ∷ []) 10 [])
     ∷ case (ended (Halted 4 (state_of 0)), 2) (chain_with 8 (one 1) keeper (1 ∷ 1 ∷ 1 ∷ 1 ∷ []) 2 (2 ∷ []))
     -- "Packed 1, R, next 1, stride 2: 8,590,000,385."
-    ∷ case 8590000385 (pack_word (Defined (single_of (symbol_of 1) R (state_of 1))) 2)
+    ∷ case 8590000385 (pack_word (Some (single_of (symbol_of 1) R (state_of 1))) 2)
     ∷ []
 
 -- the two values of every case are equal

@@ -1,22 +1,14 @@
 -- THE FIRST DEMAND for the run-length engine. Each part is about the definitions that the contracts of its operations cite.
-use Rattle.std.specs.Prelude.{◌≡◌, ◌↔◌, true, false, List, [], ◌∷◌, ℕ, ◌+◌, ◌≤◌, ◌<◌, ◌^◌, ℤ, length, get_or}
+use Rattle.symbol.specs.declared.State.{State}
+use Rattle.outcome.specs.declared.Refusal.{Refusal}
+use Rattle.std.specs.Prelude.{◌≡◌, ◌↔◌, true, false, List, [], ◌∷◌, ℕ, ◌+◌, ◌≤◌, ◌<◌, ◌^◌, ℤ, length, get_or, Err, Ok, Option, Result, ⊤}
 use Rattle.outcome.specs.declared.Outcome.TheVariants.{OutOfFuel, Full}
 use Rattle.machine.specs.declared.Machine.{Machine}
-use Rattle.machine.specs.declared.Checked.{Checked}
-use Rattle.machine.specs.declared.Checked.TheVariants.{Accepted, Refused}
 use Rattle.table_laws.specs.WellFormed.{Bytes}
-use Rattle.run_rules.specs.declared.StopRule.{StopRule}
-use Rattle.run_rules.specs.declared.Answer.TheVariants as Ans
-use Rattle.run_rules.specs.declared.questions.Got.TheVariants as Got
-use Rattle.run_rules.specs.declared.questions.Extent.TheVariants as Extent
-use Rattle.run_rules.specs.declared.questions.Counted.TheVariants as Counted
 use Rattle.table_machine.specs.TableMachine.{start}
 use Rattle.table_machine.specs.Tables.{table_of}
 use Rattle.sim.specs.Model.Engine.{matches}
 use Rattle.rle_records.specs.declared.Run.{Run}
-use Rattle.rle_records.specs.declared.Listed.{Listed}
-use Rattle.rle_records.specs.declared.Listed.TheVariants as Listed
-use Rattle.rle.specs.declared.Fresh.TheVariants as New
 use Rattle.rle.specs.Model.Engine.{Conf}
 use Rattle.rle.specs.Fits.{chain_fits, engine_check, run_check}
 use Rattle.rle.specs.Model.Operations.{fresh_sizes, Given, given, run_answer, Made, made, new_answer}
@@ -25,7 +17,7 @@ use Rattle.rle.specs.Model.Records.{left_answer, left_into, right_answer, right_
 use Rattle.rle_refines.specs.Meaning.{Stack, empty, config_of, ChainFits, left_end, right_end, Near, Alike}
 use Rattle.rle_refines.specs.Full.{height, Stacked}
 use Rattle.demands_second.specs.Space.{GoesOn, ChainFull}
-use Rattle.demands_first.specs.FirstClaims.{TurnsAway, of_chain, of_answer, of_got, of_extent, of_counted, of_listed}
+use Rattle.demands_first.specs.FirstClaims.{TurnsAway, refusal_of}
 use Rattle.demands_first.specs.FirstTests.{chain_new_tests, chain_run_tests, chain_ask_tests, chain_list_tests}
 use Rattle.demands_first.specs.FirstSpace.{EndsFull}
 
@@ -34,31 +26,31 @@ pub record ChainOperations : Type 0 where
 
   -- a fresh engine: the answer, with the right side's places; the left side's are lent only for reading
   pub new : (m : Machine) (s w ls ll rs rl : List ℕ)
-      → TurnsAway (1 ∷ 2 ∷ 3 ∷ 4 ∷ 5 ∷ 6 ∷ 8 ∷ 9 ∷ 10 ∷ 11 ∷ []) (chain_new_tests m s w ls ll rs rl) (λ (x : Made). of_chain x.answer) (λ why. made (New.Refused why) rs rl)
+      → TurnsAway (1 ∷ 2 ∷ 3 ∷ 4 ∷ 5 ∷ 6 ∷ 8 ∷ 9 ∷ 10 ∷ 11 ∷ []) (chain_new_tests m s w ls ll rs rl) (λ (x : Made). refusal_of x.answer) (λ why. made (Err why) rs rl)
       (new_answer m s w ls ll rs rl)
   -- the check of an engine value: it writes nothing
   pub engine_check_holds : (m : Machine) (s : List ℕ) (σ : Conf)
-      → TurnsAway (1 ∷ 2 ∷ 3 ∷ 4 ∷ 5 ∷ 6 ∷ 8 ∷ 11 ∷ 12 ∷ []) (chain_ask_tests m s σ) (λ (r : Checked). r) Refused (engine_check m s σ)
+      → TurnsAway (1 ∷ 2 ∷ 3 ∷ 4 ∷ 5 ∷ 6 ∷ 8 ∷ 11 ∷ 12 ∷ []) (chain_ask_tests m s σ) (λ (r : Result ⊤ Refusal). r) Err (engine_check m s σ)
   -- a run: the answer, with the engine handed back and the places of both sides
-  pub run : (m : Machine) (s : List ℕ) (rule : StopRule) (fuel : ℕ) (σ : Conf)
-      → TurnsAway (1 ∷ 2 ∷ 3 ∷ 4 ∷ 5 ∷ 6 ∷ 8 ∷ 11 ∷ 12 ∷ 13 ∷ []) (chain_run_tests m s σ fuel) (λ (x : Given). of_answer x.answer) (λ why. given σ (Ans.Refused why))
+  pub run : (m : Machine) (s : List ℕ) (rule : Option State) (fuel : ℕ) (σ : Conf)
+      → TurnsAway (1 ∷ 2 ∷ 3 ∷ 4 ∷ 5 ∷ 6 ∷ 8 ∷ 11 ∷ 12 ∷ 13 ∷ []) (chain_run_tests m s σ fuel) (λ (x : Given). refusal_of x.answer) (λ why. given σ (Err why))
       (run_answer m s rule fuel σ)
   -- the tape questions; `window`, `left` and `right` with their lent slice
   pub get : (m : Machine) (s : List ℕ) (z : ℤ) (σ : Conf)
-      → TurnsAway (1 ∷ 2 ∷ 3 ∷ 4 ∷ 5 ∷ 6 ∷ 8 ∷ 11 ∷ 12 ∷ []) (chain_ask_tests m s σ) of_got Got.Refused (get_answer m s z σ)
+      → TurnsAway (1 ∷ 2 ∷ 3 ∷ 4 ∷ 5 ∷ 6 ∷ 8 ∷ 11 ∷ 12 ∷ []) (chain_ask_tests m s σ) refusal_of Err (get_answer m s z σ)
   pub non_blank : (m : Machine) (s : List ℕ) (σ : Conf)
-      → TurnsAway (1 ∷ 2 ∷ 3 ∷ 4 ∷ 5 ∷ 6 ∷ 8 ∷ 11 ∷ 12 ∷ []) (chain_ask_tests m s σ) of_extent Extent.Refused (extent_answer m s σ)
+      → TurnsAway (1 ∷ 2 ∷ 3 ∷ 4 ∷ 5 ∷ 6 ∷ 8 ∷ 11 ∷ 12 ∷ []) (chain_ask_tests m s σ) refusal_of Err (extent_answer m s σ)
   pub count_non_blank : (m : Machine) (s : List ℕ) (σ : Conf)
-      → TurnsAway (1 ∷ 2 ∷ 3 ∷ 4 ∷ 5 ∷ 6 ∷ 8 ∷ 11 ∷ 12 ∷ []) (chain_ask_tests m s σ) of_counted Counted.Refused (count_answer m s σ)
+      → TurnsAway (1 ∷ 2 ∷ 3 ∷ 4 ∷ 5 ∷ 6 ∷ 8 ∷ 11 ∷ 12 ∷ []) (chain_ask_tests m s σ) refusal_of Err (count_answer m s σ)
   pub window : (m : Machine) (s : List ℕ) (z : ℤ) (σ : Conf) (out : List ℕ)
-      → TurnsAway (1 ∷ 2 ∷ 3 ∷ 4 ∷ 5 ∷ 6 ∷ 8 ∷ 11 ∷ 12 ∷ []) (chain_ask_tests m s σ) (λ (x : Checked × List ℕ). x.0) (λ why. (Refused why, out))
+      → TurnsAway (1 ∷ 2 ∷ 3 ∷ 4 ∷ 5 ∷ 6 ∷ 8 ∷ 11 ∷ 12 ∷ []) (chain_ask_tests m s σ) (λ (x : Result ⊤ Refusal × List ℕ). x.0) (λ why. (Err why, out))
       (engine_check m s σ, window_into m s z σ out)
   pub left : (m : Machine) (s : List ℕ) (σ : Conf) (out : List Run)
-      → TurnsAway (1 ∷ 2 ∷ 3 ∷ 4 ∷ 5 ∷ 6 ∷ 8 ∷ 11 ∷ 12 ∷ 18 ∷ []) (chain_list_tests m s σ σ.sim.tape.left (length out)) (λ (x : Listed × List Run). of_listed x.0)
-      (λ why. (Listed.Refused why, out)) (left_answer m s (length out) σ, left_into m s σ out)
+      → TurnsAway (1 ∷ 2 ∷ 3 ∷ 4 ∷ 5 ∷ 6 ∷ 8 ∷ 11 ∷ 12 ∷ 18 ∷ []) (chain_list_tests m s σ σ.sim.tape.left (length out)) (λ (x : Result ℕ Refusal × List Run). refusal_of x.0)
+      (λ why. (Err why, out)) (left_answer m s (length out) σ, left_into m s σ out)
   pub right : (m : Machine) (s : List ℕ) (σ : Conf) (out : List Run)
-      → TurnsAway (1 ∷ 2 ∷ 3 ∷ 4 ∷ 5 ∷ 6 ∷ 8 ∷ 11 ∷ 12 ∷ 18 ∷ []) (chain_list_tests m s σ σ.sim.tape.right (length out)) (λ (x : Listed × List Run). of_listed x.0)
-      (λ why. (Listed.Refused why, out)) (right_answer m s (length out) σ, right_into m s σ out)
+      → TurnsAway (1 ∷ 2 ∷ 3 ∷ 4 ∷ 5 ∷ 6 ∷ 8 ∷ 11 ∷ 12 ∷ 18 ∷ []) (chain_list_tests m s σ σ.sim.tape.right (length out)) (λ (x : Result ℕ Refusal × List Run). refusal_of x.0)
+      (λ why. (Err why, out)) (right_answer m s (length out) σ, right_into m s σ out)
   -- ---- "11 .. fewer right run places than the word's right stack has runs, or a run side over 1,048,576": the test fresh_sizes
 
   -- a word with symbols below k gives two stacks of the table machine's start tape; by the stack rule there are no other two
@@ -77,15 +69,15 @@ pub record ChainOperations : Type 0 where
   -- ---- "Lack of space stops a run before the step that needs it, earlier steps kept."
 
   -- a run that answers Full n has made the steps of the table machine up to step n, and the next step is full (EndsFull)
-  pub full : (m : Machine) (s : List ℕ) → Bytes s → (rule : StopRule) (fuel : ℕ) (σ τ : Conf) (n : ℕ) → run_answer m s rule fuel σ ≡ given τ (Ans.Done (Full n))
+  pub full : (m : Machine) (s : List ℕ) → Bytes s → (rule : Option State) (fuel : ℕ) (σ τ : Conf) (n : ℕ) → run_answer m s rule fuel σ ≡ given τ (Ok (Full n))
       → EndsFull m (table_of m s) (config_of σ) (config_of τ) fuel n (ChainFull m s τ)
   -- "Full exactly when the step's push needs a new run on a side whose live runs fill its lent places" (ChainFull): with fuel, an entry, no proved loop and no
   -- match of the stop rule, the run answers full, with the engine and every place as they were, exactly there
-  pub full_exact : (m : Machine) (s : List ℕ) → Bytes s → (rule : StopRule) (fuel : ℕ) (σ : Conf) → run_check m s fuel σ ≡ Accepted → 0 < fuel
+  pub full_exact : (m : Machine) (s : List ℕ) → Bytes s → (rule : Option State) (fuel : ℕ) (σ : Conf) → run_check m s fuel σ ≡ Ok tt → 0 < fuel
       → GoesOn m (table_of m s) (config_of σ) → matches rule σ.sim.state ≡ false
-      → (run_answer m s rule fuel σ ≡ given σ (Ans.Done (Full σ.sim.steps))) ↔ ChainFull m s σ
+      → (run_answer m s rule fuel σ ≡ given σ (Ok (Full σ.sim.steps))) ↔ ChainFull m s σ
   -- no run goes past a full step: where a run makes a steps and the next step is full, a run with more fuel ends there and keeps the a steps. The two engines
   -- differ only in the macro steps and past the live runs (Alike)
-  pub full_onward : (m : Machine) (s : List ℕ) → Bytes s → (rule : StopRule) (a b : ℕ) (σ τ : Conf) (n : ℕ) → run_answer m s rule a σ ≡ given τ (Ans.Done (OutOfFuel n))
-      → run_check m s (a + b) σ ≡ Accepted → 0 < b → matches rule τ.sim.state ≡ false → ChainFull m s τ
-      → (ω : Conf) × (run_answer m s rule (a + b) σ ≡ given ω (Ans.Done (Full n))) × Alike τ ω
+  pub full_onward : (m : Machine) (s : List ℕ) → Bytes s → (rule : Option State) (a b : ℕ) (σ τ : Conf) (n : ℕ) → run_answer m s rule a σ ≡ given τ (Ok (OutOfFuel n))
+      → run_check m s (a + b) σ ≡ Ok tt → 0 < b → matches rule τ.sim.state ≡ false → ChainFull m s τ
+      → (ω : Conf) × (run_answer m s rule (a + b) σ ≡ given ω (Ok (Full n))) × Alike τ ω

@@ -1,5 +1,5 @@
 -- The tests of each operation, in document 01's order. Definitions only.
-use Rattle.std.specs.Prelude.{Bool, true, false, List, [], ◌∷◌, ◌++◌, ℕ, ◌+◌, ◌-◌, ◌*◌, ◌^◌, eqb, ltb, leb, length}
+use Rattle.std.specs.Prelude.{Bool, true, false, List, [], ◌∷◌, ◌++◌, ℕ, ◌+◌, ◌-◌, ◌*◌, ◌^◌, eqb, ltb, leb, length, Err, Ok, Result}
 use Rattle.notation.specs.Choice.{pick, both}
 use Rattle.notation.specs.Scan.{all_in}
 use Rattle.outcome.specs.declared.Refusal.TheVariants as Why
@@ -8,8 +8,6 @@ use Rattle.machine.specs.Layout.{entry_count}
 use Rattle.machine.specs.Model.Check.{within, entry_ok}
 use Rattle.machine.specs.Model.Word.{symbol_in}
 use Rattle.alphabet.specs.Model.{allowed_at}
-use Rattle.table_text_form.specs.declared.Scanned.{Scanned}
-use Rattle.table_text_form.specs.declared.Scanned.TheVariants.{Formed, Malformed}
 use Rattle.table_text_form.specs.Form.{form_of}
 use Rattle.table_text_rows.specs.Rows.{lettered_rows, has_line}
 use Rattle.table_text_reader.specs.Reading.{has_byte}
@@ -58,25 +56,25 @@ encode_tests glyphs flags word room =
 
 -- ---- the one-line form, in document 02's words
 
-abbrev pub is_formed : Scanned → Bool
-is_formed (Formed rows k) = true
-is_formed (Malformed i) = false
+abbrev pub is_formed : Result (ℕ × ℕ) ℕ → Bool
+is_formed (Ok (rows, k)) = true
+is_formed (Err i) = false
 
-abbrev pub rows_of : Scanned → ℕ
-rows_of (Formed rows k) = rows
-rows_of (Malformed i) = 0
+abbrev pub rows_of : Result (ℕ × ℕ) ℕ → ℕ
+rows_of (Ok (rows, k)) = rows
+rows_of (Err i) = 0
 
-abbrev pub symbols_of : Scanned → ℕ
-symbols_of (Formed rows k) = k
-symbols_of (Malformed i) = 0
+abbrev pub symbols_of : Result (ℕ × ℕ) ℕ → ℕ
+symbols_of (Ok (rows, k)) = k
+symbols_of (Err i) = 0
 
-abbrev pub malformed_at : Scanned → ℕ
-malformed_at (Formed rows k) = 0
-malformed_at (Malformed i) = i
+abbrev pub malformed_at : Result (ℕ × ℕ) ℕ → ℕ
+malformed_at (Ok (rows, k)) = 0
+malformed_at (Err i) = i
 
 -- "19 malformed line (first byte that no line of the form has after those before it, or the length if it ends early), 20 a letter other than Z, or a digit, that
 -- the line's rows lack, .. then 18 for a short buffer, in that order": the table has Z's row beside those of the line
-abbrev pub read_tests_of : Scanned → List ℕ → (room : ℕ) → List Test
+abbrev pub read_tests_of : Result (ℕ × ℕ) ℕ → List ℕ → (room : ℕ) → List Test
 read_tests_of x line room =
     or (is_formed x) (Why.MalformedLine (malformed_at x))
     ∷ or (all_in (has_byte (rows_of x) (symbols_of x) line) (length line) 0) (Why.LineLacks (lowest (has_byte (rows_of x) (symbols_of x) line) (length line)))

@@ -1,19 +1,18 @@
 -- The tests of a timeline over any kind of engine, in document 01's order, and the first demand's claims about it. Definitions only.
-use Rattle.std.specs.Prelude.{◌≡◌, ◌↔◌, Bool, true, false, List, [], ◌∷◌, ◌++◌, ℕ, ◌+◌, ◌-◌, ◌*◌, ◌/◌, ◌<◌, min, max, ◌^◌, ltb, leb}
-use Rattle.std.proofs.Math.Option.{Option, none, some}
+use Rattle.outcome.specs.declared.Refusal.{Refusal}
+use Rattle.std.specs.Prelude.{◌≡◌, ◌↔◌, Bool, true, false, List, [], ◌∷◌, ◌++◌, ℕ, ◌+◌, ◌-◌, ◌*◌, ◌/◌, ◌<◌, min, max, ◌^◌, ltb, leb, Err, None, Ok, Option, Result, Some, ⊤}
 use Rattle.notation.specs.Choice.{pick, both}
 use Rattle.outcome.specs.declared.Outcome.{Outcome}
 use Rattle.outcome.specs.declared.Outcome.TheVariants.{Full}
 use Rattle.outcome.specs.declared.Refusal.TheVariants as Why
 use Rattle.machine.specs.declared.Machine.{Machine}
-use Rattle.machine.specs.declared.Checked.{Checked}
-use Rattle.machine.specs.declared.Checked.TheVariants.{Accepted, Refused}
 use Rattle.table_laws.specs.WellFormed.{Bytes}
 use Rattle.table_machine.specs.Tables.{table_of}
 use Rattle.sim.specs.Model.Engine.{Conf}
 use Rattle.store_bytes.specs.Model.{slot_count, slot_of}
 use Rattle.timeline_rule.specs.declared.Times.{Times}
-use Rattle.timeline_rule.specs.Model.Timeline.{Call, Reply, refused, answered, target, slot_for, slot_step}
+use Rattle.timeline_rule.specs.declared.Call.{Call}
+use Rattle.timeline_rule.specs.Model.Timeline.{Reply, refused, answered, target, slot_for, slot_step}
 use Rattle.timeline_rule.specs.Model.Kind.{Kind, TimelineOf, call_on, new_with}
 use Rattle.demands_first.specs.FirstClaims.{Test, or, TurnsAway}
 use Rattle.demands_first.specs.FirstTests.{table_tests, between, plain_sizes, plain_fits}
@@ -22,14 +21,14 @@ use Rattle.demands_first.specs.FirstSlots.{Meaning, bytes_at}
 
 -- ---- the refusal in an answer
 
-abbrev pub of_reply : {A : Type 0} → Reply A → Checked
-of_reply (answered a) = Accepted
-of_reply (refused why) = Refused why
+abbrev pub of_reply : {A : Type 0} → Reply A → Result ⊤ Refusal
+of_reply (answered a) = Ok tt
+of_reply (refused why) = Err why
 
 -- a slot that holds an engine
 abbrev pub is_there : {A : Type 0} → Option A → Bool
-is_there none = false
-is_there (some a) = true
+is_there None = false
+is_there (Some a) = true
 
 -- "16 the slot to restore holds no fitting engine of its step": tested where the call goes back; `slot_fits` below states the test by the slot's bytes
 abbrev pub slot_holds : (X : Kind) → Machine → TimelineOf X → (target : ℕ) → Bool

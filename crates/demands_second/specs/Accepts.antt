@@ -1,7 +1,6 @@
 -- The inputs that document 01 accepts, in its words: words, buffers and run places, engine values, packed words. Definitions only.
-use Rattle.std.specs.Prelude.{◌≡◌, List, ℕ, ◌+◌, ◌*◌, ◌≤◌, ◌<◌, ◌^◌, length, get_or}
+use Rattle.std.specs.Prelude.{◌≡◌, List, ℕ, ◌+◌, ◌*◌, ◌≤◌, ◌<◌, ◌^◌, length, get_or, Ok}
 use Rattle.machine.specs.declared.Machine.{Machine}
-use Rattle.machine.specs.declared.Checked.TheVariants.{Accepted}
 use Rattle.machine.specs.Model.Packing.{pack_word, pack_check, pack_into}
 use Rattle.table_laws.specs.WellFormed.{LaidOut, WellFormed}
 use Rattle.table_machine.specs.TableMachine.{start_tape}
@@ -64,7 +63,7 @@ pub record ChainTaken (m : Machine) (s : List ℕ) (σ : Chain.Conf) : Type 0 wh
 
 -- packing a table: it is accepted, each packed word is in its place of the output, and the places past them are as they were
 pub record Packs (m : Machine) (s out : List ℕ) : Type 0 where
-  pub answers : pack_check m s (length out) ≡ Accepted
+  pub answers : pack_check m s (length out) ≡ Ok tt
   pub same_length : length (pack_into m s out) ≡ length out
   pub each : (i : ℕ) → i < m.states * m.symbols → (l : LaidOut m s i) → get_or (pack_into m s out) i 0 ≡ pack_word l.entry m.symbols
   pub rest : (i : ℕ) → m.states * m.symbols ≤ i → get_or (pack_into m s out) i 0 ≡ get_or out i 0

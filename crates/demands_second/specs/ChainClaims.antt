@@ -1,5 +1,5 @@
 -- The claims of SecondChain about a macro step, about the macro steps of a run, and about the runs of a side as records. Definitions only.
-use Rattle.std.specs.Prelude.{◌≡◌, List, [], ◌∷◌, ◌++◌, ℕ, suc, ◌+◌, ◌-◌, ◌≤◌, ◌<◌, min, eqb, drop}
+use Rattle.std.specs.Prelude.{◌≡◌, List, [], ◌∷◌, ◌++◌, ℕ, suc, ◌+◌, ◌-◌, ◌≤◌, ◌<◌, min, eqb, drop, Some}
 use Rattle.notation.specs.Choice.{pick}
 use Rattle.symbol.specs.Kinds.{symbol_of}
 use Rattle.symbol.specs.declared.Dir.{Dir}
@@ -8,7 +8,6 @@ use Rattle.outcome.specs.declared.NonHaltProof.{NonHaltProof}
 use Rattle.outcome.specs.declared.Outcome.TheVariants.{NeverHalts}
 use Rattle.machine.specs.declared.Machine.{Machine}
 use Rattle.machine.specs.declared.Action.{Action}
-use Rattle.machine.specs.declared.Entry.TheVariants.{Defined}
 use Rattle.table_machine.specs.TableMachine.{Table, Config, read_t, entry, run, Sideways, Verdict}
 use Rattle.sim.specs.Model.Engine.{Task}
 use Rattle.rle_records.specs.declared.Run.{Run}
@@ -48,7 +47,7 @@ pub record MacroStep (k : Task) (fuel : ℕ) (σ : Conf) (j : Macro) : Type 0 wh
   pub went : Went k j.repeats σ (macro_of j σ)
   pub some : 1 ≤ j.repeats
   pub within : j.repeats ≤ fuel
-  pub lasts : (a : Action) → entry (table_in k) (config_of σ) ≡ Defined a
+  pub lasts : (a : Action) → entry (table_in k) (config_of σ) ≡ Some a
       → Lasts k.machine (table_in k) fuel (config_of σ) a (stack_of (left_of σ)) (stack_of (right_of σ)) j.repeats
   -- "`macro_steps` adds one a macro step"
   pub counted : (macro_of j σ).sim.macros ≡ σ.sim.macros + 1
@@ -61,7 +60,7 @@ pub record MacroStep (k : Task) (fuel : ℕ) (σ : Conf) (j : Macro) : Type 0 wh
 pub data Macros (m : Machine) (d : Table) : (fuel : ℕ) → Config → (n : ℕ) → Config → Type 0 where
   none : {fuel : ℕ} {c : Config} → Macros m d fuel c 0 c
   -- a macro step of j steps, then the others with the remaining fuel
-  more : {fuel n : ℕ} {c e : Config} (a : Action) (left right : Stack) (j : ℕ) → 0 < fuel → entry d c ≡ Defined a → Stacked m.symbols c.tape0 left right
+  more : {fuel n : ℕ} {c e : Config} (a : Action) (left right : Stack) (j : ℕ) → 0 < fuel → entry d c ≡ Some a → Stacked m.symbols c.tape0 left right
       → Lasts m d fuel c a left right j → Macros m d (fuel - j) (run d j c) n e → Macros m d fuel c (suc n) e
 
 -- ---- "the runs of one side, topmost last, symbol and length together"

@@ -5,8 +5,8 @@ ghost use Rattle.std.specs.Prelude.{◌<◌};
 
 use machine::Machine;
 use rle::ChainSim;
-use sim::{Simulator, StopRule};
-use sim_timeline::{Begun, Timeline};
+use sim::Simulator;
+use sim_timeline::Timeline;
 use std::io;
 use symbol::{Dir, State};
 
@@ -32,11 +32,11 @@ fn run_twice(rt: &impl Print, m: Machine, table: &[u8; 48]) -> io::Result<()> {
     let mut c1 = [0u8; 1];
     let mut c2 = [0u8; 1];
     match Simulator::new(m, table, b"", &mut c0, &mut c1, &mut c2) {
-        sim::Fresh::Refused(why) => print::refused(rt, why),
-        sim::Fresh::Made(sim) => {
-            let first = sim.run(m, table, &mut c0, &mut c1, &mut c2, StopRule::Never, 5);
+        Err(why) => print::refused(rt, why),
+        Ok(sim) => {
+            let first = sim.run(m, table, &mut c0, &mut c1, &mut c2, None, 5);
             let sim = print::ran(rt, "plain, fuel 5: ", first)?;
-            let second = sim.run(m, table, &mut c0, &mut c1, &mut c2, StopRule::Never, 5);
+            let second = sim.run(m, table, &mut c0, &mut c1, &mut c2, None, 5);
             print::ran(rt, "plain, fuel 5 again: ", second)?;
             Ok(())
         }
@@ -51,11 +51,11 @@ fn travel(rt: &impl Print, m: Machine, table: &[u8; 48]) -> io::Result<()> {
     let mut c2 = [0u8; 1];
     let mut store = [0u8; 1728];
     match Simulator::new(m, table, b"", &mut c0, &mut c1, &mut c2) {
-        sim::Fresh::Refused(why) => print::refused(rt, why),
-        sim::Fresh::Made(sim) => {
+        Err(why) => print::refused(rt, why),
+        Ok(sim) => {
             match Timeline::new(sim, m, table, &c0, &c1, &c2, &mut store, 8, 16) {
-                Begun::Refused(why) => print::refused(rt, why),
-                Begun::Made(t) => moves(rt, t, m, table, &mut c0, &mut c1, &mut c2, &mut store),
+                Err(why) => print::refused(rt, why),
+                Ok(t) => moves(rt, t, m, table, &mut c0, &mut c1, &mut c2, &mut store),
             }
         }
     }
@@ -88,9 +88,9 @@ fn stop_on_state_1(rt: &impl Print, m: Machine, table: &[u8; 48]) -> io::Result<
     let mut rs = [0u8; 16];
     let mut rl = [0u64; 16];
     match ChainSim::new(m, table, b"", &ls, &ll, &mut rs, &mut rl) {
-        rle::Fresh::Refused(why) => print::refused(rt, why),
-        rle::Fresh::Made(sim) => {
-            let rule = StopRule::From(State(1));
+        Err(why) => print::refused(rt, why),
+        Ok(sim) => {
+            let rule = Some(State(1));
             let ran = sim.run(m, table, &mut ls, &mut ll, &mut rs, &mut rl, rule, 5);
             let answer = ran.answer;
             print::told(rt, "run-length, stop on state 1, fuel 5: ", answer)

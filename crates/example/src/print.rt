@@ -1,6 +1,6 @@
 // Answers as lines of text on standard output.
 use outcome::{Outcome, Refusal};
-use sim::{Answer, Simulator};
+use sim::Simulator;
 use sim_timeline::Timeline;
 use std::io;
 
@@ -13,11 +13,15 @@ pub(crate) fn refused(rt: &impl Print, why: Refusal) -> io::Result<()> {
     say(rt, "refused ", u64::from(why.number()))
 }
 
-pub(crate) fn told(rt: &impl Print, call: &str, answer: Answer) -> io::Result<()> {
+pub(crate) fn told(
+    rt: &impl Print,
+    call: &str,
+    answer: Result<Outcome, Refusal>,
+) -> io::Result<()> {
     print!(rt; "{call}")?;
     match answer {
-        Answer::Refused(why) => refused(rt, why),
-        Answer::Done(outcome) => match outcome {
+        Err(why) => refused(rt, why),
+        Ok(outcome) => match outcome {
             Outcome::Halted { steps, state: _ } => say(rt, "halted at ", steps),
             Outcome::OutOfFuel { steps } => say(rt, "out of fuel at ", steps),
             Outcome::NeverHalts { steps, proof: _ } => say(rt, "never halts, seen at ", steps),

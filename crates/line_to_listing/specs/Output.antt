@@ -1,17 +1,11 @@
 -- THE OUTPUT: from the bytes of the input to the bytes that are printed. Definitions only.
-use Rattle.std.specs.Prelude.{ℕ, zero, suc, ◌*◌, ◌-◌, ◌/◌, ◌%◌, List, [], ◌∷◌, ◌++◌, eqb, length, get_or, take, replicate}
+use Rattle.std.specs.Prelude.{ℕ, zero, suc, ◌*◌, ◌-◌, ◌/◌, ◌%◌, List, [], ◌∷◌, ◌++◌, eqb, length, get_or, take, replicate, Err, None, Ok, Option, Result, Some}
 use Rattle.notation.specs.Choice.{pick}
 use Rattle.outcome.specs.declared.Refusal.{Refusal}
-use Rattle.outcome.specs.declared.Place.{Place}
-use Rattle.outcome.specs.declared.Place.TheVariants.{At, Unsaid}
 use Rattle.outcome.specs.Numbers.{refusal_number, place_of}
 use Rattle.machine.specs.declared.Machine.{Machine}
 use Rattle.machine.specs.declared.Action.{Action}
-use Rattle.machine.specs.declared.Entry.{Entry}
-use Rattle.machine.specs.declared.Entry.TheVariants.{Undefined, Defined}
 use Rattle.machine.specs.Layout.{entry_at}
-use Rattle.table_text_reader.specs.declared.Read.{Read}
-use Rattle.table_text_reader.specs.declared.Read.TheVariants.{Table, Refused}
 use Rattle.table_text_reader.specs.Reading.{read_of, read_into}
 use Rattle.table_text_writer.specs.Writing.{move_text}
 use Rattle.listing_text.specs.Text.{bytes}
@@ -42,9 +36,9 @@ entry_line k i a =
     ++ number_then a.next.0 10
 
 -- an undefined entry has no line
-unfoldable pub entry_text : (k i : ℕ) → Entry → List ℕ
-entry_text k i Undefined = []
-entry_text k i (Defined a) = entry_line k i a
+unfoldable pub entry_text : (k i : ℕ) → Option Action → List ℕ
+entry_text k i None = []
+entry_text k i (Some a) = entry_line k i a
 
 -- the lines of the first n entries of table s
 unfoldable pub entry_lines : (k : ℕ) → List ℕ → (n : ℕ) → List ℕ
@@ -59,18 +53,18 @@ listing_of m s =
 
 -- ---- a refusal: its number, and its place where it has one
 
-unfoldable pub place_text : Place → List ℕ
-place_text Unsaid = []
-place_text (At i) = 32 ∷ show i
+unfoldable pub place_text : Option ℕ → List ℕ
+place_text None = []
+place_text (Some i) = 32 ∷ show i
 
 unfoldable pub refused_text : Refusal → List ℕ
 refused_text why = bytes "refused " ++ show (refusal_number why) ++ place_text (place_of why) ++ bytes "\n"
 
 -- ---- the answer
 
-abbrev pub answer_for : Read → (table : List ℕ) → List ℕ
-answer_for (Table m) s = listing_of m s
-answer_for (Refused why) s = refused_text why
+abbrev pub answer_for : Result Machine Refusal → (table : List ℕ) → List ℕ
+answer_for (Ok m) s = listing_of m s
+answer_for (Err why) s = refused_text why
 
 -- 2,080 bytes are enough for 26 rows of 10 entries
 abbrev pub blank_table : List ℕ

@@ -17,17 +17,14 @@ use std::io::{Read, Write};
 mod printing;
 
 // The number of bytes in the line: all but one newline at the end.
+#[tactic(auto, unfolding(crate::specs::Output::line_length, notation::specs::Choice::pick))]
 fn line_length(input: &[u8]) -> usize
     ensures { (result ≡ line_length input.now) × (result ≤ length input.now) }
 {
-    let n = input.len();
-    if n == 0 {
-        return 0;
+    match input {
+        [line @ .., b'\n'] => line.len(),
+        _ => input.len(),
     }
-    if input[n - 1] == b'\n' {
-        return n - 1;
-    }
-    n
 }
 
 // Prints the answer to the input.
@@ -39,12 +36,8 @@ fn print(input: &[u8], out: &mut [u8]) -> usize
     let n = line_length(input);
     let read = table_text::read_line(&input[..n], &mut table);
     match read {
-        table_text::Read::Table(m) => {
-            return printing::listing(out, m, &table);
-        }
-        table_text::Read::Refused(why) => {
-            return printing::refused(out, why);
-        }
+        Ok(m) => printing::listing(out, m, &table),
+        Err(why) => printing::refused(out, why),
     }
 }
 
@@ -64,11 +57,8 @@ fn run<R: Read, W: Write>(reader: &mut R, writer: &mut W) -> Result<(), Failed>
     ensures unread { IsErrOf result Failed.Reading → Keeps (W.contents writer.old) (W.contents writer.new) }
 {
     let mut input = [0u8; 65536];
-    let read = program_input::read_input(reader, &mut input);
-    if read.failed {
-        return Err(Failed::Reading);
-    }
-    answer(&input[..read.size], writer)
+    let size = program_input::read_input(reader, &mut input)?;
+    answer(&input[..size], writer)
 }
 
 fn main(rt: HostRuntime) {

@@ -6,8 +6,8 @@ ghost use Rattle.line_to_listing.specs.Output.{number_then, machine_line, entry_
 
 use listing_text::inner as writer;
 use machine::inner::entry_at;
-use machine::{Action, Entry, Machine};
-use outcome::{Place, Refusal};
+use machine::{Action, Machine};
+use outcome::Refusal;
 use symbol::Dir;
 
 // Prints a number and a byte.
@@ -63,17 +63,13 @@ fn entry_line(out: &mut [u8], at: usize, symbols: u64, i: u64, a: Action) -> usi
 }
 
 // Prints the line of an entry; an undefined entry has none.
-fn entry(out: &mut [u8], at: usize, symbols: u64, i: u64, e: Entry) -> usize
+fn entry(out: &mut [u8], at: usize, symbols: u64, i: u64, e: Option<Action>) -> usize
     requires { (at + 86 ≤ length out.old) × (0 < symbols) }
     ensures { Wrote out.old at (entry_text symbols i e) out.new result × (result ≤ at + 86) }
 {
     match e {
-        Entry::Undefined => {
-            return at;
-        }
-        Entry::Defined(a) => {
-            return entry_line(out, at, symbols, i, a);
-        }
+        None => at,
+        Some(a) => entry_line(out, at, symbols, i, a),
     }
 }
 
@@ -83,10 +79,8 @@ fn entries(out: &mut [u8], at: usize, symbols: u64, table: &[u8], count: u64) ->
     ensures { Wrote out.old at (entry_lines symbols table.now count) out.new result × (result ≤ at + 86 * count) }
 {
     let mut end = at;
-    let mut i: u64 = 0;
-    while i < count {
+    for i in 0..count {
         end = entry(out, end, symbols, i, entry_at(table, i as usize));
-        i += 1;
     }
     end
 }
@@ -104,17 +98,15 @@ pub(crate) fn listing(out: &mut [u8], m: Machine, table: &[u8]) -> usize
 }
 
 // Prints a space and a place, where there is one.
-fn place(out: &mut [u8], at: usize, p: Place) -> usize
+fn place(out: &mut [u8], at: usize, p: Option<u64>) -> usize
     requires { at + 21 ≤ length out.old }
     ensures { Wrote out.old at (place_text p) out.new result × (result ≤ at + 21) }
 {
     match p {
-        Place::Unsaid => {
-            return at;
-        }
-        Place::At(i) => {
+        None => at,
+        Some(i) => {
             let next = writer::put(out, at, b" ");
-            return writer::print_u64(out, next, i);
+            writer::print_u64(out, next, i)
         }
     }
 }

@@ -1,19 +1,18 @@
 -- THE OUTPUT of document 01 ("Listing"): from the bytes of the input to the bytes that `seekrun` prints. Definitions only.
-use Rattle.std.specs.Prelude.{ℕ, ◌+◌, ◌*◌, ◌≤◌, List, [], ◌++◌, ltb, length, drop, replicate}
+use Rattle.std.specs.Prelude.{ℕ, ◌+◌, ◌*◌, ◌≤◌, List, [], ◌++◌, ltb, length, drop, replicate, Err, Ok, Result}
 use Rattle.notation.specs.Choice.{pick}
 use Rattle.outcome.specs.declared.Refusal.{Refusal}
 use Rattle.outcome.specs.declared.Refusal.TheVariants as Why
 use Rattle.outcome.specs.Numbers.{refusal_number}
 use Rattle.machine.specs.declared.Machine.{Machine}
 use Rattle.sim.specs.Model.Engine.{Conf}
-use Rattle.timeline_rule.specs.Model.Timeline.{Reply, refused, answered, Call}
+use Rattle.timeline_rule.specs.declared.Call.{Call}
+use Rattle.timeline_rule.specs.Model.Timeline.{Reply, refused, answered}
 use Rattle.timeline_rule.specs.Model.Kind.{new_on}
 use Rattle.sim_slots.specs.Model.Kind.{Lent, create_of, plain_kind}
 use Rattle.listing_reader.specs.Listing.{Sofar, table_in, Listing, listing}
 use Rattle.listing_reader.specs.Listing as Read
 use Rattle.listing_rows.specs.Rows.{row_most, rows_of, refused_line, output}
-use Rattle.listing.specs.declared.Listed.{Listed}
-use Rattle.listing.specs.declared.Listed.TheVariants as Did
 
 -- ---- "`seekrun` .. runs the plain engine: 4,096 cells a tape, m 8, interval 16"
 
@@ -64,12 +63,12 @@ abbrev pub output_most : ℕ
 output_most = 39 + 64 * row_most
 
 -- refusal 18 where the output is shorter than that
-unfoldable pub list_of : (input out : List ℕ) → Listed × List ℕ
+unfoldable pub list_of : (input out : List ℕ) → Result ℕ Refusal × List ℕ
 list_of input out =
-    pick (ltb (length out) output_most) (Did.Refused Why.OutputSize, out)
-    (Did.Printed (length (answer_to input)), answer_to input ++ drop (length (answer_to input)) out)
+    pick (ltb (length out) output_most) (Err Why.OutputSize, out)
+    (Ok (length (answer_to input)), answer_to input ++ drop (length (answer_to input)) out)
 
 -- what was printed lies in the output
-abbrev pub PrintedIn : Listed → (long : ℕ) → Type 0
-PrintedIn (Did.Printed n) long = n ≤ long
-PrintedIn (Did.Refused why) long = Unit {0}
+abbrev pub PrintedIn : Result ℕ Refusal → (long : ℕ) → Type 0
+PrintedIn (Ok n) long = n ≤ long
+PrintedIn (Err why) long = Unit {0}

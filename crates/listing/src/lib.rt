@@ -12,19 +12,12 @@ mod printed;
 // The most bytes of an answer: a names line of 39 bytes, and 64 rows of 136.
 const OUTPUT: usize = 8743;
 
-// The number of bytes printed into the output, or the refusal.
-#[derive(Clone, Copy)]
-pub enum Listed {
-    Printed(usize),
-    Refused(Refusal),
-}
-
 // Prints the answer to the input's listing. The output must have space for the longest answer.
-pub fn list(input: &[u8], output: &mut [u8]) -> Listed
+pub fn list(input: &[u8], output: &mut [u8]) -> Result<usize, Refusal>
     ensures { ((result, output.new) ≡ list_of input.now output.old) × PrintedIn result (length output.new) }
 {
     if output.len() < OUTPUT {
-        return Listed::Refused(Refusal::OutputSize);
+        return Err(Refusal::OutputSize);
     }
-    Listed::Printed(printed::print(input, output))
+    Ok(printed::print(input, output))
 }

@@ -5,11 +5,12 @@ ghost use Rattle.listing_reader.specs.Invariants.{sofar, ReaderOk};
 ghost use Rattle.listing.specs.Output.{output_most, answer_of, answer_to};
 
 use super::asked;
-use listing_reader::{Parsed, Reader};
+use listing_reader::Reader;
+use timeline_rule::Call;
 
 // Prints the answer to an input without a bad line, on the machine's part of the table.
-fn answer(x: Reader, out: &mut [u8], table: &[u8], word: &[u8], calls: &[u64]) -> usize
-    requires { (output_most ≤ length out.old) × ReaderOk x × (length table.now ≡ 4096) × (length word.now ≡ 81) × (length calls.now ≡ 128) }
+fn answer(x: Reader, out: &mut [u8], table: &[u8], word: &[u8], calls: &[Call]) -> usize
+    requires { (output_most ≤ length out.old) × ReaderOk x × (length table.now ≡ 4096) × (length word.now ≡ 81) × (length calls.now ≡ 64) }
     ensures { Wrote out.old 0 (answer_of (sofar x table.now word.now calls.now)) out.new result }
 {
     let m = x.machine;
@@ -26,14 +27,7 @@ pub(crate) fn print(input: &[u8], out: &mut [u8]) -> usize
     let got = listing_reader::read(input);
     let parsed = got.parsed;
     match parsed {
-        Parsed::Refused(n) => {
-            return listing_rows::inner::refused(out, 0, n);
-        }
-        Parsed::Asked(x) => {
-            let table = got.table;
-            let word = got.word;
-            let calls = got.calls;
-            return answer(x, out, &table, &word, &calls);
-        }
+        Err(n) => listing_rows::inner::refused(out, 0, n),
+        Ok(x) => answer(x, out, &got.table, &got.word, &got.calls),
     }
 }

@@ -6,7 +6,6 @@
 ghost use Rattle.std.specs.Prelude.{◌<◌};
 ghost use Rattle.program_input.specs.Counts.{IsPrefixLen};
 
-use listing::Listed;
 use std::io::Read;
 use std::rt::Files;
 use std::{fs, io, str};
@@ -24,7 +23,7 @@ fn digit(n: usize) -> u8
     requires { n < 10 }
     ensures { result < 128 }
 {
-    48 + (n as u8)
+    b'0' + n as u8
 }
 
 fn open_input<R: Files>(rt: &R, i: usize) -> io::Result<R::File>
@@ -52,25 +51,21 @@ fn print(input: &[u8], output: &mut [u8]) -> usize
     ensures { IsPrefixLen result output.new }
 {
     match listing::list(input, output) {
-        Listed::Printed(n) => n,
-        Listed::Refused(_) => 0,
+        Ok(n) => n,
+        Err(_) => 0,
     }
 }
 
 // Whether both files can be read, and the listing prints for the first file what the second contains.
 fn agrees<R: Read>(input: &mut R, expected: &mut R) -> bool {
     let mut given = [0u8; 65536];
-    let case = program_input::read_input(input, &mut given);
-    if case.failed {
+    let Ok(n) = program_input::read_input(input, &mut given) else {
         return false;
-    }
+    };
     let mut wanted = [0u8; 65536];
-    let answer = program_input::read_input(expected, &mut wanted);
-    if answer.failed {
+    let Ok(m) = program_input::read_input(expected, &mut wanted) else {
         return false;
-    }
-    let n = case.size;
-    let m = answer.size;
+    };
     let mut printed = [0u8; 65536];
     let k = print(&given[..n], &mut printed);
     listing_text::same(&printed[..k], &wanted[..m])
@@ -113,9 +108,9 @@ fn summary(rt: &(impl Print + Eprint), pairs: usize, differ: usize) {
 }
 
 fn main(rt: HostRuntime) {
+    let mut pairs: usize = 0;
     let mut differ: usize = 0;
-    let mut i: usize = 0;
-    while i < 1000 {
+    for i in 0..1000 {
         match run(&rt, i) {
             Pair::Same => {}
             Pair::Differs => {
@@ -124,7 +119,7 @@ fn main(rt: HostRuntime) {
             }
             Pair::Missing => break,
         }
-        i += 1;
+        pairs += 1;
     }
-    summary(&rt, i, differ);
+    summary(&rt, pairs, differ);
 }

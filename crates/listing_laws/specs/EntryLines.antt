@@ -1,10 +1,9 @@
 -- THE TABLE THAT A LISTING GIVES, by the text of its lines (document 01, "Listing"). Definitions only.
-use Rattle.std.specs.Prelude.{ℕ, ◌<◌, ◌≡◌, List, [], ◌∷◌, ◌++◌, length, get_or}
+use Rattle.std.specs.Prelude.{ℕ, ◌<◌, ◌≡◌, List, [], ◌∷◌, ◌++◌, length, get_or, None, Some}
 use Rattle.symbol.specs.declared.Dir.{Dir}
 use Rattle.symbol.specs.declared.Dir.TheVariants.{L, R, N}
 use Rattle.symbol.specs.Kinds.{symbol_of, state_of}
 use Rattle.machine.specs.declared.Machine.{Machine}
-use Rattle.machine.specs.declared.Entry.TheVariants.{Undefined, Defined}
 use Rattle.machine.specs.Layout.{single_of}
 use Rattle.table_machine.specs.Tables.{table_of}
 use Rattle.listing_text.specs.Text.{bytes}
@@ -49,8 +48,8 @@ pub record GivesTable (s : List ℕ) (m : Machine) (t : List ℕ) : Type 0 where
       → (q : ℕ) × (a : ℕ) × (w : ℕ) × (d : Dir) × (r : ℕ) × Gives m (get_or entries i []) q a w d r
   -- the line `q a w d r` defines the entry for state q and symbol a as exactly that action
   pub given : (i q a w : ℕ) (d : Dir) (r : ℕ) → i < length entries → Gives m (get_or entries i []) q a w d r
-      → table_of m t q a 0 0 ≡ Defined (single_of (symbol_of w) d (state_of r))
+      → table_of m t q a 0 0 ≡ Some (single_of (symbol_of w) d (state_of r))
   -- where no line gives an entry for a state and a symbol, the table has none
   pub ungiven : (q a : ℕ) → q < m.states → a < m.symbols
       → ((i w : ℕ) (d : Dir) (r : ℕ) → i < length entries → ¬ Gives m (get_or entries i []) q a w d r)
-      → table_of m t q a 0 0 ≡ Undefined
+      → table_of m t q a 0 0 ≡ None

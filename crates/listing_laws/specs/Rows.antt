@@ -6,7 +6,8 @@ use Rattle.tape.specs.Model.Moves.{held}
 use Rattle.tape.specs.Model.Questions.{count_of}
 use Rattle.sim.specs.Model.Engine.{Conf}
 use Rattle.sim_refines.specs.Counts.{Counts}
-use Rattle.timeline_rule.specs.Model.Timeline.{answered, Call}
+use Rattle.timeline_rule.specs.declared.Call.{Call}
+use Rattle.timeline_rule.specs.Model.Timeline.{answered}
 use Rattle.timeline_rule.specs.Model.Kind.{TimelineOf, new_on, call_on}
 use Rattle.sim_slots.specs.Model.Kind.{create_of, plain_kind}
 use Rattle.timeline_laws.specs.Statement.{after_on, held_on, FreshList}

@@ -1,14 +1,13 @@
 // Functions that write the content of a line into lent slices with space for it.
-ghost use Rattle.std.specs.Prelude.{◌≡◌, ◌+◌, ◌*◌, ◌≤◌, ◌<◌, length, set};
+ghost use Rattle.std.specs.Prelude.{◌≡◌, ◌+◌, ◌*◌, ◌≤◌, ◌<◌, length, Some};
 ghost use Rattle.std.proofs.Math.Seq.{paste};
 ghost use Rattle.notation.specs.Choice.{pick};
-ghost use Rattle.machine.specs.declared.Entry.TheVariants.{Defined};
 ghost use Rattle.table_laws.specs.WellFormed.{entry_bytes};
 ghost use Rattle.listing_lines.specs.Forms.{place, given, define, action_of};
 ghost use Rattle.listing_lines.specs.Model.{read_word, CountOk, Small, RuleOk};
 
-use super::{Count, Rule};
-use listing_text::{Num, fields};
+use super::Rule;
+use listing_text::fields;
 use machine::Machine;
 
 // Defines an entry, unless it was given before. Returns whether it was given before.
@@ -34,32 +33,27 @@ fn place_of(m: Machine, e: Rule) -> usize
 
 // Writes the eight bytes of an entry of one tape. The moves of the two tapes that it lacks are N: 3 × 2 + 9 × 2.
 fn store(table: &mut [u8], at: usize, e: Rule)
-    requires { (at + 8 ≤ length table.old) × (e.next < 65536) × (e.write < 256) × (e.dir < 3) }
-    ensures { table.new ≡ paste table.old at (entry_bytes (Defined (action_of e))) 8 }
+    requires { (at + 8 ≤ length table.old) × (e.next < 65536) × (e.write < 256) }
+    ensures { table.new ≡ paste table.old at (entry_bytes (Some (action_of e))) 8 }
 {
-    let moves = (e.dir + 24) as u8;
+    let moves = e.dir.number() + 24;
     table_bytes::inner::put_entry(table, at, e.next as u16, e.write as u8, 0, 0, moves);
 }
 
 // Reads the word line's symbols into the first places of `word`, up to the first bad one. The other places stay.
-pub fn read_word(k: u64, l: &[u8], word: &mut [u8]) -> Count
+pub fn read_word(k: u64, l: &[u8], word: &mut [u8]) -> Option<usize>
     requires { (k ≤ 256) × (length l.now ≤ 80) × (81 ≤ length word.old) }
     ensures { ((result, word.new) ≡ read_word k l.now word.old) × CountOk result }
 {
     if l.len() == 0 {
-        return Count::Of(0);
+        return Some(0);
     }
     let n = fields::count_fields(l);
-    let mut i = 0;
-    while i < n {
-        let f = fields::below_at(l, i, k);
-        let Num::Value(a) = f else {
-            return Count::Bad;
-        };
+    for i in 0..n {
+        let a = fields::below_at(l, i, k)?;
         word[i] = narrow(a);
-        i += 1;
     }
-    Count::Of(n)
+    Some(n)
 }
 
 fn narrow(a: u64) -> u8
@@ -67,13 +61,4 @@ fn narrow(a: u64) -> u8
     ensures { result ≡ a }
 {
     a as u8
-}
-
-// Writes call n: its kind at 2n, its number at 2n + 1.
-pub fn put_call(calls: &mut [u64], n: usize, kind: u64, number: u64)
-    requires { 2 * n + 2 ≤ length calls.old }
-    ensures { calls.new ≡ set (set calls.old (2 * n) kind) (2 * n + 1) number }
-{
-    calls[2 * n] = kind;
-    calls[2 * n + 1] = number;
 }

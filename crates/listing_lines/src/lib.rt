@@ -4,53 +4,22 @@
 ghost use Rattle.std.specs.Prelude.{◌≡◌};
 ghost use Rattle.listing_text.specs.Pieces.{field, same_list};
 ghost use Rattle.listing_lines.specs.Forms.{first_line, columns_line, word_line, heading_line, machine_ok, machine_line, move, entry_line, call_line};
-ghost use Rattle.listing_lines.specs.Model.{machine_in, rule_in, call_in, call_code};
 
-use listing_text::{Num, fields};
+use listing_text::fields;
 use machine::Machine;
+use symbol::Dir;
+use timeline_rule::Call;
 
 pub mod inner;
 
-#[derive(Clone, Copy)]
-pub enum MachineLine {
-    Of(Machine),
-    Bad,
-}
-
-// An entry line's numbers; `dir` is 0 for L, 1 for R, 2 for N.
+// What an entry line says.
 #[derive(Clone, Copy)]
 pub struct Rule {
     pub state: u64,
     pub read: u64,
     pub write: u64,
-    pub dir: u64,
+    pub dir: Dir,
     pub next: u64,
-}
-
-#[derive(Clone, Copy)]
-pub enum EntryLine {
-    Of(Rule),
-    Bad,
-}
-
-// The number of symbols in a word line.
-#[derive(Clone, Copy)]
-pub enum Count {
-    Of(usize),
-    Bad,
-}
-
-// A call line's numbers; `kind` is 0 for seek, 1 for forward, 2 for back.
-#[derive(Clone, Copy)]
-pub struct CallCode {
-    pub kind: u64,
-    pub number: u64,
-}
-
-#[derive(Clone, Copy)]
-pub enum CallLine {
-    Of(CallCode),
-    Bad,
 }
 
 pub fn is_first(l: &[u8]) -> bool
@@ -77,37 +46,25 @@ pub fn is_heading(l: &[u8]) -> bool
     listing_text::same(l, b"call number")
 }
 
-pub fn machine_line(l: &[u8]) -> MachineLine
-    ensures { machine_in result ≡ machine_line l.now }
+pub fn machine_line(l: &[u8]) -> Option<Machine>
+    ensures { result ≡ machine_line l.now }
 {
     if fields::count_fields(l) != 4 {
-        return MachineLine::Bad;
+        return None;
     }
-    let f0 = fields::number_at(l, 0);
-    let Num::Value(tapes) = f0 else {
-        return MachineLine::Bad;
-    };
-    let f1 = fields::number_at(l, 1);
-    let Num::Value(symbols) = f1 else {
-        return MachineLine::Bad;
-    };
-    let f2 = fields::number_at(l, 2);
-    let Num::Value(states) = f2 else {
-        return MachineLine::Bad;
-    };
-    let f3 = fields::number_at(l, 3);
-    let Num::Value(start) = f3 else {
-        return MachineLine::Bad;
-    };
+    let tapes = fields::number_at(l, 0)?;
+    let symbols = fields::number_at(l, 1)?;
+    let states = fields::number_at(l, 2)?;
+    let start = fields::number_at(l, 3)?;
     if machine_ok(tapes, symbols, states, start) {
-        return MachineLine::Of(Machine {
+        return Some(Machine {
             tapes,
             symbols,
             states,
             start,
         });
     }
-    MachineLine::Bad
+    None
 }
 
 // Whether a machine has one tape, numbers in their ranges, and a table of at most 512 entries.
@@ -135,33 +92,18 @@ fn machine_ok(t: u64, k: u64, n: u64, s: u64) -> bool
     n * k <= 512
 }
 
-pub fn entry_line(m: Machine, l: &[u8]) -> EntryLine
-    ensures { rule_in result ≡ entry_line m l.now }
+pub fn entry_line(m: Machine, l: &[u8]) -> Option<Rule>
+    ensures { result ≡ entry_line m l.now }
 {
     if fields::count_fields(l) != 5 {
-        return EntryLine::Bad;
+        return None;
     }
-    let f0 = fields::below_at(l, 0, m.states);
-    let Num::Value(state) = f0 else {
-        return EntryLine::Bad;
-    };
-    let f1 = fields::below_at(l, 1, m.symbols);
-    let Num::Value(read) = f1 else {
-        return EntryLine::Bad;
-    };
-    let f2 = fields::below_at(l, 2, m.symbols);
-    let Num::Value(write) = f2 else {
-        return EntryLine::Bad;
-    };
-    let f3 = move_at(l, 3);
-    let Num::Value(dir) = f3 else {
-        return EntryLine::Bad;
-    };
-    let f4 = fields::below_at(l, 4, m.states);
-    let Num::Value(next) = f4 else {
-        return EntryLine::Bad;
-    };
-    EntryLine::Of(Rule {
+    let state = fields::below_at(l, 0, m.states)?;
+    let read = fields::below_at(l, 1, m.symbols)?;
+    let write = fields::below_at(l, 2, m.symbols)?;
+    let dir = move_at(l, 3)?;
+    let next = fields::below_at(l, 4, m.states)?;
+    Some(Rule {
         state,
         read,
         write,
@@ -170,40 +112,37 @@ pub fn entry_line(m: Machine, l: &[u8]) -> EntryLine
     })
 }
 
-// The move in field k of a line, as a number: 0 for L, 1 for R, 2 for N.
-fn move_at(l: &[u8], k: usize) -> Num
+// The move in field k of a line.
+fn move_at(l: &[u8], k: usize) -> Option<Dir>
     ensures { result ≡ move (field l.now k) }
 {
     if fields::field_is(l, k, b"L") {
-        return Num::Value(0);
+        return Some(Dir::L);
     }
     if fields::field_is(l, k, b"R") {
-        return Num::Value(1);
+        return Some(Dir::R);
     }
     if fields::field_is(l, k, b"N") {
-        return Num::Value(2);
+        return Some(Dir::N);
     }
-    Num::Bad
+    None
 }
 
-pub fn call_line(l: &[u8]) -> CallLine
-    ensures { (result ≡ call_code (call_line l.now)) × (call_in result ≡ call_line l.now) }
+pub fn call_line(l: &[u8]) -> Option<Call>
+    ensures { result ≡ call_line l.now }
 {
     if fields::count_fields(l) != 2 {
-        return CallLine::Bad;
+        return None;
     }
-    let f1 = fields::number_at(l, 1);
-    let Num::Value(number) = f1 else {
-        return CallLine::Bad;
-    };
+    let number = fields::number_at(l, 1)?;
     if fields::field_is(l, 0, b"seek") {
-        return CallLine::Of(CallCode { kind: 0, number });
+        return Some(Call::Seek(number));
     }
     if fields::field_is(l, 0, b"forward") {
-        return CallLine::Of(CallCode { kind: 1, number });
+        return Some(Call::Forward(number));
     }
     if fields::field_is(l, 0, b"back") {
-        return CallLine::Of(CallCode { kind: 2, number });
+        return Some(Call::Back(number));
     }
-    CallLine::Bad
+    None
 }

@@ -2,7 +2,7 @@
 use Rattle.std.specs.Prelude.{ℕ, ◌+◌, ◌*◌, List, [], ◌∷◌, ◌++◌, length, take, replicate, leb, ltb}
 use Rattle.notation.specs.Choice.{pick}
 use Rattle.machine.specs.declared.Machine.{Machine}
-use Rattle.timeline_rule.specs.Model.Timeline.{Call}
+use Rattle.timeline_rule.specs.declared.Call.{Call}
 use Rattle.listing_text.specs.Pieces.{lines, same_list}
 use Rattle.listing_lines.specs.Forms.{first_line, columns_line, word_line, heading_line, on_some, machine_line, entry_line, word_of, call_line, given, define}
 use Rattle.listing_reader.specs.declared.Due.{Due}

@@ -5,6 +5,7 @@ ghost use Rattle.std.specs.Prelude.{◌≡◌};
 ghost use Rattle.listing_reader.specs.Contents.{contents_of};
 
 use machine::Machine;
+use timeline_rule::Call;
 
 mod lines;
 mod turns;
@@ -30,29 +31,15 @@ pub struct Reader {
     pub calls: usize,
 }
 
-// The result of one line.
-#[derive(Clone, Copy)]
-pub(crate) enum Turn {
-    On(Reader),
-    Bad,
-}
-
-// What the whole input asks for, or the number of its first bad line.
-#[derive(Clone, Copy)]
-pub enum Parsed {
-    Refused(u64),
-    Asked(Reader),
-}
-
 // The content of a whole input: what it asks for, its table, and its word and its calls in the first places of their
-// arrays. The other places hold 0. After a bad line the arrays hold what was read before it, and a bad word line's
+// arrays. The other places hold 0, or a seek to step 0. After a bad line the arrays hold what was read before it, and a bad word line's
 // symbols before the first bad one.
 #[derive(Clone, Copy)]
 pub struct Contents {
-    pub parsed: Parsed,
+    pub parsed: Result<Reader, u64>,
     pub table: [u8; 4096],
     pub word: [u8; 81],
-    pub calls: [u64; 128],
+    pub calls: [Call; 64],
 }
 
 // Reads a whole listing. It returns the arrays by value, so the caller lends only the input.
@@ -61,7 +48,7 @@ pub fn read(input: &[u8]) -> Contents
 {
     let mut table: [u8; 4096] = [0; 4096];
     let mut word: [u8; 81] = [0; 81];
-    let mut calls: [u64; 128] = [0; 128];
+    let mut calls: [Call; 64] = [Call::Seek(0); 64];
     let parsed = lines::parse(input, &mut table, &mut word, &mut calls);
     Contents {
         parsed,

@@ -1,5 +1,6 @@
 -- THE ROWS OF THE OUTPUT of document 01 ("Listing"): the row of each call on the plain engine's timeline, and its bytes. Definitions only.
-use Rattle.std.specs.Prelude.{ℕ, List, [], ◌∷◌, ◌++◌, ℤ, get_or}
+use Rattle.outcome.specs.declared.Refusal.{Refusal}
+use Rattle.std.specs.Prelude.{ℕ, List, [], ◌∷◌, ◌++◌, ℤ, get_or, Err, Ok, Result}
 use Rattle.notation.specs.Position.{◌⊖◌}
 use Rattle.outcome.specs.declared.Outcome.{Outcome}
 use Rattle.outcome.specs.Numbers.{outcome_number, refusal_number}
@@ -7,9 +8,8 @@ use Rattle.machine.specs.declared.Machine.{Machine}
 use Rattle.tape.specs.Model.Moves.{held}
 use Rattle.tape.specs.Model.Questions.{count_of}
 use Rattle.sim.specs.declared.Simulator.{Simulator}
-use Rattle.run_rules.specs.declared.Answer.{Answer}
-use Rattle.run_rules.specs.declared.Answer.TheVariants as Ans
-use Rattle.timeline_rule.specs.Model.Timeline.{Reply, refused, answered, Call}
+use Rattle.timeline_rule.specs.declared.Call.{Call}
+use Rattle.timeline_rule.specs.Model.Timeline.{Reply, refused, answered}
 use Rattle.timeline_rule.specs.Model.Kind.{TimelineOf, call_on}
 use Rattle.sim_slots.specs.Model.Kind.{plain_kind}
 use Rattle.listing_text.specs.Text.{bytes}
@@ -46,9 +46,9 @@ abbrev pub lent_in : TimelineOf plain_kind → List ℕ × List ℕ × List ℕ 
 lent_in w = (w.engine.c0, w.engine.c1, w.engine.c2, w.store)
 
 -- the code's answer to a call, as a reply of the model
-abbrev pub reply_of : Answer → Reply Outcome
-reply_of (Ans.Refused why) = refused why
-reply_of (Ans.Done o) = answered o
+abbrev pub reply_of : Result Outcome Refusal → Reply Outcome
+reply_of (Err why) = refused why
+reply_of (Ok o) = answered o
 
 -- ---- its bytes
 

@@ -11,6 +11,7 @@ use listing_text::inner as writer;
 use outcome::Outcome;
 use sim::Simulator;
 use tape::Tape;
+use tape::view::View;
 
 // Prints the word of an answer.
 fn answer(out: &mut [u8], at: usize, outcome: Outcome) -> usize
@@ -18,21 +19,10 @@ fn answer(out: &mut [u8], at: usize, outcome: Outcome) -> usize
     ensures { Wrote out.old at (said outcome) out.new result × (result ≤ at + 6) }
 {
     match outcome {
-        Outcome::OutOfFuel { steps: _ } => {
-            return writer::put(out, at, b"fuel");
-        }
-        Outcome::Stopped { steps: _ } => {
-            return writer::put(out, at, b"fuel");
-        }
-        Outcome::Halted { steps: _, state: _ } => {
-            return writer::put(out, at, b"halted");
-        }
-        Outcome::NeverHalts { steps: _, proof: _ } => {
-            return writer::put(out, at, b"never");
-        }
-        Outcome::Full { steps: _ } => {
-            return writer::put(out, at, b"full");
-        }
+        Outcome::OutOfFuel { .. } | Outcome::Stopped { .. } => writer::put(out, at, b"fuel"),
+        Outcome::Halted { .. } => writer::put(out, at, b"halted"),
+        Outcome::NeverHalts { .. } => writer::put(out, at, b"never"),
+        Outcome::Full { .. } => writer::put(out, at, b"full"),
     }
 }
 
@@ -77,7 +67,7 @@ pub(crate) fn row(
 {
     let t = sim.t0;
     let state = sim.state;
-    let score = tape::inner::count_non_blank(t, cells);
+    let score = View { tape: t, cells }.count_non_blank();
     let r1 = answer(out, at, outcome);
     let r2 = number(out, r1, sim.steps);
     let r3 = number(out, r2, state.0 as u64);

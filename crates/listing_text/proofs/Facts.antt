@@ -3,3 +3,4 @@ pub mod NumberCases
 pub mod PieceCases
 pub mod PrintCases
 pub mod ReadBack
+pub mod Library

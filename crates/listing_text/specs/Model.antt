@@ -1,16 +1,13 @@
 -- The results of the functions that read and print, for their contracts. Definitions only.
-use Rattle.std.specs.Prelude.{ℕ, suc, ◌+◌, ◌*◌, ◌-◌, ◌^◌, ◌≤◌, ◌≡◌, Bool, List, [], ◌∷◌, eqb, leb, ltb, length, get_or, take, drop}
+use Rattle.std.specs.Prelude.{ℕ, suc, ◌+◌, ◌*◌, ◌-◌, ◌^◌, ◌≤◌, ◌≡◌, Bool, List, [], ◌∷◌, eqb, leb, ltb, length, get_or, None, Option, Some}
 use Rattle.std.proofs.Math.Seq.{paste}
 use Rattle.notation.specs.Choice.{pick, both}
 use Rattle.listing_text.specs.Numbers.{is_digit}
-use Rattle.listing_text.specs.Pieces.{field}
-use Rattle.listing_text.specs.declared.Num.{Num}
-use Rattle.listing_text.specs.declared.Num.TheVariants.{Value, Bad}
 
 -- v with one more digit b, within 64 bits
-unfoldable pub add_digit : ℕ → ℕ → Num
+unfoldable pub add_digit : ℕ → ℕ → Option ℕ
 add_digit v b =
-    pick (is_digit b) (pick (ltb (v * 10 + (b - 48)) (2 ^ 64)) (Value (v * 10 + (b - 48))) Bad) Bad
+    pick (is_digit b) (pick (ltb (v * 10 + (b - 48)) (2 ^ 64)) (Some (v * 10 + (b - 48))) None) None
 
 unfoldable pub zero_first : List ℕ → Bool
 zero_first s = both (leb 2 (length s)) (eqb (get_or s 0 0) 48)
@@ -19,12 +16,6 @@ zero_first s = both (leb 2 (length s)) (eqb (get_or s 0 0) 48)
 unfoldable pub up_to : (sep : ℕ) → List ℕ → ℕ
 up_to sep [] = 0
 up_to sep (b ∷ s) = pick (eqb b sep) 0 (suc (up_to sep s))
-
--- field k of a line lies from `start` to before `stop`
-pub record IsField (l : List ℕ) (k start stop : ℕ) : Type 0 where
-  pub ordered : start ≤ stop
-  pub inside : stop ≤ length l
-  pub is : take (stop - start) (drop start l) ≡ field l k
 
 -- bs is written into o from `at` on, all of it fits, and r is the index after it
 pub record Wrote (o : List ℕ) (at : ℕ) (bs o' : List ℕ) (r : ℕ) : Type 0 where

@@ -1,5 +1,5 @@
 // Functions that require that all lies inside the slices: they find a separator, or print into a lent slice.
-ghost use Rattle.std.specs.Prelude.{◌≡◌, ◌∷◌, ◌+◌, ◌%◌, ◌≤◌, length, drop};
+ghost use Rattle.std.specs.Prelude.{◌≡◌, ◌∷◌, ◌+◌, ◌≤◌, length, drop};
 ghost use Rattle.std.proofs.Math.IntN.{sub_ℕ};
 ghost use Rattle.std.proofs.Math.Seq.{paste};
 ghost use Rattle.listing_text.specs.Show.{show, show_ℤ};
@@ -10,14 +10,10 @@ pub fn find(s: &[u8], at: usize, sep: u8) -> usize
     requires { at ≤ length s.now }
     ensures { (at ≤ result) × (result ≤ length s.now) × (result ≡ at + up_to sep (drop at s.now)) }
 {
-    let mut i = at;
-    while i < s.len() {
-        if s[i] == sep {
-            return i;
-        }
-        i += 1;
+    match s[at..].iter().position(|&b| b == sep) {
+        Some(i) => at + i,
+        None => s.len(),
     }
-    i
 }
 
 // Copies all of `src` into `dst` from index `at` on, and returns the index after it.
@@ -25,12 +21,9 @@ pub fn put(dst: &mut [u8], at: usize, src: &[u8]) -> usize
     requires { at + length src.now ≤ length dst.old }
     ensures { (result ≡ at + length src.now) × (dst.new ≡ paste dst.old at src.now (length src.now)) }
 {
-    let mut j = 0;
-    while j < src.len() {
-        dst[at + j] = src[j];
-        j += 1;
-    }
-    at + j
+    let end = at + src.len();
+    dst[at..end].copy_from_slice(src);
+    end
 }
 
 // Writes n in decimal, and returns the index after it.
@@ -38,33 +31,8 @@ pub fn print_u64(out: &mut [u8], at: usize, n: u64) -> usize
     requires { at + 20 ≤ length out.old }
     ensures { Wrote out.old at (show n) out.new result × (result ≤ at + 20) }
 {
-    let mut b = [0; 20];
-    let p = digits_of(n, &mut b);
-    put(out, at, &b[p..20])
-}
-
-// Writes the decimal digits of n at the end of b, and returns where they begin.
-fn digits_of(n: u64, b: &mut [u8]) -> usize
-    requires { length b.old ≡ 20 }
-    ensures { (drop result b.new ≡ show n) × (result ≤ 20) }
-{
-    let mut p: usize = 20;
-    let mut m = n;
-    while 0 < p {
-        b[p - 1] = last_digit(m);
-        p -= 1;
-        if m < 10 {
-            return p;
-        }
-        m = m / 10;
-    }
-    p
-}
-
-fn last_digit(m: u64) -> u8
-    ensures { result ≡ 48 + m % 10 }
-{
-    (48 + m % 10) as u8
+    let mut buffer = itoa::Buffer::new();
+    put(out, at, buffer.format(n).as_bytes())
 }
 
 // Writes the position of an index, counted from the origin, and returns the index after it.

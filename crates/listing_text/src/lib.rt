@@ -1,103 +1,58 @@
 // Text as bytes: decimal numbers, fields of a line, and printing.
-#![tactic(auto)]
+#![tactic(auto, unfolding(notation::specs::Choice::both, notation::specs::Choice::pick))]
 
 ghost use Rattle.std.specs.Prelude.{◌≡◌};
-ghost use Rattle.listing_text.specs.Numbers.{is_digit, digits, number};
+ghost use Rattle.listing_text.specs.Numbers.{digits, number};
 ghost use Rattle.listing_text.specs.Pieces.{same_list};
 ghost use Rattle.listing_text.specs.Model.{add_digit, zero_first};
 
 pub mod fields;
 pub mod inner;
 
-// A number that was read.
-#[derive(Clone, Copy)]
-pub enum Num {
-    Value(u64),
-    Bad,
-}
-
 // Reads s as a number: decimal, no zero before another digit, at most 64 bits.
-pub fn read_number(s: &[u8]) -> Num
+pub fn read_number(s: &[u8]) -> Option<u64>
     ensures { result ≡ number s.now }
 {
-    if s.len() == 0 {
-        return Num::Bad;
+    if s.is_empty() {
+        return None;
     }
     if zero_first(s) {
-        return Num::Bad;
+        return None;
     }
     read_digits(s)
 }
 
+#[tactic(auto, unfolding(notation::specs::Choice::both, crate::specs::Model::zero_first))]
 fn zero_first(s: &[u8]) -> bool
     ensures { result ≡ zero_first s.now }
 {
-    if s.len() < 2 {
-        return false;
-    }
-    s[0] == 48
+    2 <= s.len() && s[0] == b'0'
 }
 
-fn read_digits(s: &[u8]) -> Num
+fn read_digits(s: &[u8]) -> Option<u64>
     ensures { result ≡ digits 0 s.now }
 {
     let mut v: u64 = 0;
-    let mut i = 0;
-    while i < s.len() {
-        let next = add_digit(v, s[i]);
-        match next {
-            Num::Value(w) => {
-                v = w;
-            }
-            Num::Bad => {
-                return Num::Bad;
-            }
-        }
-        i += 1;
+    for &b in s {
+        v = add_digit(v, b)?;
     }
-    Num::Value(v)
+    Some(v)
 }
 
 // Adds one digit: bad where b is no digit, or where the number is over 64 bits.
-fn add_digit(v: u64, b: u8) -> Num
+#[tactic(auto, unfolding(notation::specs::Choice::both, notation::specs::Choice::pick, crate::specs::Model::add_digit))]
+fn add_digit(v: u64, b: u8) -> Option<u64>
     ensures { result ≡ add_digit v b }
 {
-    if !is_digit(b) {
-        return Num::Bad;
+    if !b.is_ascii_digit() {
+        return None;
     }
-    let d = (b - 48) as u64;
-    if v > 1844674407370955161 {
-        return Num::Bad;
-    }
-    let tens = v * 10;
-    if d > 18446744073709551615 - tens {
-        return Num::Bad;
-    }
-    Num::Value(tens + d)
-}
-
-fn is_digit(b: u8) -> bool
-    ensures { result ≡ is_digit b }
-{
-    if b < 48 {
-        return false;
-    }
-    b <= 57
+    v.checked_mul(10)?.checked_add(u64::from(b - b'0'))
 }
 
 // Whether a and b hold the same bytes.
 pub fn same(a: &[u8], b: &[u8]) -> bool
     ensures { result ≡ same_list a.now b.now }
 {
-    if a.len() != b.len() {
-        return false;
-    }
-    let mut i = 0;
-    while i < a.len() {
-        if a[i] != b[i] {
-            return false;
-        }
-        i += 1;
-    }
-    true
+    a == b
 }

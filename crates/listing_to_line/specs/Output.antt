@@ -1,9 +1,8 @@
 -- THE OUTPUT: from the bytes of the input to the bytes that are printed. Definitions only.
-use Rattle.std.specs.Prelude.{ℕ, List, ◌++◌, take, replicate}
+use Rattle.outcome.specs.declared.Refusal.{Refusal}
+use Rattle.std.specs.Prelude.{ℕ, List, ◌++◌, take, replicate, Err, Ok, Result}
 use Rattle.outcome.specs.Numbers.{refusal_number}
 use Rattle.machine.specs.declared.Machine.{Machine}
-use Rattle.table_text_writer.specs.declared.Written.{Written}
-use Rattle.table_text_writer.specs.declared.Written.TheVariants.{Line, Refused}
 use Rattle.table_text_writer.specs.Writing.{write_of, write_into}
 use Rattle.listing_text.specs.Text.{bytes}
 use Rattle.listing_text.specs.Show.{show}
@@ -11,9 +10,9 @@ use Rattle.listing_reader.specs.Listing.{table_in, Listing, refused, asked, list
 
 -- ---- the line of a table, or the number of the refusal
 
-abbrev pub text_for : Written → (line : List ℕ) → List ℕ
-text_for (Line n) l = take n l ++ bytes "\n"
-text_for (Refused why) l = bytes "refused table " ++ show (refusal_number why) ++ bytes "\n"
+abbrev pub text_for : Result ℕ Refusal → (line : List ℕ) → List ℕ
+text_for (Ok n) l = take n l ++ bytes "\n"
+text_for (Err why) l = bytes "refused table " ++ show (refusal_number why) ++ bytes "\n"
 
 -- 774 bytes are enough for 25 rows of 10 entries
 abbrev pub blank_line : List ℕ

@@ -13,12 +13,10 @@ ghost use Rattle.listing_text.specs.Show.{show};
 ghost use Rattle.listing_text.specs.Model.{Wrote};
 ghost use Rattle.listing_to_line.specs.Output.{line_of, answer_to};
 
-use listing_reader::Parsed;
 use listing_text::inner as writer;
 use machine::Machine;
 use program_input::Failed;
 use std::io::{Read, Write};
-use table_text::Written;
 
 // Prints a text, a number and a newline.
 fn numbered_line(out: &mut [u8], text: &[u8], n: u64) -> usize
@@ -47,13 +45,11 @@ fn line(out: &mut [u8], m: Machine, table: &[u8]) -> usize
     let mut text: [u8; 774] = [0; 774];
     let written = table_text::write_line(m, table, &mut text);
     match written {
-        Written::Line(n) => {
+        Ok(n) => {
             let k = n as usize;
-            return text_line(out, &text[..k]);
+            text_line(out, &text[..k])
         }
-        Written::Refused(why) => {
-            return numbered_line(out, b"refused table ", why.number() as u64);
-        }
+        Err(why) => numbered_line(out, b"refused table ", why.number() as u64),
     }
 }
 
@@ -65,14 +61,12 @@ fn print(input: &[u8], out: &mut [u8]) -> usize
     let got = listing_reader::read(input);
     let parsed = got.parsed;
     match parsed {
-        Parsed::Refused(n) => {
-            return numbered_line(out, b"refused ", n);
-        }
-        Parsed::Asked(x) => {
+        Err(n) => numbered_line(out, b"refused ", n),
+        Ok(x) => {
             let table = got.table;
             let m = x.machine;
             let size = (8 * (m.states * m.symbols)) as usize;
-            return line(out, m, &table[..size]);
+            line(out, m, &table[..size])
         }
     }
 }
@@ -93,11 +87,8 @@ fn run<R: Read, W: Write>(reader: &mut R, writer: &mut W) -> Result<(), Failed>
     ensures unread { IsErrOf result Failed.Reading → Keeps (W.contents writer.old) (W.contents writer.new) }
 {
     let mut input = [0u8; 65536];
-    let read = program_input::read_input(reader, &mut input);
-    if read.failed {
-        return Err(Failed::Reading);
-    }
-    answer(&input[..read.size], writer)
+    let size = program_input::read_input(reader, &mut input)?;
+    answer(&input[..size], writer)
 }
 
 fn main(rt: HostRuntime) {

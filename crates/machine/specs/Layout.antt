@@ -1,5 +1,5 @@
 -- The table's layout (document 01, machine.rs): the place of each entry, and the meaning of its eight bytes. Definitions only.
-use Rattle.std.specs.Prelude.{List, ℕ, ◌+◌, ◌*◌, ◌/◌, ◌%◌, ◌^◌, eqb, ltb, length}
+use Rattle.std.specs.Prelude.{List, ℕ, ◌+◌, ◌*◌, ◌/◌, ◌%◌, ◌^◌, eqb, ltb, length, None, Option, Some}
 use Rattle.notation.specs.Choice.{pick, both}
 use Rattle.symbol.specs.Kinds.{symbol_of, state_of}
 use Rattle.symbol.specs.declared.Symbol.{Symbol}
@@ -8,8 +8,6 @@ use Rattle.symbol.specs.declared.Dir.{Dir}
 use Rattle.symbol.specs.declared.Dir.TheVariants.{L, R, N}
 use Rattle.machine.specs.declared.Machine.{Machine}
 use Rattle.machine.specs.declared.Action.{Action}
-use Rattle.machine.specs.declared.Entry.{Entry}
-use Rattle.machine.specs.declared.Entry.TheVariants.{Undefined, Defined}
 pub use Rattle.table_bytes.specs.Model.Entries.{entry_number, flag_at, byte_at}
 
 -- "With n states, k symbols and t tapes the stride is k^t."
@@ -37,9 +35,9 @@ action_at s i =
     }
 
 -- entry i of the table; it is undefined past the table's end
-unfoldable pub entry_at : List ℕ → ℕ → Entry
+unfoldable pub entry_at : List ℕ → ℕ → Option Action
 entry_at s i =
-    pick (both (ltb i (length s / 8)) (eqb (flag_at s i) 1)) (Defined (action_at s i)) Undefined
+    pick (both (ltb i (length s / 8)) (eqb (flag_at s i) 1)) (Some (action_at s i)) None
 
 -- the action of a machine with one tape
 abbrev pub single_of : Symbol → Dir → State → Action

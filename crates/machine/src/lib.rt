@@ -1,5 +1,5 @@
 // The machine's numbers, its table of eight-byte entries, the table check, and packed words.
-#![tactic(auto)]
+#![tactic(auto, unfolding(notation::specs::Choice::both, notation::specs::Choice::pick))]
 
 ghost use Rattle.std.specs.Prelude.{◌≡◌, length};
 ghost use Rattle.machine.specs.Layout.{single_of};
@@ -54,86 +54,58 @@ impl Action {
     }
 }
 
-// An entry of the table.
-#[derive(Clone, Copy)]
-pub enum Entry {
-    Undefined,
-    Defined(Action),
-}
-
-// The answer of a check of a table or a word, and of packing and encoding.
-#[derive(Clone, Copy)]
-pub enum Checked {
-    Accepted,
-    Refused(Refusal),
-}
-
-// The answer of a lookup.
-#[derive(Clone, Copy)]
-pub enum Looked {
-    Found(Entry),
-    Refused(Refusal),
-}
-
 impl Machine {
     // Checks the machine's numbers and the table: refusals 1 to 6, in that order.
-    pub fn check(self, table: &[u8]) -> Checked
+    pub fn check(self, table: &[u8]) -> Result<(), Refusal>
         ensures { result ≡ table_check self table.now }
     {
         if !bytes::within(1, 3, self.tapes) {
-            return Checked::Refused(Refusal::Tapes);
+            return Err(Refusal::Tapes);
         }
         if !bytes::within(1, 256, self.symbols) {
-            return Checked::Refused(Refusal::Symbols);
+            return Err(Refusal::Symbols);
         }
         if !bytes::within(1, 65536, self.states) {
-            return Checked::Refused(Refusal::States);
+            return Err(Refusal::States);
         }
         if self.states <= self.start {
-            return Checked::Refused(Refusal::Start);
+            return Err(Refusal::Start);
         }
         let stride = inner::stride(self.tapes, self.symbols);
         checks::check_size(self, table, self.states * stride)
     }
 
     // The entry for a state and the symbols read, one for each tape; it is undefined past the table's end.
-    pub fn lookup(self, table: &[u8], q: State, a0: Symbol, a1: Symbol, a2: Symbol) -> Looked
+    pub fn lookup(
+        self,
+        table: &[u8],
+        q: State,
+        a0: Symbol,
+        a1: Symbol,
+        a2: Symbol,
+    ) -> Result<Option<Action>, Refusal>
         ensures { result ≡ lookup_of self table.now q a0 a1 a2 }
     {
-        let checked = self.check(table);
-        match checked {
-            Checked::Refused(why) => {
-                return Looked::Refused(why);
-            }
-            Checked::Accepted => {
-                let stride = inner::stride(self.tapes, self.symbols);
-                let number = inner::entry_number(self.symbols, stride, q.0, a0.0, a1.0, a2.0);
-                return Looked::Found(inner::entry_at(table, number as usize));
-            }
-        }
+        self.check(table)?;
+        let stride = inner::stride(self.tapes, self.symbols);
+        let number = inner::entry_number(self.symbols, stride, q.0, a0.0, a1.0, a2.0);
+        Ok(inner::entry_at(table, number as usize))
     }
 
     // Writes the packed words of a table of one tape into the first places of `out`. After the table check:
     // refusal 7 for several tapes, refusal 18 for too short an output.
-    pub fn pack(self, table: &[u8], out: &mut [u64]) -> Checked
+    pub fn pack(self, table: &[u8], out: &mut [u64]) -> Result<(), Refusal>
         ensures { (result ≡ pack_check self table.now (length out.old)) × (out.new ≡ pack_into self table.now out.old) }
     {
-        let checked = self.check(table);
-        match checked {
-            Checked::Refused(why) => {
-                return Checked::Refused(why);
-            }
-            Checked::Accepted => {
-                if self.tapes != 1 {
-                    return Checked::Refused(Refusal::PackedWords);
-                }
-                let count = self.states * self.symbols;
-                if (out.len() as u64) < count {
-                    return Checked::Refused(Refusal::OutputSize);
-                }
-                inner::pack_entries(table, self.symbols, count, out);
-                return Checked::Accepted;
-            }
+        self.check(table)?;
+        if self.tapes != 1 {
+            return Err(Refusal::PackedWords);
         }
+        let count = self.states * self.symbols;
+        if (out.len() as u64) < count {
+            return Err(Refusal::OutputSize);
+        }
+        inner::pack_entries(table, self.symbols, count, out);
+        Ok(())
     }
 }

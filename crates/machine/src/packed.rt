@@ -2,27 +2,27 @@
 ghost use Rattle.std.specs.Prelude.{◌≡◌, not, eqb};
 ghost use Rattle.machine.specs.Model.Packing.{undefined_word, pack_word, action_word, word_dir, word_write, word_next, word_row, word_action, word_entry};
 
-use super::{Action, Entry, inner};
+use super::{Action, inner};
 use symbol::{Dir, State, Symbol};
 use table_bytes::inner as bytes;
 
 // Byte 0 is the move, byte 1 the symbol written, bytes 2 and 3 the next state and bytes 4 to 7 the number
 // of that state's first entry, its row.
-#[derive(Clone, Copy)]
+#[derive(Clone, Copy, PartialEq, Eq)]
 pub struct Packed(pub u64);
 
 impl Packed {
     pub const UNDEFINED: Packed = Packed(3);
 
     // The word of an entry of a table with `stride` entries for each state.
-    pub fn new(entry: Entry, stride: u64) -> Packed
+    pub fn new(entry: Option<Action>, stride: u64) -> Packed
         ensures { result.0 ≡ pack_word entry stride }
     {
         match entry {
-            Entry::Undefined => {
+            None => {
                 return Packed::UNDEFINED;
             }
-            Entry::Defined(action) => {
+            Some(action) => {
                 return pack_action(action, stride);
             }
         }
@@ -31,8 +31,7 @@ impl Packed {
     pub fn is_defined(self) -> bool
         ensures { result ≡ not (eqb self.0 undefined_word) }
     {
-        let undefined = Packed::UNDEFINED;
-        self.0 != undefined.0
+        self != Packed::UNDEFINED
     }
 
     pub fn dir(self) -> Dir
@@ -60,6 +59,7 @@ impl Packed {
     }
 
     // The action in the word, whether the word is defined or not.
+    #[tactic(auto, unfolding(crate::specs::Model::Packing::word_action))]
     pub fn action(self) -> Action
         ensures { result ≡ word_action self.0 }
     {
@@ -70,17 +70,19 @@ impl Packed {
     }
 
     // The entry of the word. Only the word UNDEFINED gives an undefined entry.
-    pub fn entry(self) -> Entry
+    #[tactic(auto, unfolding(crate::specs::Model::Packing::word_entry, notation::specs::Choice::pick))]
+    pub fn entry(self) -> Option<Action>
         ensures { result ≡ word_entry self.0 }
     {
         if self.is_defined() {
-            return Entry::Defined(self.action());
+            return Some(self.action());
         }
-        Entry::Undefined
+        None
     }
 }
 
 // The word of an action, or UNDEFINED where its row does not fit in 32 bits.
+#[tactic(auto, unfolding(crate::specs::Model::Packing::action_word))]
 fn pack_action(action: Action, stride: u64) -> Packed
     ensures { result.0 ≡ action_word action stride }
 {

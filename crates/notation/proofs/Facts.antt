@@ -1,6 +1,9 @@
-pub mod Tests
-pub mod Scan
-pub mod ScanDown
+pub mod Exit
 pub mod Fill
 pub mod Position
 pub mod Rows
+pub mod Lists
+pub mod Parts
+pub mod Scan
+pub mod ScanDown
+pub mod Tests

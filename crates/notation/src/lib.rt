@@ -1,6 +1,4 @@
-// What several crates compute with: the limits of document 01 by name, and the smaller and the larger of two.
+// What several crates compute with: the limits of document 01 by name.
 #![tactic(auto)]
 
-pub mod index;
 pub mod limits;
-pub mod number;

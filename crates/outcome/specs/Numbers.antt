@@ -1,6 +1,5 @@
 -- For each answer enum, document 01's number and values of each of its cases. Definitions only.
-use Rattle.std.specs.Prelude.{ℕ, Bool, eqb}
-use Rattle.std.proofs.Math.Option.{Option, some}
+use Rattle.std.specs.Prelude.{ℕ, Bool, eqb, None, Option, Some}
 use Rattle.symbol.specs.Kinds.{dir_number}
 use Rattle.symbol.specs.declared.State.{State}
 use Rattle.outcome.specs.declared.Status.{Status}
@@ -13,8 +12,6 @@ use Rattle.outcome.specs.declared.Outcome.TheVariants.{Halted, OutOfFuel, NeverH
 use Rattle.outcome.specs.declared.Refusal.{Refusal}
 use Rattle.outcome.specs.declared.Refusal.TheVariants.{Tapes, Symbols, States, Start, TableSize, Entry, PackedWords, SeveralTapes, WordLength, WordSymbol, BufferSize, Misfit, StepLimit, Settings, StoreSize, Slot, Glyph, OutputSize, MalformedLine, LineLacks, NoLine}
 use Rattle.outcome.specs.declared.Said.{Said}
-use Rattle.outcome.specs.declared.Place.{Place}
-use Rattle.outcome.specs.declared.Place.TheVariants.{At, Unsaid}
 
 -- "answers running, halted or full"
 abbrev pub status_number : Status → ℕ
@@ -29,8 +26,8 @@ proof_number (ChainToInfinity q d) = 1
 
 -- the state that is never left, of a pattern that has one
 abbrev pub proof_state : NonHaltProof → Option State
-proof_state (StayLoop q) = some q
-proof_state (ChainToInfinity q d) = some q
+proof_state (StayLoop q) = Some q
+proof_state (ChainToInfinity q d) = Some q
 
 -- "Halted (steps, state), OutOfFuel (steps), NeverHalts (steps, proof), Stopped (steps). The port adds Full (steps)."
 abbrev pub outcome_number : Outcome → ℕ
@@ -76,35 +73,35 @@ values_of (Stopped s) = values 3 s 0 0 0
 values_of (Full s) = values 4 s 0 0 0
 
 -- what a refusal says: its number, and its place
-abbrev pub said : (number : ℕ) → Place → Said
+abbrev pub said : (number : ℕ) → Option ℕ → Said
 said number place = record { 0 = number; 1 = place }
 
 -- "What each operation turns away", 1 to 18; 6 gives the lowest entry number, 10 and 17 the first place. Then document 02's 19 to 21; 19 and 20 give the place.
 abbrev pub said_of : Refusal → Said
-said_of Tapes = said 1 Unsaid
-said_of Symbols = said 2 Unsaid
-said_of States = said 3 Unsaid
-said_of Start = said 4 Unsaid
-said_of TableSize = said 5 Unsaid
-said_of (Entry i) = said 6 (At i)
-said_of PackedWords = said 7 Unsaid
-said_of SeveralTapes = said 8 Unsaid
-said_of WordLength = said 9 Unsaid
-said_of (WordSymbol i) = said 10 (At i)
-said_of BufferSize = said 11 Unsaid
-said_of Misfit = said 12 Unsaid
-said_of StepLimit = said 13 Unsaid
-said_of Settings = said 14 Unsaid
-said_of StoreSize = said 15 Unsaid
-said_of Slot = said 16 Unsaid
-said_of (Glyph i) = said 17 (At i)
-said_of OutputSize = said 18 Unsaid
-said_of (MalformedLine i) = said 19 (At i)
-said_of (LineLacks i) = said 20 (At i)
-said_of NoLine = said 21 Unsaid
+said_of Tapes = said 1 None
+said_of Symbols = said 2 None
+said_of States = said 3 None
+said_of Start = said 4 None
+said_of TableSize = said 5 None
+said_of (Entry i) = said 6 (Some i)
+said_of PackedWords = said 7 None
+said_of SeveralTapes = said 8 None
+said_of WordLength = said 9 None
+said_of (WordSymbol i) = said 10 (Some i)
+said_of BufferSize = said 11 None
+said_of Misfit = said 12 None
+said_of StepLimit = said 13 None
+said_of Settings = said 14 None
+said_of StoreSize = said 15 None
+said_of Slot = said 16 None
+said_of (Glyph i) = said 17 (Some i)
+said_of OutputSize = said 18 None
+said_of (MalformedLine i) = said 19 (Some i)
+said_of (LineLacks i) = said 20 (Some i)
+said_of NoLine = said 21 None
 
 abbrev pub refusal_number : Refusal → ℕ
 refusal_number why = (said_of why).0
 
-abbrev pub place_of : Refusal → Place
+abbrev pub place_of : Refusal → Option ℕ
 place_of why = (said_of why).1

@@ -1,14 +1,13 @@
 // The answers of operations: how a run ended, and why an operation was refused.
 #![tactic(auto)]
 
-ghost use Rattle.std.specs.Prelude.{◌≡◌};
-ghost use Rattle.std.proofs.Math.Option.{some};
+ghost use Rattle.std.specs.Prelude.{◌≡◌, Some};
 ghost use Rattle.outcome.specs.Numbers.{status_number, proof_number, proof_state, outcome_number, steps_of, is_halted, values, values_of, said_of, refusal_number, place_of};
 
 use symbol::{Dir, State};
 
 // The result of one step.
-#[derive(Clone, Copy)]
+#[derive(Clone, Copy, PartialEq, Eq)]
 pub enum Status {
     // An entry was defined, and the step was made.
     Running,
@@ -31,7 +30,7 @@ impl Status {
 }
 
 // The pattern, one of two, that shows that the machine never halts.
-#[derive(Clone, Copy)]
+#[derive(Clone, Copy, PartialEq, Eq)]
 pub enum NonHaltProof {
     // The entry keeps the state, and every tape stays and rewrites the symbol read.
     StayLoop { state: State },
@@ -44,24 +43,23 @@ impl NonHaltProof {
         ensures { result ≡ proof_number self }
     {
         match self {
-            NonHaltProof::StayLoop { state: _ } => 0,
-            NonHaltProof::ChainToInfinity { state: _, dir: _ } => 1,
+            NonHaltProof::StayLoop { .. } => 0,
+            NonHaltProof::ChainToInfinity { .. } => 1,
         }
     }
 
     // The state that is never left.
     pub fn state(self) -> State
-        ensures { some result ≡ proof_state self }
+        ensures { Some result ≡ proof_state self }
     {
         match self {
-            NonHaltProof::StayLoop { state } => state,
-            NonHaltProof::ChainToInfinity { state, dir: _ } => state,
+            NonHaltProof::StayLoop { state } | NonHaltProof::ChainToInfinity { state, .. } => state,
         }
     }
 }
 
 // How a run ended. `steps` is the whole step count since the start.
-#[derive(Clone, Copy)]
+#[derive(Clone, Copy, PartialEq, Eq)]
 pub enum Outcome {
     // No entry is defined in `state` for the symbols read.
     Halted { steps: u64, state: State },
@@ -75,8 +73,8 @@ pub enum Outcome {
     Full { steps: u64 },
 }
 
-// The number of an outcome and its values as numbers; a value that the outcome lacks is 0.
-#[derive(Clone, Copy)]
+// The number of an outcome and its values as numbers, for the C interface; a value that the outcome lacks is 0.
+#[derive(Clone, Copy, PartialEq, Eq)]
 pub struct Values {
     pub number: u8,
     pub steps: u64,
@@ -90,11 +88,11 @@ impl Outcome {
         ensures { result ≡ outcome_number self }
     {
         match self {
-            Outcome::Halted { steps: _, state: _ } => 0,
-            Outcome::OutOfFuel { steps: _ } => 1,
-            Outcome::NeverHalts { steps: _, proof: _ } => 2,
-            Outcome::Stopped { steps: _ } => 3,
-            Outcome::Full { steps: _ } => 4,
+            Outcome::Halted { .. } => 0,
+            Outcome::OutOfFuel { .. } => 1,
+            Outcome::NeverHalts { .. } => 2,
+            Outcome::Stopped { .. } => 3,
+            Outcome::Full { .. } => 4,
         }
     }
 
@@ -102,18 +100,18 @@ impl Outcome {
         ensures { result ≡ steps_of self }
     {
         match self {
-            Outcome::Halted { steps, state: _ } => steps,
-            Outcome::OutOfFuel { steps } => steps,
-            Outcome::NeverHalts { steps, proof: _ } => steps,
-            Outcome::Stopped { steps } => steps,
-            Outcome::Full { steps } => steps,
+            Outcome::Halted { steps, .. }
+            | Outcome::OutOfFuel { steps }
+            | Outcome::NeverHalts { steps, .. }
+            | Outcome::Stopped { steps }
+            | Outcome::Full { steps } => steps,
         }
     }
 
     pub fn is_halted(self) -> bool
         ensures { result ≡ is_halted self }
     {
-        self.number() == 0
+        matches!(self, Outcome::Halted { .. })
     }
 
     pub fn to_values(self) -> Values
@@ -147,7 +145,7 @@ fn made(number: u8, steps: u64, state: u16, pattern: u8, dir: u8) -> Values
 }
 
 // Why an operation was refused: document 01's refusals and then document 02's, in the order of their numbers, 1 to 21.
-#[derive(Clone, Copy)]
+#[derive(Clone, Copy, PartialEq, Eq)]
 pub enum Refusal {
     // The number of tapes is not 1 to 3.
     Tapes,
@@ -193,16 +191,9 @@ pub enum Refusal {
     NoLine,
 }
 
-// The place that a refusal gives, where it gives one.
-#[derive(Clone, Copy)]
-pub enum Place {
-    At(u64),
-    Unsaid,
-}
-
 // What a refusal says: its number, and its place.
-#[derive(Clone, Copy)]
-struct Said(u8, Place);
+#[derive(Clone, Copy, PartialEq, Eq)]
+struct Said(u8, Option<u64>);
 
 impl Refusal {
     pub fn number(self) -> u8
@@ -212,7 +203,7 @@ impl Refusal {
         said.0
     }
 
-    pub fn place(self) -> Place
+    pub fn place(self) -> Option<u64>
         ensures { result ≡ place_of self }
     {
         let said = self.said();
@@ -223,27 +214,27 @@ impl Refusal {
         ensures { result ≡ said_of self }
     {
         match self {
-            Refusal::Tapes => Said(1, Place::Unsaid),
-            Refusal::Symbols => Said(2, Place::Unsaid),
-            Refusal::States => Said(3, Place::Unsaid),
-            Refusal::Start => Said(4, Place::Unsaid),
-            Refusal::TableSize => Said(5, Place::Unsaid),
-            Refusal::Entry(i) => Said(6, Place::At(i)),
-            Refusal::PackedWords => Said(7, Place::Unsaid),
-            Refusal::SeveralTapes => Said(8, Place::Unsaid),
-            Refusal::WordLength => Said(9, Place::Unsaid),
-            Refusal::WordSymbol(i) => Said(10, Place::At(i)),
-            Refusal::BufferSize => Said(11, Place::Unsaid),
-            Refusal::Misfit => Said(12, Place::Unsaid),
-            Refusal::StepLimit => Said(13, Place::Unsaid),
-            Refusal::Settings => Said(14, Place::Unsaid),
-            Refusal::StoreSize => Said(15, Place::Unsaid),
-            Refusal::Slot => Said(16, Place::Unsaid),
-            Refusal::Glyph(i) => Said(17, Place::At(i)),
-            Refusal::OutputSize => Said(18, Place::Unsaid),
-            Refusal::MalformedLine(i) => Said(19, Place::At(i)),
-            Refusal::LineLacks(i) => Said(20, Place::At(i)),
-            Refusal::NoLine => Said(21, Place::Unsaid),
+            Refusal::Tapes => Said(1, None),
+            Refusal::Symbols => Said(2, None),
+            Refusal::States => Said(3, None),
+            Refusal::Start => Said(4, None),
+            Refusal::TableSize => Said(5, None),
+            Refusal::Entry(i) => Said(6, Some(i)),
+            Refusal::PackedWords => Said(7, None),
+            Refusal::SeveralTapes => Said(8, None),
+            Refusal::WordLength => Said(9, None),
+            Refusal::WordSymbol(i) => Said(10, Some(i)),
+            Refusal::BufferSize => Said(11, None),
+            Refusal::Misfit => Said(12, None),
+            Refusal::StepLimit => Said(13, None),
+            Refusal::Settings => Said(14, None),
+            Refusal::StoreSize => Said(15, None),
+            Refusal::Slot => Said(16, None),
+            Refusal::Glyph(i) => Said(17, Some(i)),
+            Refusal::OutputSize => Said(18, None),
+            Refusal::MalformedLine(i) => Said(19, Some(i)),
+            Refusal::LineLacks(i) => Said(20, Some(i)),
+            Refusal::NoLine => Said(21, None),
         }
     }
 }

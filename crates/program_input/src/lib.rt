@@ -1,22 +1,22 @@
 // Input read whole and output written whole, for programs: a read that fails is no end of input.
 #![tactic(auto)]
 
-ghost use Rattle.std.specs.Prelude.{◌≡◌, length, take, false, OnOk, IfErr, IfSome};
+ghost use Rattle.std.specs.Prelude.{◌≡◌, length, take, OnOk, IfErr, IfSome};
 ghost use Rattle.std.specs.Io.KnownBytes.{Appends, Consumes};
-ghost use Rattle.program_input.specs.Counts.{IsPrefixLen};
+ghost use Rattle.program_input.specs.declared.Failed.TheVariants.{Reading};
+ghost use Rattle.program_input.specs.Counts.{IsPrefixLen, size_of};
 
 use std::fmt;
 use std::io::{Read, Write};
 
-// How many bytes were read, and whether a read failed after them.
-#[derive(Clone, Copy)]
-pub struct Input {
+// What a read that failed leaves: the number of bytes that were read before it.
+#[derive(Clone, Copy, PartialEq, Eq)]
+pub struct Unread {
     pub size: usize,
-    pub failed: bool,
 }
 
 // What a program could not do.
-#[derive(Clone, Copy)]
+#[derive(Clone, Copy, PartialEq, Eq)]
 pub enum Failed {
     Reading,
     Writing,
@@ -31,33 +31,33 @@ impl fmt::Display for Failed {
     }
 }
 
-// Reads until the input ends or buf is full. Where no read failed, these are the input's first bytes: as many as buf
-// holds, or all.
-pub fn read_input<R: Read>(reader: &mut R, buf: &mut [u8]) -> Input
-    ensures size { IsPrefixLen result.size buf.new }
-    ensures bytes { Consumes (R.remaining reader.old) (R.remaining reader.new) (take result.size buf.new) }
-    ensures whole { result.failed ≡ false → IfSome (R.remaining reader.old) (λ xs. take result.size buf.new ≡ take (length buf.new) xs) }
+impl From<Unread> for Failed {
+    ghost from_gives = { λ _ why. why ≡ Reading };
+
+    fn from(_unread: Unread) -> Failed {
+        Failed::Reading
+    }
+}
+
+// Reads until the input ends or buf is full. The first bytes of buf are the bytes read, also where a read failed. Where
+// none failed, these are the input's first bytes: as many as buf holds, or all.
+pub fn read_input<R: Read>(reader: &mut R, buf: &mut [u8]) -> Result<usize, Unread>
+    ensures size { IsPrefixLen (size_of result) buf.new }
+    ensures bytes { Consumes (R.remaining reader.old) (R.remaining reader.new) (take (size_of result) buf.new) }
+    ensures whole { OnOk result (IfSome (R.remaining reader.old) (λ xs. take (size_of result) buf.new ≡ take (length buf.new) xs)) }
 {
     let mut at: usize = 0;
+    // No `for` serves: the reader chooses how many bytes a read gives, so the number of reads is not known.
     while at < buf.len() {
-        let Ok(n) = reader.read(&mut buf[at..]) else {
-            return Input {
-                size: at,
-                failed: true,
-            };
-        };
+        let n = reader
+            .read(&mut buf[at..])
+            .map_err(|_| Unread { size: at })?;
         if n == 0 {
-            return Input {
-                size: at,
-                failed: false,
-            };
+            return Ok(at);
         }
         at += n;
     }
-    Input {
-        size: at,
-        failed: false,
-    }
+    Ok(at)
 }
 
 // Writes the answer.
@@ -65,8 +65,5 @@ pub fn write_output<W: Write>(writer: &mut W, answer: &[u8]) -> Result<(), Faile
     ensures written { OnOk result (Appends (W.contents writer.old) (W.contents writer.new) answer.now) }
     ensures failed { IfErr result (λ why. why ≡ Failed.Writing) }
 {
-    match writer.write_all(answer) {
-        Ok(()) => Ok(()),
-        Err(_) => Err(Failed::Writing),
-    }
+    writer.write_all(answer).map_err(|_| Failed::Writing)
 }

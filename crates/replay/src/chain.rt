@@ -2,13 +2,12 @@
 pub(crate) mod engine;
 mod questions;
 mod runs;
-mod timeline;
 
-use crate::rows;
+use crate::lent::Engine;
+use crate::{rows, timeline};
 use engine::{ChainEngine, RUNS};
 use machine::Machine;
-use rle::{ChainSim, Fresh};
-use sim::StopRule;
+use rle::ChainSim;
 
 // What the engine does in a case.
 #[derive(Clone, Copy)]
@@ -33,10 +32,8 @@ pub(crate) fn replay(
     let mut rl: [u64; RUNS] = [0; RUNS];
     let fresh = ChainSim::new(m, table, word, &ls, &ll, &mut rs, &mut rl);
     match fresh {
-        Fresh::Refused(_) => {
-            return rows::DIFFERS;
-        }
-        Fresh::Made(sim) => {
+        Err(_) => rows::DIFFERS,
+        Ok(sim) => {
             let engine = ChainEngine {
                 sim,
                 ls,
@@ -58,18 +55,12 @@ fn replay_on(
     table: &[u8],
     fresh: ChainEngine,
 ) -> usize {
-    let ran = fresh.run(m, table, StopRule::Never, rows::number(row, at));
+    let ran = fresh.run(m, table, None, rows::number(row, at));
     let engine = ran.engine;
     let at = rows::past(at, 1);
     match act {
-        Act::Run => {
-            return runs::replay(row, at, m, table, engine);
-        }
-        Act::Ask => {
-            return questions::replay(row, at, m, table, engine);
-        }
-        Act::Seek => {
-            return timeline::replay(row, at, m, table, engine);
-        }
+        Act::Run => runs::replay(row, at, m, table, engine),
+        Act::Ask => crate::questions::replay(row, at, m, table, engine),
+        Act::Seek => timeline::replay(row, at, m, table, engine),
     }
 }

@@ -4,10 +4,13 @@
 
 mod chain;
 mod compare;
+mod lent;
 mod plain;
+mod questions;
 mod read;
 mod rows;
 mod tables;
+mod timeline;
 
 use machine::Machine;
 use read::lines::Line;
@@ -39,18 +42,20 @@ struct Tally {
     differ: u64,
 }
 
+impl Tally {
+    const NONE: Tally = Tally {
+        at: 0,
+        cases: 0,
+        differ: 0,
+    };
+}
+
 // Replays a row. Returns the place past its last number where the port gives the row's answers.
 fn replayed(kind: Kind, row: &[u64]) -> usize {
     match kind {
-        Kind::On(engine) => {
-            return on_engine(engine, row);
-        }
-        Kind::Pack => {
-            return tables::packing::replay(row);
-        }
-        Kind::Encode => {
-            return tables::encoder::replay(row);
-        }
+        Kind::On(engine) => on_engine(engine, row),
+        Kind::Pack => tables::packing::replay(row),
+        Kind::Encode => tables::encoder::replay(row),
     }
 }
 
@@ -72,24 +77,22 @@ fn on_engine(engine: Engine, row: &[u64]) -> usize {
 
 fn on_word(engine: Engine, row: &[u64], at: usize, m: Machine, table: &[u8], word: &[u8]) -> usize {
     match engine {
-        Engine::Plain(act) => {
-            return plain::replay(act, row, at, m, table, word);
-        }
-        Engine::Chain(act) => {
-            return chain::replay(act, row, at, m, table, word);
-        }
+        Engine::Plain(act) => plain::replay(act, row, at, m, table, word),
+        Engine::Chain(act) => chain::replay(act, row, at, m, table, word),
     }
 }
 
-// 1 where the port's answers differ from the line, else 0. A line that is not good differs always.
+// 1 where the port's answers differ from the line, else 0. A line without a count differs always.
 fn differs(kind: Kind, row: &[u64; PLACES], line: Line) -> u64 {
-    let numbers = lists::number_head(row, line.count);
-    if line.good {
-        if replayed(kind, numbers) == numbers.len() {
-            return 0;
-        }
+    let Some(count) = line.count else {
+        return 1;
+    };
+    let numbers = lists::head(row, count);
+    if replayed(kind, numbers) == numbers.len() {
+        0
+    } else {
+        1
     }
-    1
 }
 
 // Replays the line that begins where the tally says.
@@ -99,18 +102,14 @@ fn next_line(kind: Kind, text: &[u8], tally: Tally) -> Tally {
     let differ = differs(kind, &row, line);
     Tally {
         at: line.next,
-        cases: std::num::wrapping_add_u64(tally.cases, 1),
-        differ: std::num::wrapping_add_u64(tally.differ, differ),
+        cases: tally.cases.wrapping_add(1),
+        differ: tally.differ.wrapping_add(differ),
     }
 }
 
 // Replays all lines of a text. A text has at most as many lines as bytes.
 fn all_lines(kind: Kind, text: &[u8]) -> Tally {
-    let mut tally = Tally {
-        at: 0,
-        cases: 0,
-        differ: 0,
-    };
+    let mut tally = Tally::NONE;
     for _ in 0..text.len() {
         if text.len() <= tally.at {
             break;
@@ -123,10 +122,14 @@ fn all_lines(kind: Kind, text: &[u8]) -> Tally {
 // Replays the cases of a file; none where it cannot be read.
 fn of_file(rt: &impl Files, kind: Kind, name: &str) -> Tally {
     let mut text = [0u8; 65536];
-    let mut size = 0;
-    if let Ok(mut file) = fs::open(rt, name) {
-        size = program_input::read_input(&mut file, &mut text).size;
-    }
+    let Ok(mut file) = fs::open(rt, name) else {
+        return Tally::NONE;
+    };
+    // Where a read fails, the bytes before it are replayed.
+    let size = match program_input::read_input(&mut file, &mut text) {
+        Ok(size) => size,
+        Err(unread) => unread.size,
+    };
     all_lines(kind, &text[..size])
 }
 
@@ -142,8 +145,8 @@ fn replay(rt: &(impl Files + Print), kind: Kind, name: &str, sum: Tally) -> io::
     report(rt, name, tally)?;
     Ok(Tally {
         at: 0,
-        cases: std::num::wrapping_add_u64(sum.cases, tally.cases),
-        differ: std::num::wrapping_add_u64(sum.differ, tally.differ),
+        cases: sum.cases.wrapping_add(tally.cases),
+        differ: sum.differ.wrapping_add(tally.differ),
     })
 }
 
@@ -186,12 +189,7 @@ fn chain_kinds(rt: &(impl Files + Print), sum: Tally) -> io::Result<Tally> {
 }
 
 fn main(rt: HostRuntime) -> io::Result<()> {
-    let none = Tally {
-        at: 0,
-        cases: 0,
-        differ: 0,
-    };
-    let plain = plain_others(&rt, plain_runs(&rt, none)?)?;
+    let plain = plain_others(&rt, plain_runs(&rt, Tally::NONE)?)?;
     let chain = chain_kinds(&rt, plain)?;
     let all = replay(&rt, Kind::Encode, "encode", chain)?;
     report(&rt, "all", all)

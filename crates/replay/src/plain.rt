@@ -2,12 +2,12 @@
 pub(crate) mod engine;
 mod questions;
 mod runs;
-mod timeline;
 
-use crate::rows;
+use crate::lent::Engine;
+use crate::{rows, timeline};
 use engine::{FEW_CELLS, MANY_CELLS, PlainEngine};
 use machine::Machine;
-use sim::{Fresh, Simulator, StopRule};
+use sim::Simulator;
 
 // What the engine does in a case.
 #[derive(Clone, Copy)]
@@ -33,10 +33,8 @@ pub(crate) fn replay(
     let mut c2: [u8; FEW_CELLS] = [0; FEW_CELLS];
     let fresh = Simulator::new(m, table, word, &mut c0, &mut c1, &mut c2);
     match fresh {
-        Fresh::Refused(_) => {
-            return rows::DIFFERS;
-        }
-        Fresh::Made(sim) => {
+        Err(_) => rows::DIFFERS,
+        Ok(sim) => {
             let engine = PlainEngine { sim, c0, c1, c2 };
             return replay_on(act, row, at, m, table, engine);
         }
@@ -52,24 +50,14 @@ fn replay_on(
     table: &[u8],
     fresh: PlainEngine,
 ) -> usize {
-    let ran = fresh.run(m, table, StopRule::Never, rows::number(row, at));
+    let ran = fresh.run(m, table, None, rows::number(row, at));
     let engine = ran.engine;
     let at = rows::past(at, 1);
     match act {
-        Act::Run => {
-            return runs::replay_run(row, at, m, table, engine);
-        }
-        Act::Fast => {
-            return runs::replay_fast(row, at, m, table, engine);
-        }
-        Act::Step => {
-            return runs::replay_step(row, at, m, table, engine);
-        }
-        Act::Ask => {
-            return questions::replay(row, at, m, table, engine);
-        }
-        Act::Seek => {
-            return timeline::replay(row, at, m, table, engine);
-        }
+        Act::Run => runs::replay_run(row, at, m, table, engine),
+        Act::Fast => runs::replay_fast(row, at, m, table, engine),
+        Act::Step => runs::replay_step(row, at, m, table, engine),
+        Act::Ask => crate::questions::replay(row, at, m, table, engine),
+        Act::Seek => timeline::replay(row, at, m, table, engine),
     }
 }

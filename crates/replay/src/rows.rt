@@ -22,15 +22,12 @@ pub(crate) struct Items {
 
 // The number at a place of a row.
 pub(crate) fn number(row: &[u64], at: usize) -> u64 {
-    if at < row.len() {
-        return row[at];
-    }
-    0
+    row.get(at).copied().unwrap_or(0)
 }
 
 // The position at a place of a row; a negative position is given by its two's complement.
 pub(crate) fn position_at(row: &[u64], at: usize) -> i64 {
-    position::signed(std::num::wrapping_add_u64(number(row, at), limits::RAISED_ZERO))
+    position::signed(number(row, at).wrapping_add(limits::RAISED_ZERO))
 }
 
 // The place `count` numbers further on, or DIFFERS where `at` or `count` is over PLACES.
@@ -46,10 +43,7 @@ pub(crate) fn past(at: usize, count: usize) -> usize {
 
 // The smaller of a number and a bound.
 pub(crate) fn least(number: u64, bound: usize) -> usize {
-    if number < bound as u64 {
-        return number as usize;
-    }
-    bound
+    number.min(bound as u64) as usize
 }
 
 // The product of two numbers, or DIFFERS where one is over PLACES.

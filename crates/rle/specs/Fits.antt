@@ -1,11 +1,10 @@
 -- When a run-length engine's value fits (refusal 12), and the sizes of its places (11). Definitions only.
-use Rattle.std.specs.Prelude.{Bool, List, ℕ, ◌+◌, ◌-◌, eqb, ltb, leb}
+use Rattle.outcome.specs.declared.Refusal.{Refusal}
+use Rattle.std.specs.Prelude.{Bool, List, ℕ, ◌+◌, ◌-◌, eqb, ltb, leb, Ok, Result, ⊤}
 use Rattle.notation.specs.Choice.{both}
 use Rattle.notation.specs.Limits.{steps_most, runs_most, slack, raised_zero}
 use Rattle.outcome.specs.declared.Refusal.TheVariants as Why
 use Rattle.machine.specs.declared.Machine.{Machine}
-use Rattle.machine.specs.declared.Checked.{Checked}
-use Rattle.machine.specs.declared.Checked.TheVariants.{Accepted}
 use Rattle.machine.specs.Model.Check.{demand, checked_on, table_check}
 use Rattle.run_checks.specs.Model.Sizes.{fuel_fits}
 use Rattle.rle_stack.specs.Model.{places_of, cells_of}
@@ -44,15 +43,15 @@ unfoldable pub places_fit : Conf → Bool
 places_fit σ = both (leb (places_of σ.ls σ.ll) runs_most) (leb (places_of σ.rs σ.rl) runs_most)
 
 -- refusals 8, 11, 12
-unfoldable pub value_check : Machine → Conf → Checked
+unfoldable pub value_check : Machine → Conf → Result ⊤ Refusal
 value_check m σ =
     demand (eqb m.tapes 1) Why.SeveralTapes
-    (demand (places_fit σ) Why.BufferSize (demand (chain_fits m σ) Why.Misfit Accepted))
+    (demand (places_fit σ) Why.BufferSize (demand (chain_fits m σ) Why.Misfit (Ok tt)))
 
 -- the table check, then refusals 8, 11, 12
-unfoldable pub engine_check : Machine → List ℕ → Conf → Checked
+unfoldable pub engine_check : Machine → List ℕ → Conf → Result ⊤ Refusal
 engine_check m s σ = checked_on (table_check m s) (value_check m σ)
 
 -- then refusal 13
-unfoldable pub run_check : Machine → List ℕ → ℕ → Conf → Checked
-run_check m s fuel σ = checked_on (engine_check m s σ) (demand (fuel_fits σ.sim.steps fuel) Why.StepLimit Accepted)
+unfoldable pub run_check : Machine → List ℕ → ℕ → Conf → Result ⊤ Refusal
+run_check m s fuel σ = checked_on (engine_check m s σ) (demand (fuel_fits σ.sim.steps fuel) Why.StepLimit (Ok tt))

@@ -1,5 +1,5 @@
 -- What the functions of a run and of the questions may assume. Definitions only.
-use Rattle.std.specs.Prelude.{◌≡◌, true, List, ℕ, ◌+◌, ◌≤◌, length}
+use Rattle.std.specs.Prelude.{◌≡◌, true, List, ℕ, ◌+◌, ◌≤◌, length, None}
 use Rattle.notation.specs.Limits.{steps_most, slack, raised_zero}
 use Rattle.symbol.specs.declared.State.{State}
 use Rattle.symbol.specs.declared.Dir.{Dir}
@@ -9,7 +9,6 @@ use Rattle.machine.specs.Layout.{stride_of}
 use Rattle.rle_stack.specs.Model.{places_of, cells_of}
 use Rattle.rle_stack.specs.Invariants.{SideOk}
 use Rattle.rle.specs.declared.ChainSim.{ChainSim}
-use Rattle.run_rules.specs.declared.StopRule.TheVariants as Rule
 use Rattle.run_rules.specs.Model.Task.{Task, task}
 use Rattle.rle_macro.specs.Model.MacroStep.{head_for}
 use Rattle.rle_counts.specs.Model.Counts.{tallied}
@@ -59,7 +58,7 @@ pub record Going (k : Task) (stride lp rp : ℕ) (σ₀ : Conf) (fuel : ℕ) (σ
 
 -- o is the outcome of a run with fuel 0 on the value v, whatever its places contain
 pub record Judged (m : Machine) (s : List ℕ) (v : ChainSim) (o : Outcome) : Type 0 where
-  pub same : (ls ll rs rl : List ℕ) → end (conf v ls ll rs rl) o ≡ run_of (task m s true Rule.Never) 0 (conf v ls ll rs rl)
+  pub same : (ls ll rs rl : List ℕ) → end (conf v ls ll rs rl) o ≡ run_of (task m s true None) 0 (conf v ls ll rs rl)
 
 -- what a question on the tape may assume
 pub record AskOk (σ : Conf) : Type 0 where

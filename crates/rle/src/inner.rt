@@ -10,21 +10,13 @@ ghost use Rattle.rle.specs.Model.Engine.{conf, loops_of, fueled_of, turn_of, end
 ghost use Rattle.rle.specs.Invariants.{TableOk, CountsOk, RunOk, Judged, landed_by};
 
 use super::{ChainSim, RunTape};
-use machine::{Action, Entry, Machine};
-use notation::number;
+use machine::{Action, Machine};
 use outcome::Outcome;
 use rle_macro::inner::macro_step;
 use rle_macro::inner::macro_step::{Moved, Step};
-use rle_stack::inner as stack;
-use run_rules::StopRule;
+use rle_stack::inner::Stack;
+use std::ops::ControlFlow;
 use symbol::State;
-
-// What comes next in a run, before the test for space: the run's end, or an entry to follow.
-#[derive(Clone, Copy)]
-pub enum Turn {
-    Ends(Outcome),
-    Takes(Step),
-}
 
 // An engine after a run, and how the run ended.
 #[derive(Clone, Copy)]
@@ -33,20 +25,28 @@ pub struct Ran {
     pub outcome: Outcome,
 }
 
+// A machine and its table, with the number of entries of a state.
+#[derive(Clone, Copy)]
+pub struct Table<'a> {
+    pub m: Machine,
+    pub stride: u64,
+    pub entries: &'a [u8],
+    pub ghost ok: { TableOk m stride },
+}
+
 // The entry for a state and the symbol read.
-fn entry_of(m: Machine, stride: u64, table: &[u8], q: State, cur: u8) -> Entry
-    requires { TableOk m stride }
-    ensures { result ≡ entry_of m table.now q cur 0 0 }
+fn entry_of(t: Table, q: State, cur: u8) -> Option<Action>
+    ensures { result ≡ entry_of t.entry.m t.entry.entries.now q cur 0 0 }
 {
-    let number = machine::inner::entry_number(m.symbols, stride, q.0, cur, 0, 0);
-    machine::inner::entry_at(table, number as usize)
+    let number = machine::inner::entry_number(t.m.symbols, t.stride, q.0, cur, 0, 0);
+    machine::inner::entry_at(t.entries, number as usize)
 }
 
 // Whether an entry is a proved loop.
 fn loops_on(q: State, a: Action, cur: u8, left: usize, right: usize) -> bool
     ensures { result ≡ loops_of q a cur left right }
 {
-    if a.next.0 != q.0 {
+    if a.next != q {
         return false;
     }
     let dir = a.dir0;
@@ -57,29 +57,32 @@ fn loops_on(q: State, a: Action, cur: u8, left: usize, right: usize) -> bool
 fn asked(loops: bool, proves: bool) -> bool
     ensures { result ≡ both loops proves }
 {
-    if loops {
-        return proves;
-    }
-    false
+    loops && proves
 }
 
 impl ChainSim {
     // Where the run does not end by a proved loop: tests fuel, then the stop rule; else gives the entry to follow.
-    fn fueled(self, loops: bool, rule: StopRule, a: Action, fuel: u64) -> Turn
+    fn fueled(
+        self,
+        loops: bool,
+        rule: Option<State>,
+        a: Action,
+        fuel: u64,
+    ) -> ControlFlow<Outcome, Step>
         ensures { result ≡ fueled_of loops rule a fuel self }
     {
         let steps = self.steps;
         let state = self.state;
         if fuel == 0 {
-            return Turn::Ends(Outcome::OutOfFuel { steps });
+            return ControlFlow::Break(Outcome::OutOfFuel { steps });
         }
         if run_rules::inner::matches(rule, state) {
-            return Turn::Ends(Outcome::Stopped { steps });
+            return ControlFlow::Break(Outcome::Stopped { steps });
         }
         let dir = a.dir0;
         let next = a.next;
-        let keeps = a.next.0 == state.0;
-        Turn::Takes(Step {
+        let keeps = a.next == state;
+        ControlFlow::Continue(Step {
             write: a.write0.0,
             dir,
             next,
@@ -91,93 +94,80 @@ impl ChainSim {
     // Tests halted, never, fuel and the stop rule, in that order; else gives the entry to follow.
     fn decide(
         self,
-        m: Machine,
-        stride: u64,
+        t: Table,
         proves: bool,
-        rule: StopRule,
-        table: &[u8],
+        rule: Option<State>,
         fuel: u64,
-    ) -> Turn
-        requires { TableOk m stride }
-        ensures { result ≡ turn_of (task m table.now proves rule) fuel self }
+    ) -> ControlFlow<Outcome, Step>
+        ensures { result ≡ turn_of (task t.entry.m t.entry.entries.now proves rule) fuel self }
     {
         let tape = self.tape;
         let steps = self.steps;
         let state = self.state;
-        let found = entry_of(m, stride, table, state, tape.cur);
+        let found = entry_of(t, state, tape.cur);
         match found {
-            Entry::Undefined => {
-                return Turn::Ends(Outcome::Halted { steps, state });
+            None => {
+                return ControlFlow::Break(Outcome::Halted { steps, state });
             }
-            Entry::Defined(a) => {
+            Some(a) => {
                 let loops = loops_on(state, a, tape.cur, tape.left, tape.right);
                 if asked(loops, proves) {
                     let dir = a.dir0;
                     let proof = macro_step::proof_of(state, dir);
-                    return Turn::Ends(Outcome::NeverHalts { steps, proof });
+                    return ControlFlow::Break(Outcome::NeverHalts { steps, proof });
                 }
                 return self.fueled(loops, rule, a, fuel);
             }
         }
     }
 
-    // The value after a macro step.
-    fn landed(self, s: Step, w: Moved) -> ChainSim
+    // The value after a macro step that leaves these numbers of live runs.
+    fn landed(self, s: Step, left: usize, right: usize, w: Moved) -> ChainSim
         requires { CountsOk self w.repeats }
-        ensures { result ≡ landed_by s.dir s.next self w.left w.cur w.right w.repeats }
+        ensures { result ≡ landed_by s.dir s.next self left w.cur right w.repeats }
     {
-        let tape = self.tape;
-        let dir = s.dir;
-        let next = s.next;
-        let head = macro_step::head_for(dir, tape.head, w.repeats);
-        let lowest = number::min(self.lowest, head);
-        let highest = number::max(self.highest, head);
+        let head = macro_step::head_for(s.dir, self.tape.head, w.repeats);
         ChainSim {
-            state: next,
+            state: s.next,
             steps: self.steps + w.repeats,
             macros: self.macros + 1,
             tape: RunTape {
-                left: w.left,
+                left,
                 cur: w.cur,
-                right: w.right,
+                right,
                 head,
             },
-            lowest,
-            highest,
+            lowest: self.lowest.min(head),
+            highest: self.highest.max(head),
         }
     }
 
     // Runs by macro steps. `repeats` is 0 where a macro step has no place for its push; the run then ends full.
     pub(crate) fn run_macro_steps(
         mut self,
-        m: Machine,
-        stride: u64,
+        t: Table,
         proves: bool,
-        rule: StopRule,
-        table: &[u8],
+        rule: Option<State>,
         ls: &mut [u8],
         ll: &mut [u64],
         rs: &mut [u8],
         rl: &mut [u64],
         fuel: u64,
     ) -> Ran
-        requires { RunOk m stride (conf self ls.old ll.old rs.old rl.old) fuel }
-        ensures { end (conf result.sim ls.new ll.new rs.new rl.new) result.outcome ≡ run_of (task m table.now proves rule) fuel (conf self ls.old ll.old rs.old rl.old) }
+        requires { RunOk t.m t.stride (conf self ls.old ll.old rs.old rl.old) fuel }
+        ensures { end (conf result.sim ls.new ll.new rs.new rl.new) result.outcome ≡ run_of (task t.entry.m t.entry.entries.now proves rule) fuel (conf self ls.old ll.old rs.old rl.old) }
     {
-        let lp = stack::places(ls, ll);
-        let rp = stack::places(rs, rl);
-        let mut left = fuel;
+        let mut left = Stack::new(ls, ll, self.tape.left);
+        let mut right = Stack::new(rs, rl, self.tape.right);
+        let mut rest = fuel;
         loop {
-            let turn = self.decide(m, stride, proves, rule, table, left);
+            let turn = self.decide(t, proves, rule, rest);
             match turn {
-                Turn::Ends(outcome) => {
+                ControlFlow::Break(outcome) => {
                     return Ran { sim: self, outcome };
                 }
-                Turn::Takes(s) => {
-                    let tape = self.tape;
-                    let w = macro_step::make(
-                        s, tape.left, tape.cur, tape.right, ls, ll, lp, rs, rl, rp, left,
-                    );
+                ControlFlow::Continue(s) => {
+                    let w = macro_step::make(s, &mut left, self.tape.cur, &mut right, rest);
                     if w.repeats == 0 {
                         let steps = self.steps;
                         return Ran {
@@ -185,8 +175,8 @@ impl ChainSim {
                             outcome: Outcome::Full { steps },
                         };
                     }
-                    self = self.landed(s, w);
-                    left = left - w.repeats;
+                    self = self.landed(s, left.count, right.count, w);
+                    rest -= w.repeats;
                 }
             }
         }
@@ -197,37 +187,34 @@ impl ChainSim {
 // the fuel in one macro step.
 pub fn run_all(
     sim: ChainSim,
-    m: Machine,
-    stride: u64,
+    t: Table,
     proves: bool,
-    rule: StopRule,
-    table: &[u8],
+    rule: Option<State>,
     ls: &mut [u8],
     ll: &mut [u64],
     rs: &mut [u8],
     rl: &mut [u64],
     fuel: u64,
 ) -> Ran
-    requires { RunOk m stride (conf sim ls.old ll.old rs.old rl.old) fuel }
-    ensures { end (conf result.sim ls.new ll.new rs.new rl.new) result.outcome ≡ run_of (task m table.now proves rule) fuel (conf sim ls.old ll.old rs.old rl.old) }
+    requires { RunOk t.m t.stride (conf sim ls.old ll.old rs.old rl.old) fuel }
+    ensures { end (conf result.sim ls.new ll.new rs.new rl.new) result.outcome ≡ run_of (task t.entry.m t.entry.entries.now proves rule) fuel (conf sim ls.old ll.old rs.old rl.old) }
 {
-    sim.run_macro_steps(m, stride, proves, rule, table, ls, ll, rs, rl, fuel)
+    sim.run_macro_steps(t, proves, rule, ls, ll, rs, rl, fuel)
 }
 
 // The verdict: how a run with fuel 0 ends here.
-pub fn verdict(sim: ChainSim, m: Machine, stride: u64, table: &[u8]) -> Outcome
-    requires { TableOk m stride }
-    ensures { Judged m table.now sim result }
+pub fn verdict(sim: ChainSim, t: Table) -> Outcome
+    ensures { Judged t.entry.m t.entry.entries.now sim result }
 {
     let tape = sim.tape;
     let steps = sim.steps;
     let state = sim.state;
-    let found = entry_of(m, stride, table, state, tape.cur);
+    let found = entry_of(t, state, tape.cur);
     match found {
-        Entry::Undefined => {
+        None => {
             return Outcome::Halted { steps, state };
         }
-        Entry::Defined(a) => {
+        Some(a) => {
             if loops_on(state, a, tape.cur, tape.left, tape.right) {
                 let dir = a.dir0;
                 let proof = macro_step::proof_of(state, dir);

@@ -5,12 +5,11 @@ ghost use Rattle.std.specs.Prelude.{◌≡◌};
 ghost use Rattle.rle.specs.Model.Engine.{conf};
 ghost use Rattle.rle.specs.Model.Operations.{given, run_answer, made, new_answer};
 
-use machine::{Checked, Machine};
+use machine::Machine;
 use notation::limits;
-use outcome::Refusal;
+use outcome::{Outcome, Refusal};
 use rle_macro::inner::word;
 use rle_stack::inner as stack;
-use run_rules::{Answer, StopRule};
 use symbol::State;
 
 mod checks;
@@ -29,7 +28,8 @@ pub struct RunTape {
 }
 
 // The engine's value: state, steps, macro steps, tape, and the lowest and the highest head so far, also raised by 2^63.
-// The places are lent to each call: symbols `ls` and lengths `ll` of the left side, `rs` and `rl` of the right.
+// The places are lent to each call: symbols `ls` and lengths `ll` of the left side, `rs` and `rl` of the right. The public
+// methods keep these parameters.
 #[derive(Clone, Copy)]
 pub struct ChainSim {
     pub state: State,
@@ -40,18 +40,11 @@ pub struct ChainSim {
     pub highest: u64,
 }
 
-// A fresh engine, or why there is none.
-#[derive(Clone, Copy)]
-pub enum Fresh {
-    Made(ChainSim),
-    Refused(Refusal),
-}
-
 // The engine handed back, with the answer.
 #[derive(Clone, Copy)]
 pub struct Answered {
     pub sim: ChainSim,
-    pub answer: Answer,
+    pub answer: Result<Outcome, Refusal>,
 }
 
 impl ChainSim {
@@ -65,39 +58,26 @@ impl ChainSim {
         ll: &[u64],
         rs: &mut [u8],
         rl: &mut [u64],
-    ) -> Fresh
+    ) -> Result<ChainSim, Refusal>
         ensures { made result rs.new rl.new ≡ new_answer m table.now word.now ls.now ll.now rs.old rl.old }
     {
-        let checked = word::fresh_check(
-            m,
-            table,
-            word,
-            stack::places(ls, ll),
-            stack::places(rs, rl),
-        );
-        match checked {
-            Checked::Refused(why) => {
-                return Fresh::Refused(why);
-            }
-            Checked::Accepted => {
-                let right = word::lay(rs, rl, word);
-                let cur = word::first(word);
-                let start = m.start;
-                return Fresh::Made(ChainSim {
-                    state: State(start as u16),
-                    steps: 0,
-                    macros: 0,
-                    tape: RunTape {
-                        left: 0,
-                        cur,
-                        right,
-                        head: limits::RAISED_ZERO,
-                    },
-                    lowest: limits::RAISED_ZERO,
-                    highest: limits::RAISED_ZERO,
-                });
-            }
-        }
+        word::fresh_check(m, table, word, stack::places(ls, ll), stack::places(rs, rl))?;
+        let right = word::lay(rs, rl, word);
+        let cur = word::first(word);
+        let start = m.start;
+        Ok(ChainSim {
+            state: State(start as u16),
+            steps: 0,
+            macros: 0,
+            tape: RunTape {
+                left: 0,
+                cur,
+                right,
+                head: limits::RAISED_ZERO,
+            },
+            lowest: limits::RAISED_ZERO,
+            highest: limits::RAISED_ZERO,
+        })
     }
 
     // Runs until the machine halts, is shown never to halt, has used its fuel, stops by the rule, or lacks space.
@@ -109,27 +89,32 @@ impl ChainSim {
         ll: &mut [u64],
         rs: &mut [u8],
         rl: &mut [u64],
-        rule: StopRule,
+        rule: Option<State>,
         fuel: u64,
     ) -> Answered
         ensures { given (conf result.sim ls.new ll.new rs.new rl.new) result.answer ≡ run_answer m table.now rule fuel (conf self ls.old ll.old rs.old rl.old) }
     {
         let checked = self.run_check(m, table, ls, ll, rs, rl, fuel);
         match checked {
-            Checked::Refused(why) => {
+            Err(why) => {
                 return Answered {
                     sim: self,
-                    answer: Answer::Refused(why),
+                    answer: Err(why),
                 };
             }
-            Checked::Accepted => {
+            Ok(()) => {
                 let stride = machine::inner::stride(m.tapes, m.symbols);
-                let ran = inner::run_all(self, m, stride, true, rule, table, ls, ll, rs, rl, fuel);
+                let t = inner::Table {
+                    m,
+                    stride,
+                    entries: table,
+                };
+                let ran = inner::run_all(self, t, true, rule, ls, ll, rs, rl, fuel);
                 let sim = ran.sim;
                 let outcome = ran.outcome;
                 return Answered {
                     sim,
-                    answer: Answer::Done(outcome),
+                    answer: Ok(outcome),
                 };
             }
         }

@@ -3,14 +3,14 @@ ghost use Rattle.std.specs.Prelude.{◌≡◌, false, List, ℕ};
 ghost use Rattle.rle.specs.Model.Engine.{conf};
 ghost use Rattle.rle.specs.Invariants.{AskOk};
 ghost use Rattle.rle.specs.Fits.{engine_check};
-ghost use Rattle.rle.specs.Model.Questions.{lowest_of, highest_of, blank_tape, span_of, get_answer, extent_answer, count_answer, window_into};
+ghost use Rattle.rle.specs.Model.Questions.{read_of, lowest_of, highest_of, blank_tape, span_of, get_answer, extent_answer, count_answer, window_into};
 
 use super::ChainSim;
-use machine::{Checked, Machine};
+use machine::Machine;
 use notation::limits;
-use rle_macro::inner::questions;
-use rle_stack::inner as stack;
-use run_rules::questions::{Counted, Extent, Got};
+use outcome::Refusal;
+use rle_macro::inner::questions::Tape;
+use rle_stack::inner::Runs;
 use symbol::{Symbol, position};
 use tape::Span;
 
@@ -29,6 +29,20 @@ impl ChainSim {
         tape.right == 0
     }
 
+    // The tape of an engine that fits, to read.
+    fn read<'a>(self, ls: &'a [u8], ll: &'a [u64], rs: &'a [u8], rl: &'a [u64]) -> Tape<'a>
+        requires { AskOk (conf self ls.now ll.now rs.now rl.now) }
+        ensures { result ≡ read_of (conf self ls.now ll.now rs.now rl.now) }
+    {
+        let tape = self.tape;
+        Tape {
+            head: tape.head,
+            cur: tape.cur,
+            left: Runs::new(ls, ll, tape.left),
+            right: Runs::new(rs, rl, tape.right),
+        }
+    }
+
     // The raised position of the lowest cell that is not blank.
     fn lowest_cell(self, ls: &[u8], ll: &[u64], rs: &[u8], rl: &[u64]) -> u64
         requires { (AskOk (conf self ls.now ll.now rs.now rl.now)) × (blank_tape (conf self ls.now ll.now rs.now rl.now) ≡ false) }
@@ -36,39 +50,40 @@ impl ChainSim {
     {
         let tape = self.tape;
         if tape.left != 0 {
-            return tape.head - stack::cells(ll, tape.left, self.steps + limits::SLACK);
+            return tape.head - Runs::new(ls, ll, tape.left).cells(self.steps + limits::SLACK);
         }
         if tape.cur != 0 {
             return tape.head;
         }
-        tape.head + stack::near(rs, rl, tape.right)
+        tape.head + Runs::new(rs, rl, tape.right).near()
     }
 
-    // The raised position of the highest cell that is not blank.
+    // The raised position of the highest cell that is not blank. One function for this and `lowest_cell` would choose a
+    // side and a sign in each line.
     fn highest_cell(self, ls: &[u8], ll: &[u64], rs: &[u8], rl: &[u64]) -> u64
         requires { (AskOk (conf self ls.now ll.now rs.now rl.now)) × (blank_tape (conf self ls.now ll.now rs.now rl.now) ≡ false) }
         ensures { result ≡ highest_of (conf self ls.now ll.now rs.now rl.now) }
     {
         let tape = self.tape;
         if tape.right != 0 {
-            return tape.head + stack::cells(rl, tape.right, self.steps + limits::SLACK);
+            return tape.head + Runs::new(rs, rl, tape.right).cells(self.steps + limits::SLACK);
         }
         if tape.cur != 0 {
             return tape.head;
         }
-        tape.head - stack::near(ls, ll, tape.left)
+        tape.head - Runs::new(ls, ll, tape.left).near()
     }
 
-    fn span(self, ls: &[u8], ll: &[u64], rs: &[u8], rl: &[u64]) -> Span
+    fn span(self, ls: &[u8], ll: &[u64], rs: &[u8], rl: &[u64]) -> Option<Span>
         requires { AskOk (conf self ls.now ll.now rs.now rl.now) }
         ensures { result ≡ span_of (conf self ls.now ll.now rs.now rl.now) }
     {
         if self.blank() {
-            return Span::Empty;
+            return None;
         }
         let from = position::signed(self.lowest_cell(ls, ll, rs, rl));
         let to = position::signed(self.highest_cell(ls, ll, rs, rl));
-        Span::Cells { from, to }
+        Some(Span { from, to })
     }
 
     // The symbol at a position; a cell past the stacks is blank.
@@ -81,23 +96,12 @@ impl ChainSim {
         rs: &[u8],
         rl: &[u64],
         at: i64,
-    ) -> Got
+    ) -> Result<Symbol, Refusal>
         ensures { result ≡ get_answer m table.now at (conf self ls.now ll.now rs.now rl.now) }
     {
-        let checked = self.engine_check(m, table, ls, ll, rs, rl);
-        match checked {
-            Checked::Refused(why) => {
-                return Got::Refused(why);
-            }
-            Checked::Accepted => {
-                let tape = self.tape;
-                let raised = position::raised(at);
-                let found = questions::cell(
-                    tape.head, tape.cur, ls, ll, tape.left, rs, rl, tape.right, raised,
-                );
-                return Got::Found(Symbol(found));
-            }
-        }
+        self.engine_check(m, table, ls, ll, rs, rl)?;
+        let tape = self.read(ls, ll, rs, rl);
+        Ok(Symbol(tape.cell(position::raised(at))))
     }
 
     // The positions of the lowest and the highest non-blank cell.
@@ -109,18 +113,11 @@ impl ChainSim {
         ll: &[u64],
         rs: &[u8],
         rl: &[u64],
-    ) -> Extent
+    ) -> Result<Option<Span>, Refusal>
         ensures { result ≡ extent_answer m table.now (conf self ls.now ll.now rs.now rl.now) }
     {
-        let checked = self.engine_check(m, table, ls, ll, rs, rl);
-        match checked {
-            Checked::Refused(why) => {
-                return Extent::Refused(why);
-            }
-            Checked::Accepted => {
-                return Extent::Found(self.span(ls, ll, rs, rl));
-            }
-        }
+        self.engine_check(m, table, ls, ll, rs, rl)?;
+        Ok(self.span(ls, ll, rs, rl))
     }
 
     // How many cells are not blank.
@@ -132,20 +129,12 @@ impl ChainSim {
         ll: &[u64],
         rs: &[u8],
         rl: &[u64],
-    ) -> Counted
+    ) -> Result<u64, Refusal>
         ensures { result ≡ count_answer m table.now (conf self ls.now ll.now rs.now rl.now) }
     {
-        let checked = self.engine_check(m, table, ls, ll, rs, rl);
-        match checked {
-            Checked::Refused(why) => {
-                return Counted::Refused(why);
-            }
-            Checked::Accepted => {
-                let tape = self.tape;
-                let found = questions::count(tape.cur, ls, ll, tape.left, rs, rl, tape.right);
-                return Counted::Found(found);
-            }
-        }
+        self.engine_check(m, table, ls, ll, rs, rl)?;
+        let tape = self.read(ls, ll, rs, rl);
+        Ok(tape.count())
     }
 
     // Writes the symbols from a position on into the whole of `out`; positions past i64 are blank.
@@ -159,22 +148,12 @@ impl ChainSim {
         rl: &[u64],
         from: i64,
         out: &mut [u8],
-    ) -> Checked
+    ) -> Result<(), Refusal>
         ensures { (result ≡ engine_check m table.now (conf self ls.now ll.now rs.now rl.now)) × (out.new ≡ window_into m table.now from (conf self ls.now ll.now rs.now rl.now) out.old) }
     {
-        let checked = self.engine_check(m, table, ls, ll, rs, rl);
-        match checked {
-            Checked::Refused(why) => {
-                return Checked::Refused(why);
-            }
-            Checked::Accepted => {
-                let tape = self.tape;
-                let raised = position::raised(from);
-                questions::fill_window(
-                    tape.head, tape.cur, ls, ll, tape.left, rs, rl, tape.right, raised, out,
-                );
-                return Checked::Accepted;
-            }
-        }
+        self.engine_check(m, table, ls, ll, rs, rl)?;
+        let tape = self.read(ls, ll, rs, rl);
+        tape.fill_window(position::raised(from), out);
+        Ok(())
     }
 }

@@ -5,8 +5,10 @@ ghost use Rattle.rle.specs.Model.Engine.{conf};
 ghost use Rattle.rle.specs.Model.Records.{side_answer, left_answer, left_into, right_answer, right_into};
 
 use super::ChainSim;
-use machine::{Checked, Machine};
-use rle_records::{Listed, Run};
+use machine::Machine;
+use outcome::Refusal;
+use rle_records::Run;
+use rle_stack::inner::Runs;
 
 impl ChainSim {
     // The table check, refusals 8, 11 and 12, then 18 where `room` records are too few for `count` runs.
@@ -20,18 +22,11 @@ impl ChainSim {
         rl: &'a [u64],
         count: usize,
         room: usize,
-    ) -> Listed
+    ) -> Result<u64, Refusal>
         ensures { result ≡ side_answer m table.now count room (conf self ls.now ll.now rs.now rl.now) }
     {
-        let checked = self.engine_check(m, table, ls, ll, rs, rl);
-        match checked {
-            Checked::Refused(why) => {
-                return Listed::Refused(why);
-            }
-            Checked::Accepted => {
-                return rle_records::inner::room_for(count, room);
-            }
-        }
+        self.engine_check(m, table, ls, ll, rs, rl)?;
+        rle_records::inner::room_for(count, room)
     }
 
     // Writes the runs of the left side, the topmost last, into the first places of `out`; returns their number.
@@ -44,12 +39,12 @@ impl ChainSim {
         rs: &'a [u8],
         rl: &'a [u64],
         out: &'b mut [Run],
-    ) -> Listed
+    ) -> Result<u64, Refusal>
         ensures { (result ≡ left_answer m table.now (length out.old) (conf self ls.now ll.now rs.now rl.now)) × (out.new ≡ left_into m table.now (conf self ls.now ll.now rs.now rl.now) out.old) }
     {
         let listed = self.list_check(m, table, ls, ll, rs, rl, self.tape.left, out.len());
         let count = rle_records::inner::written(listed);
-        rle_records::inner::fill(ls, ll, count, out);
+        rle_records::inner::fill(&Runs::new(ls, ll, count), out);
         listed
     }
 
@@ -63,12 +58,12 @@ impl ChainSim {
         rs: &'a [u8],
         rl: &'a [u64],
         out: &'b mut [Run],
-    ) -> Listed
+    ) -> Result<u64, Refusal>
         ensures { (result ≡ right_answer m table.now (length out.old) (conf self ls.now ll.now rs.now rl.now)) × (out.new ≡ right_into m table.now (conf self ls.now ll.now rs.now rl.now) out.old) }
     {
         let listed = self.list_check(m, table, ls, ll, rs, rl, self.tape.right, out.len());
         let count = rle_records::inner::written(listed);
-        rle_records::inner::fill(rs, rl, count, out);
+        rle_records::inner::fill(&Runs::new(rs, rl, count), out);
         listed
     }
 }

@@ -1,12 +1,11 @@
 -- "the runs of one side, topmost last, symbol and length together", in a lent slice. Definitions only.
-use Rattle.std.specs.Prelude.{List, ℕ, zero, suc, leb, get_or, set}
+use Rattle.outcome.specs.declared.Refusal.{Refusal}
+use Rattle.std.specs.Prelude.{List, ℕ, zero, suc, leb, get_or, set, Err, Ok, Result}
 use Rattle.notation.specs.Choice.{pick}
 use Rattle.symbol.specs.Kinds.{symbol_of}
 use Rattle.outcome.specs.declared.Refusal.TheVariants as Why
 use Rattle.rle_stack.specs.Model.{Side}
 use Rattle.rle_records.specs.declared.Run.{Run}
-use Rattle.rle_records.specs.declared.Listed.{Listed}
-use Rattle.rle_records.specs.declared.Listed.TheVariants.{Filled, Refused}
 
 -- run i: symbol i and length i
 abbrev pub run_at : List ℕ → List ℕ → ℕ → Run
@@ -22,10 +21,10 @@ unfoldable pub records_of : Side → List Run → List Run
 records_of x out = lay x.symbols x.lengths x.count out
 
 -- "18 for too short a record slice"
-unfoldable pub room_for : (count room : ℕ) → Listed
-room_for count room = pick (leb count room) (Filled count) (Refused Why.OutputSize)
+unfoldable pub room_for : (count room : ℕ) → Result ℕ Refusal
+room_for count room = pick (leb count room) (Ok count) (Err Why.OutputSize)
 
 -- the number of places written
-abbrev pub written_of : Listed → ℕ
-written_of (Filled count) = count
-written_of (Refused why) = 0
+abbrev pub written_of : Result ℕ Refusal → ℕ
+written_of (Ok count) = count
+written_of (Err why) = 0

@@ -13,10 +13,3 @@ pub struct Run {
     pub symbol: Symbol,
     pub len: u64,
 }
-
-// The number of runs of the side, all written into the slice; or why the slice is unchanged.
-#[derive(Clone, Copy)]
-pub enum Listed {
-    Filled(u64),
-    Refused(Refusal),
-}

@@ -1,10 +1,9 @@
 -- When a step is full, by the table machine's configuration and the numbers of lent places alone. Definitions only.
-use Rattle.std.specs.Prelude.{◌≡◌, ℕ, suc, ◌≤◌, ℤ}
+use Rattle.std.specs.Prelude.{◌≡◌, ℕ, suc, ◌≤◌, ℤ, Some}
 use Rattle.symbol.specs.declared.Dir.{Dir}
 use Rattle.symbol.specs.declared.Dir.TheVariants.{L, R, N}
 use Rattle.machine.specs.declared.Machine.{Machine}
 use Rattle.machine.specs.declared.Action.{Action}
-use Rattle.machine.specs.declared.Entry.TheVariants.{Defined}
 use Rattle.table_machine.specs.TableMachine.{Table, Tape, Config, read_t, entry}
 use Rattle.rle_refines.specs.Meaning.{Stack, empty, over, top, stream, distance, look, RunsFit}
 
@@ -27,7 +26,7 @@ FullOn N w lp rp l r = ⊥
 
 pub record FullAt (m : Machine) (d : Table) (lefts rights : ℕ) (c : Config) : Type 0 where
   pub act : Action
-  pub has : entry d c ≡ Defined act
+  pub has : entry d c ≡ Some act
   pub left : Stack
   pub right : Stack
   pub stacked : Stacked m.symbols c.tape0 left right

@@ -1,16 +1,14 @@
 -- THE RUN-LENGTH ENGINE REFINES THE TABLE MACHINE: the claim about a run of the engine's model. Definitions only.
-use Rattle.std.specs.Prelude.{◌≡◌, Bool, true, false, List, ℕ, ◌+◌, ◌≤◌, ◌<◌, ◌^◌, length}
+use Rattle.symbol.specs.declared.State.{State}
+use Rattle.std.specs.Prelude.{◌≡◌, Bool, true, false, List, ℕ, ◌+◌, ◌≤◌, ◌<◌, ◌^◌, length, Ok, Option, Some}
 use Rattle.outcome.specs.declared.Outcome.{Outcome}
 use Rattle.outcome.specs.declared.Outcome.TheVariants.{OutOfFuel, Stopped, Full}
 use Rattle.machine.specs.declared.Machine.{Machine}
 use Rattle.machine.specs.declared.Action.{Action}
-use Rattle.machine.specs.declared.Entry.TheVariants.{Defined}
-use Rattle.machine.specs.declared.Checked.TheVariants.{Accepted}
 use Rattle.machine.specs.Model.Check.{table_check}
 use Rattle.table_laws.specs.WellFormed.{Bytes}
 use Rattle.table_machine.specs.TableMachine.{Config, entry, run, Halted, halted_at, out_of_fuel_at}
 pub use Rattle.table_machine.specs.Beside.{table_in, Judged, Unproved, has_rule}
-use Rattle.run_rules.specs.declared.StopRule.{StopRule}
 use Rattle.run_rules.specs.Model.Task.{Task, task}
 use Rattle.rle_stack.specs.Model.{places_of}
 use Rattle.rle.specs.Model.Engine.{Conf, no_place, End, run_of}
@@ -69,10 +67,10 @@ pub data Answers (k : Task) (fuel made : ℕ) (e : Conf) : Outcome → Type 0 wh
   halted : k.proves ≡ false → Halted (table_in k) (config_of e) → Answers k fuel made e (halted_at (config_of e))
   spent : k.proves ≡ false → ¬ (Halted (table_in k) (config_of e)) → made ≡ fuel → Answers k fuel made e (out_of_fuel_at (config_of e))
   -- "The stop rule is tested before the macro step, after fuel and before space."
-  stopped : (a : Action) → made < fuel → entry (table_in k) (config_of e) ≡ Defined a → Unproved k (config_of e) → has_rule k (config_of e) ≡ true
+  stopped : (a : Action) → made < fuel → entry (table_in k) (config_of e) ≡ Some a → Unproved k (config_of e) → has_rule k (config_of e) ≡ true
       → Answers k fuel made e (Stopped (config_of e).steps)
   -- there is fuel and an entry a, but no place for its push: that step was not made
-  full : (a : Action) → made < fuel → entry (table_in k) (config_of e) ≡ Defined a → Unproved k (config_of e) → has_rule k (config_of e) ≡ false
+  full : (a : Action) → made < fuel → entry (table_in k) (config_of e) ≡ Some a → Unproved k (config_of e) → has_rule k (config_of e) ≡ false
       → is_full e a ≡ true → Answers k fuel made e (Full (config_of e).steps)
 
 -- the run from σ that ended in e is a run of the table machine
@@ -84,5 +82,5 @@ pub record Refines (k : Task) (fuel : ℕ) (σ : Conf) (e : End) : Type 0 where
 
 -- for every accepted table of one tape, every engine value that fits, and fuel within the bound (the others are refused: 1 to 6, 8, 12, 13)
 abbrev pub ChainRefines : Type 0
-ChainRefines = (m : Machine) (s : List ℕ) → Bytes s → table_check m s ≡ Accepted → m.tapes ≡ 1 → (proves : Bool) (rule : StopRule) (fuel : ℕ) (σ : Conf)
+ChainRefines = (m : Machine) (s : List ℕ) → Bytes s → table_check m s ≡ Ok tt → m.tapes ≡ 1 → (proves : Bool) (rule : Option State) (fuel : ℕ) (σ : Conf)
     → ChainFits m σ → σ.sim.steps + fuel ≤ 2 ^ 62 → Refines (task m s proves rule) fuel σ (run_of (task m s proves rule) fuel σ)

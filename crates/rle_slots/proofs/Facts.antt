@@ -6,3 +6,4 @@ pub mod Advance
 pub mod AdvanceCases
 pub mod Unpack
 pub mod SlotCases
+pub mod Sound

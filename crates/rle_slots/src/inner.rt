@@ -3,10 +3,9 @@
 pub mod bytes;
 pub mod held;
 
-ghost use Rattle.std.specs.Prelude.{◌≡◌, ◌+◌, ◌*◌, ◌≤◌, length};
+ghost use Rattle.std.specs.Prelude.{◌≡◌, ◌+◌, ◌*◌, ◌≤◌, length, Ok};
 ghost use Rattle.std.proofs.Math.Seq.{paste};
 ghost use Rattle.notation.specs.Limits.{runs_most};
-ghost use Rattle.machine.specs.declared.Checked.TheVariants.{Accepted};
 ghost use Rattle.rle_stack.specs.Model.{places_of};
 ghost use Rattle.rle.specs.Model.Engine.{conf};
 ghost use Rattle.rle.specs.Fits.{run_check};
@@ -17,8 +16,8 @@ ghost use Rattle.rle_slots.specs.Model.Restored.{restored, restored_of};
 use machine::Machine;
 use outcome::Outcome;
 use rle::ChainSim;
+use rle::inner::Table;
 use rle_stack::inner as stack;
-use run_rules::StopRule;
 use store_bytes::inner as little;
 use timeline_rule::inner::is_spent;
 
@@ -27,13 +26,6 @@ use timeline_rule::inner::is_spent;
 pub struct Advanced {
     pub sim: ChainSim,
     pub outcome: Outcome,
-}
-
-// What a slot holds: no fitting engine, or an engine.
-#[derive(Clone, Copy)]
-pub enum Found {
-    Nothing,
-    Holds(ChainSim),
 }
 
 // Runs without the never test. Where all the fuel was used, the outcome is the verdict of a run with fuel 0.
@@ -47,23 +39,16 @@ pub fn advance(
     rl: &mut [u64],
     fuel: u64,
 ) -> Advanced
-    requires { run_check m table.now fuel (conf sim ls.old ll.old rs.old rl.old) ≡ Accepted }
+    requires { run_check m table.now fuel (conf sim ls.old ll.old rs.old rl.old) ≡ Ok tt }
     ensures { (result.outcome, conf result.sim ls.new ll.new rs.new rl.new) ≡ advance_of m table.now fuel (conf sim ls.old ll.old rs.old rl.old) }
 {
     let stride = machine::inner::stride(m.tapes, m.symbols);
-    let ran = rle::inner::run_all(
-        sim,
+    let t = Table {
         m,
         stride,
-        false,
-        StopRule::Never,
-        table,
-        ls,
-        ll,
-        rs,
-        rl,
-        fuel,
-    );
+        entries: table,
+    };
+    let ran = rle::inner::run_all(sim, t, false, None, ls, ll, rs, rl, fuel);
     let after = ran.sim;
     let outcome = ran.outcome;
     if !is_spent(outcome) {
@@ -72,7 +57,7 @@ pub fn advance(
             outcome,
         };
     }
-    let verdict = rle::inner::verdict(after, m, stride, table);
+    let verdict = rle::inner::verdict(after, t);
     Advanced {
         sim: after,
         outcome: verdict,
@@ -96,7 +81,7 @@ fn put_value(sim: ChainSim, slot: &mut [u8])
 {
     let tape = sim.tape;
     little::put_16(slot, 0, sim.state.0);
-    bytes::put_byte(slot, 2, tape.cur);
+    slot[2] = tape.cur;
     little::put_64(slot, 8, sim.steps);
     little::put_64(slot, 16, sim.macros);
     little::put_64(slot, 24, tape.left as u64);
@@ -154,7 +139,7 @@ pub fn restore(
     ll: &mut [u64],
     rs: &mut [u8],
     rl: &mut [u64],
-) -> Found
+) -> Option<ChainSim>
     requires { length slot.now ≡ bytes_for (places_of ls.old ll.old) (places_of rs.old rl.old) }
     ensures { restored result (lent ls.new ll.new rs.new rl.new) ≡ restored_of m slot.now step (lent ls.old ll.old rs.old rl.old) }
 {
@@ -165,14 +150,14 @@ pub fn restore(
     let right_lengths = 128 + 9 * lp + rp;
     let found = held::peek(m, slot, step, lp, rp);
     match found {
-        Found::Nothing => {
-            return Found::Nothing;
+        None => {
+            return None;
         }
-        Found::Holds(sim) => {
+        Some(sim) => {
             let tape = sim.tape;
             take_side(slot, 128, left_lengths, lp, tape.left, ls, ll);
             take_side(slot, right_symbols, right_lengths, rp, tape.right, rs, rl);
-            return Found::Holds(sim);
+            return Some(sim);
         }
     }
 }

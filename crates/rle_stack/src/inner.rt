@@ -1,12 +1,165 @@
-// The operations of one side. They require that its live runs have places.
-ghost use Rattle.std.specs.Prelude.{◌≡◌, false, List, ℕ, ◌+◌, ◌-◌, ◌≤◌, ◌<◌, min, length, get_or};
+// One side of a tape. `Runs` is a side to read, and `Stack` is a side to write; the live runs of both have places.
+ghost use Rattle.std.specs.Prelude.{◌≡◌, false, List, ℕ, ◌+◌, ◌≤◌, ◌<◌, min, eqb, length, get_or};
+ghost use Rattle.notation.specs.Choice.{pick};
 ghost use Rattle.notation.specs.Limits.{raised_zero};
-ghost use Rattle.rle_stack.specs.Model.{side, places_of, symbol_under, ahead_of, push_of, lacks, take_of, run_fits, runs_fit, sum_of, symbol_in, weight_at, weight_of, near_of};
+ghost use Rattle.rle_stack.specs.Model.{Side, side, places_of, symbol_under, top_of, ahead_of, push_of, lacks, take_of, run_fits, runs_fit, cells_of, cell_at, written_of, near_of};
 
-use notation::index;
+use std::marker::Model;
 
-// The symbol next to the head; below the bottom run all cells are blank.
-pub fn top(symbols: &[u8], count: usize) -> u8
+// The lengths of a side's runs: numbers, or the bytes of a slot.
+pub trait Lengths: Drop {
+    ghost list: { Self → List ℕ };
+
+    fn at(&self, i: usize) -> u64
+        requires { i < length (list self.now) }
+        ensures { result ≡ get_or (list self.now) i 0 };
+}
+
+impl<'a> Lengths for &'a [u64] {
+    ghost list = { λ l. l.now };
+
+    fn at(&self, i: usize) -> u64 {
+        self[i]
+    }
+}
+
+// A side to read: the first `count` symbols and lengths are its live runs, of which the last is next to the head.
+#[derive(Drop)]
+pub struct Runs<'a, L: Lengths> {
+    symbols: &'a [u8],
+    lengths: L,
+    count: usize,
+}
+
+impl<'a, L: Lengths> Model for Runs<'a, L> {
+    ghost Value = { Side };
+
+    ghost view = { λ r. side r.symbols.now (L.list r.lengths) r.count };
+
+    ghost invariant = { λ r. (r.count ≤ length r.symbols.now) × (r.count ≤ length (L.list r.lengths)) };
+}
+
+impl<'a, L: Lengths> Runs<'a, L> {
+    pub fn new(symbols: &'a [u8], lengths: L, count: usize) -> Self
+        requires { (count ≤ length symbols.now) × (count ≤ length (L.list lengths)) }
+        ensures { result ≡ side symbols.now (L.list lengths) count }
+    {
+        Runs {
+            symbols,
+            lengths,
+            count,
+        }
+    }
+
+    pub fn count(&self) -> usize
+        ensures { result ≡ self.now.count }
+    {
+        self.count
+    }
+
+    // The symbol and the length of run i.
+    pub fn run(&self, i: usize) -> (u8, u64)
+        requires { i < self.now.count }
+        ensures { (result.0 ≡ get_or self.now.symbols i 0) × (result.1 ≡ get_or self.now.lengths i 0) }
+    {
+        let symbol = self.symbols[i];
+        (symbol, self.lengths.at(i))
+    }
+
+    // Whether run i has a cell, a symbol below k, and another symbol than the run under it.
+    fn run_fits(&self, i: usize, k: u64) -> bool
+        requires { i < self.now.count }
+        ensures { result ≡ run_fits k self.now.symbols self.now.lengths i }
+    {
+        let symbol = self.symbols[i];
+        if self.lengths.at(i) == 0 {
+            return false;
+        }
+        if k <= u64::from(symbol) {
+            return false;
+        }
+        symbol != top(self.symbols, i)
+    }
+
+    // Whether the live runs meet the stack rule, with symbols below k.
+    pub fn runs_fit(&self, k: u64) -> bool
+        ensures { result ≡ runs_fit k self.now }
+    {
+        for i in 0..self.count {
+            if !self.run_fits(i, k) {
+                return false;
+            }
+        }
+        true
+    }
+
+    // How many cells the live runs have, or `most + 1` where they have more than `most`.
+    pub fn cells(&self, most: u64) -> u64
+        requires { most < raised_zero }
+        ensures { result ≡ min (cells_of self.now) (most + 1) }
+    {
+        let mut sum = 0;
+        for i in 0..self.count {
+            let len = self.lengths.at(i);
+            if most - sum < len {
+                return most + 1;
+            }
+            sum += len;
+        }
+        sum
+    }
+
+    // The symbol at a distance from the head; the next cell is at distance 0.
+    pub fn symbol_at(&self, distance: u64) -> u8
+        ensures { result ≡ cell_at self.now distance }
+    {
+        let mut d = distance;
+        for i in (0..self.count).rev() {
+            let len = self.lengths.at(i);
+            if d < len {
+                return self.symbols[i];
+            }
+            d -= len;
+        }
+        0
+    }
+
+    // How many cells of the live runs are not blank.
+    pub fn written(&self) -> u64
+        requires { cells_of self.now < raised_zero }
+        ensures { (result ≡ written_of self.now) × (result ≤ cells_of self.now) }
+    {
+        let mut sum = 0;
+        for i in 0..self.count {
+            sum += weight(self.symbols[i], self.lengths.at(i));
+        }
+        sum
+    }
+
+    // The distance of the nearest cell that is not blank, on a side with runs; the next cell is at distance 1.
+    pub fn near(&self) -> u64
+        requires { (0 < self.now.count) × (cells_of self.now < raised_zero) }
+        ensures { (result ≡ near_of self.now) × (result ≤ cells_of self.now + 1) }
+    {
+        if top(self.symbols, self.count) == 0 {
+            return self.lengths.at(self.count - 1) + 1;
+        }
+        1
+    }
+}
+
+// How many cells of a run are not blank.
+fn weight(symbol: u8, len: u64) -> u64
+    ensures { (result ≡ pick (eqb symbol 0) 0 len) × (result ≤ len) }
+{
+    if symbol == 0 {
+        return 0;
+    }
+    len
+}
+
+// The symbol of run count - 1; below the bottom run all cells are blank.
+fn top(symbols: &[u8], count: usize) -> u8
     requires { count ≤ length symbols.now }
     ensures { result ≡ symbol_under symbols.now count }
 {
@@ -16,187 +169,108 @@ pub fn top(symbols: &[u8], count: usize) -> u8
     symbols[count - 1]
 }
 
-// How many cells of symbol `a` lie next to the head.
-pub fn ahead(symbols: &[u8], lengths: &[u64], count: usize, a: u8) -> u64
-    requires { (count ≤ length symbols.now) × (count ≤ length lengths.now) }
-    ensures { result ≡ ahead_of a (side symbols.now lengths.now count) }
-{
-    if count == 0 {
-        return 0;
-    }
-    if symbols[count - 1] != a {
-        return 0;
-    }
-    lengths[count - 1]
+// A side to write: its live runs lie in the first `count` of `places` places.
+#[derive(Drop)]
+pub struct Stack<'a> {
+    pub symbols: &'a mut [u8],
+    pub lengths: &'a mut [u64],
+    pub places: usize,
+    pub count: usize,
+    pub ghost live: { (count ≤ places) × (places ≡ places_of symbols.now lengths.now) },
 }
 
-// Whether a push of `s` needs a new run for which there is no place.
-pub fn lacks(symbols: &[u8], count: usize, places: usize, s: u8) -> bool
-    requires { count ≤ length symbols.now }
-    ensures { (ls : List ℕ) → result ≡ lacks places s (side symbols.now ls count) }
-{
-    if s == top(symbols, count) {
-        return false;
-    }
-    places <= count
-}
+impl<'a> Stack<'a> {
+    ghost use Rattle.rle_stack.specs.Written.{held, SameSlices};
 
-// Puts n cells of `s` next to the head, and returns the new count of runs.
-pub fn push(symbols: &mut [u8], lengths: &mut [u64], count: usize, s: u8, n: u64) -> usize
-    requires count_in_bounds { (count ≤ length symbols.old) × (count ≤ length lengths.old) }
-    requires count_value { lacks (places_of symbols.old lengths.old) s (side symbols.old lengths.old count) ≡ false }
-    requires n_bound { sum_of lengths.old count + n < 18446744073709551616 }
-    ensures { side symbols.new lengths.new result ≡ push_of s n (side symbols.old lengths.old count) }
-{
-    if s == top(symbols, count) {
-        if count == 0 {
+    pub fn new(symbols: &'a mut [u8], lengths: &'a mut [u64], count: usize) -> Self
+        requires { count ≤ places_of symbols.old lengths.old }
+        ensures same { (result.symbols.ghost_name ≡ symbols.entry.ghost_name) × (result.lengths.ghost_name ≡ lengths.entry.ghost_name) }
+        ensures made { (held result ≡ side symbols.old lengths.old count) × (result.places ≡ places_of symbols.old lengths.old) }
+    {
+        let places = places(symbols, lengths);
+        Stack {
+            symbols,
+            lengths,
+            places,
+            count,
+        }
+    }
+
+    // The symbol next to the head.
+    pub fn top(&self) -> u8
+        ensures { result ≡ top_of (held self.now) }
+    {
+        if self.count == 0 {
             return 0;
         }
-        lengths[count - 1] = lengths[count - 1] + n;
-        return count;
+        self.symbols[self.count - 1]
     }
-    symbols[count] = s;
-    lengths[count] = n;
-    count + 1
-}
 
-// x - y, or 0 where y is larger.
-fn less(x: u64, y: u64) -> u64
-    ensures { result ≡ x - y }
-{
-    if x < y {
-        return 0;
+    // How many cells of symbol `a` lie next to the head.
+    pub fn ahead(&self, a: u8) -> u64
+        ensures { result ≡ ahead_of a (held self.now) }
+    {
+        if self.count == 0 {
+            0
+        } else if self.symbols[self.count - 1] == a {
+            self.lengths[self.count - 1]
+        } else {
+            0
+        }
     }
-    x - y
-}
 
-// Takes n cells off the run next to the head, and returns the new count of runs.
-pub fn take(lengths: &mut [u64], count: usize, n: u64) -> usize
-    requires { count ≤ length lengths.old }
-    ensures { (ss : List ℕ) → side ss lengths.new result ≡ take_of n (side ss lengths.old count) }
-{
-    if count == 0 {
-        return 0;
+    // Whether a push of `s` needs a new run for which there is no place. The places are tested first, since a run of the
+    // engine rarely fills them.
+    pub fn lacks(&self, s: u8) -> bool
+        ensures { result ≡ lacks self.now.places s (held self.now) }
+    {
+        if self.count < self.places {
+            return false;
+        }
+        s != self.top()
     }
-    let left = less(lengths[count - 1], n);
-    lengths[count - 1] = left;
-    if left == 0 {
-        return count - 1;
+
+    // Puts n cells of `s` next to the head.
+    pub fn push(&mut self, s: u8, n: u64)
+        requires place { lacks self.old.places s (held self.old) ≡ false }
+        requires n_bound { cells_of (held self.old) + n < 18446744073709551616 }
+        ensures same { SameSlices self.old self.new }
+        ensures pushed { held self.new ≡ push_of s n (held self.old) }
+    {
+        let count = self.count;
+        let symbols = &mut *self.symbols;
+        if s == top(symbols, count) {
+            if count == 0 {
+                return;
+            }
+            self.lengths[count - 1] += n;
+            return;
+        }
+        symbols[count] = s;
+        self.lengths[count] = n;
+        self.count = count + 1;
     }
-    count
+
+    // Takes n cells off the run next to the head.
+    pub fn take(&mut self, n: u64)
+        ensures same { SameSlices self.old self.new }
+        ensures taken { held self.new ≡ take_of n (held self.old) }
+    {
+        let count = self.count;
+        if count == 0 {
+            return;
+        }
+        let left = self.lengths[count - 1].saturating_sub(n);
+        self.lengths[count - 1] = left;
+        if left == 0 {
+            self.count = count - 1;
+        }
+    }
 }
 
 // The number of places of a side: the length of its shorter slice.
 pub fn places(symbols: &[u8], lengths: &[u64]) -> usize
     ensures { result ≡ places_of symbols.now lengths.now }
 {
-    index::min(symbols.len(), lengths.len())
-}
-
-// Whether run i has a cell, a symbol below k, and another symbol than the run under it.
-fn run_fits(symbols: &[u8], lengths: &[u64], i: usize, k: u64) -> bool
-    requires { (i < length symbols.now) × (i < length lengths.now) }
-    ensures { result ≡ run_fits k symbols.now lengths.now i }
-{
-    if lengths[i] == 0 {
-        return false;
-    }
-    if k <= wide(symbols[i]) {
-        return false;
-    }
-    symbols[i] != top(symbols, i)
-}
-
-fn wide(x: u8) -> u64
-    ensures { result ≡ x }
-{
-    x as u64
-}
-
-// Whether the live runs meet the stack rule, with symbols below k.
-pub fn runs_fit(symbols: &[u8], lengths: &[u64], count: usize, k: u64) -> bool
-    requires { (count ≤ length symbols.now) × (count ≤ length lengths.now) }
-    ensures { result ≡ runs_fit k (side symbols.now lengths.now count) }
-{
-    let mut i = 0;
-    while i < count {
-        if !run_fits(symbols, lengths, i, k) {
-            return false;
-        }
-        i += 1;
-    }
-    true
-}
-
-// How many cells the live runs have, or `most + 1` where they have more than `most`.
-pub fn cells(lengths: &[u64], count: usize, most: u64) -> u64
-    requires { (count ≤ length lengths.now) × (most < raised_zero) }
-    ensures { result ≡ min (sum_of lengths.now count) (most + 1) }
-{
-    let mut i = 0;
-    let mut sum = 0;
-    while i < count {
-        if most - sum < lengths[i] {
-            return most + 1;
-        }
-        sum += lengths[i];
-        i += 1;
-    }
-    sum
-}
-
-// The symbol at a distance from the head; the next cell is at distance 0.
-pub fn symbol_at(symbols: &[u8], lengths: &[u64], count: usize, distance: u64) -> u8
-    requires { (count ≤ length symbols.now) × (count ≤ length lengths.now) }
-    ensures { result ≡ symbol_in symbols.now lengths.now count distance }
-{
-    let mut n = count;
-    let mut d = distance;
-    while 0 < n {
-        let len = lengths[n - 1];
-        if d < len {
-            return symbols[n - 1];
-        }
-        d -= len;
-        n -= 1;
-    }
-    0
-}
-
-// How many cells of run i are not blank.
-fn weight(symbols: &[u8], lengths: &[u64], i: usize) -> u64
-    requires { (i < length symbols.now) × (i < length lengths.now) }
-    ensures { (result ≡ weight_at symbols.now lengths.now i) × (result ≤ get_or lengths.now i 0) }
-{
-    if symbols[i] == 0 {
-        return 0;
-    }
-    lengths[i]
-}
-
-// How many cells of the live runs are not blank.
-pub fn written(symbols: &[u8], lengths: &[u64], count: usize) -> u64
-    requires count_in_bounds { (count ≤ length symbols.now) × (count ≤ length lengths.now) }
-    requires count_bound { sum_of lengths.now count < raised_zero }
-    ensures { (result ≡ weight_of symbols.now lengths.now count) × (result ≤ sum_of lengths.now count) }
-{
-    let mut i = 0;
-    let mut sum = 0;
-    while i < count {
-        sum += weight(symbols, lengths, i);
-        i += 1;
-    }
-    sum
-}
-
-// The distance of the nearest cell that is not blank, on a side with runs; the next cell is at distance 1.
-pub fn near(symbols: &[u8], lengths: &[u64], count: usize) -> u64
-    requires count_nonzero { (0 < count) × (count ≤ length symbols.now) × (count ≤ length lengths.now) }
-    requires count_bound { sum_of lengths.now count < raised_zero }
-    ensures { (result ≡ near_of (side symbols.now lengths.now count)) × (result ≤ sum_of lengths.now count + 1) }
-{
-    if top(symbols, count) == 0 {
-        return lengths[count - 1] + 1;
-    }
-    1
+    symbols.len().min(lengths.len())
 }

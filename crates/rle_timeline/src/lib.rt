@@ -3,22 +3,20 @@
 
 ghost use Rattle.std.specs.Prelude.{◌≡◌};
 ghost use Rattle.rle.specs.Model.Engine.{conf};
-ghost use Rattle.timeline_rule.specs.Model.Timeline.{seek, forward, back, call_for};
+ghost use Rattle.timeline_rule.specs.declared.Call.TheVariants.{Seek, Forward, Back};
+ghost use Rattle.timeline_rule.specs.Model.Timeline.{call_for};
 ghost use Rattle.timeline_rule.specs.Model.Kind.{call_on, new_with};
 ghost use Rattle.rle_slots.specs.Model.Kind.{chain_kind};
 ghost use Rattle.rle_timeline.specs.Model.{with_lent, replied, begun};
 
-use machine::{Checked, Machine};
-use notation::number;
-use outcome::Refusal;
+use engine::ChainOn;
+use machine::Machine;
+use outcome::{Outcome, Refusal};
 use rle::ChainSim;
-use rle_slots::inner as engine;
-use run_rules::Answer;
+use rle_slots::inner as slots;
 use timeline_rule::{Times, inner as sums};
 
-mod checks;
-mod moves;
-mod turns;
+mod engine;
 
 // The engine's value and the timeline's own numbers. The table, the engine's buffers and the store of slots are lent to
 // each call.
@@ -32,18 +30,12 @@ pub struct Timeline {
 #[derive(Clone, Copy)]
 pub struct Answered {
     pub timeline: Timeline,
-    pub answer: Answer,
-}
-
-// A new timeline, or the refusal.
-#[derive(Clone, Copy)]
-pub enum Begun {
-    Made(Timeline),
-    Refused(Refusal),
+    pub answer: Result<Outcome, Refusal>,
 }
 
 impl Timeline {
-    // Saves the engine in slot 0: at most `most` slots are kept, `every` steps apart at first.
+    // Saves the engine in slot 0: at most `most` slots are kept, `every` steps apart at first. The trait does not serve
+    // here, since its engine holds `&mut` slices and `new` is lent shared ones.
     pub fn new(
         engine: ChainSim,
         m: Machine,
@@ -55,26 +47,19 @@ impl Timeline {
         store: &mut [u8],
         most: u64,
         every: u64,
-    ) -> Begun
+    ) -> Result<Timeline, Refusal>
         ensures { begun result ls.now ll.now rs.now rl.now store.new ≡ new_with chain_kind m table.now most every (conf engine ls.now ll.now rs.now rl.now) store.old }
     {
-        let checked = checks::new_check(engine, m, table, ls, ll, rs, rl, store, most, every);
-        match checked {
-            Checked::Refused(why) => {
-                return Begun::Refused(why);
-            }
-            Checked::Accepted => {
-                let size = engine::slot_size(ls, ll, rs, rl);
-                turns::save_at(engine, m, ls, ll, rs, rl, store, size, 0);
-                let times = Times {
-                    most,
-                    first: engine.steps,
-                    count: 1,
-                    every,
-                };
-                return Begun::Made(Timeline { engine, times });
-            }
-        }
+        let size = engine::admitted(engine, m, table, ls, ll, rs, rl)?;
+        sums::first_check(most, every, store.len() / size)?;
+        slots::save(engine, ls, ll, rs, rl, &mut store[..size]);
+        let times = Times {
+            most,
+            first: engine.steps,
+            count: 1,
+            every,
+        };
+        Ok(Timeline { engine, times })
     }
 
     // Moves to the step `target`, or to an earlier one where the machine halts or is full. A target below the start
@@ -90,22 +75,24 @@ impl Timeline {
         store: &mut [u8],
         target: u64,
     ) -> Answered
-        ensures { replied result.answer (with_lent result.timeline ls.new ll.new rs.new rl.new store.new) ≡ call_on chain_kind m table.now (with_lent self ls.old ll.old rs.old rl.old store.old) (seek target) }
+        ensures { replied result.answer (with_lent result.timeline ls.new ll.new rs.new rl.new store.new) ≡ call_on chain_kind m table.now (with_lent self ls.old ll.old rs.old rl.old store.old) (Seek target) }
     {
-        let checked = self.call_check(m, table, ls, ll, rs, rl, store, target);
-        match checked {
-            Checked::Refused(why) => {
-                return Answered {
-                    timeline: self,
-                    answer: Answer::Refused(why),
-                };
-            }
-            Checked::Accepted => {
-                let size = engine::slot_size(ls, ll, rs, rl);
-                let times = self.times;
-                let goal = number::max(target, times.first);
-                return self.go_to(m, table, ls, ll, rs, rl, store, size, goal);
-            }
+        let sim = self.engine;
+        let mut on = ChainOn {
+            sim,
+            ls,
+            ll,
+            rs,
+            rl,
+        };
+        let mut times = self.times;
+        let answer = timeline_engine::seek(&mut on, &mut times, m, table, store, target);
+        Answered {
+            timeline: Timeline {
+                engine: on.sim,
+                times,
+            },
+            answer,
         }
     }
 
@@ -121,7 +108,7 @@ impl Timeline {
         store: &mut [u8],
         n: u64,
     ) -> Answered
-        ensures { replied result.answer (with_lent result.timeline ls.new ll.new rs.new rl.new store.new) ≡ call_on chain_kind m table.now (with_lent self ls.old ll.old rs.old rl.old store.old) (forward n) }
+        ensures { replied result.answer (with_lent result.timeline ls.new ll.new rs.new rl.new store.new) ≡ call_on chain_kind m table.now (with_lent self ls.old ll.old rs.old rl.old store.old) (Forward n) }
     {
         let sim = self.engine;
         let target = sums::forward_to(sim.steps, n);
@@ -140,7 +127,7 @@ impl Timeline {
         store: &mut [u8],
         n: u64,
     ) -> Answered
-        ensures { replied result.answer (with_lent result.timeline ls.new ll.new rs.new rl.new store.new) ≡ call_on chain_kind m table.now (with_lent self ls.old ll.old rs.old rl.old store.old) (back n) }
+        ensures { replied result.answer (with_lent result.timeline ls.new ll.new rs.new rl.new store.new) ≡ call_on chain_kind m table.now (with_lent self ls.old ll.old rs.old rl.old store.old) (Back n) }
     {
         let sim = self.engine;
         let target = sums::back_to(sim.steps, n);
@@ -148,6 +135,7 @@ impl Timeline {
     }
 
     // The call given by two numbers: `which` is 0 for seek, 1 for forward, else back.
+    // The C interface gives the call as two numbers.
     pub fn call(
         self,
         m: Machine,

@@ -8,7 +8,6 @@ ghost use Rattle.std.specs.Prelude.{◌≡◌, OnOk, IfErr, IfSome, IsErrOf};
 ghost use Rattle.std.specs.Io.KnownBytes.{Appends, Keeps};
 ghost use Rattle.listing.specs.Output.{answer_to};
 
-use listing::Listed;
 use program_input::Failed;
 use std::io::{Read, Write};
 
@@ -19,8 +18,8 @@ fn answer<W: Write>(input: &[u8], writer: &mut W) -> Result<(), Failed>
 {
     let mut output = [0u8; 65536];
     match listing::list(input, &mut output) {
-        Listed::Printed(m) => program_input::write_output(writer, &output[..m]),
-        Listed::Refused(_) => Ok(()),
+        Ok(m) => program_input::write_output(writer, &output[..m]),
+        Err(_) => Ok(()),
     }
 }
 
@@ -30,11 +29,8 @@ fn run<R: Read, W: Write>(reader: &mut R, writer: &mut W) -> Result<(), Failed>
     ensures unread { IsErrOf result Failed.Reading → Keeps (W.contents writer.old) (W.contents writer.new) }
 {
     let mut input = [0u8; 65536];
-    let read = program_input::read_input(reader, &mut input);
-    if read.failed {
-        return Err(Failed::Reading);
-    }
-    answer(&input[..read.size], writer)
+    let size = program_input::read_input(reader, &mut input)?;
+    answer(&input[..size], writer)
 }
 
 fn main(rt: HostRuntime) {

@@ -4,7 +4,7 @@ ghost use Rattle.sim.specs.Model.Engine.{conf};
 ghost use Rattle.sim.specs.Model.Operations.{bare_sim, hand_back, sim_fits, value_check, engine_check, fuel_check, run_check};
 
 use super::Simulator;
-use machine::{Checked, Machine};
+use machine::Machine;
 use outcome::Refusal;
 use run_checks::inner::sizes;
 use tape::Tape;
@@ -35,31 +35,31 @@ impl Simulator {
     }
 
     // Refusals 11 and 12.
-    fn value_check(self, m: Machine, c0: &[u8], c1: &[u8], c2: &[u8]) -> Checked
+    fn value_check(self, m: Machine, c0: &[u8], c1: &[u8], c2: &[u8]) -> Result<(), Refusal>
         ensures { result ≡ value_check m (conf self c0.now c1.now c2.now) }
     {
         if !sizes::sizes_fit(m, c0.len(), c1.len(), c2.len()) {
-            return Checked::Refused(Refusal::BufferSize);
+            return Err(Refusal::BufferSize);
         }
         if !self.fits(m, c0, c1, c2) {
-            return Checked::Refused(Refusal::Misfit);
+            return Err(Refusal::Misfit);
         }
-        Checked::Accepted
+        Ok(())
     }
 
     // The table check, then refusals 11 and 12.
-    pub fn engine_check(self, m: Machine, table: &[u8], c0: &[u8], c1: &[u8], c2: &[u8]) -> Checked
+    pub fn engine_check(
+        self,
+        m: Machine,
+        table: &[u8],
+        c0: &[u8],
+        c1: &[u8],
+        c2: &[u8],
+    ) -> Result<(), Refusal>
         ensures { result ≡ engine_check m table.now (conf self c0.now c1.now c2.now) }
     {
-        let checked = m.check(table);
-        match checked {
-            Checked::Refused(why) => {
-                return Checked::Refused(why);
-            }
-            Checked::Accepted => {
-                return self.value_check(m, c0, c1, c2);
-            }
-        }
+        m.check(table)?;
+        self.value_check(m, c0, c1, c2)
     }
 
     // Refusals 11, 12 and 13.
@@ -70,21 +70,14 @@ impl Simulator {
         c1: &[u8],
         c2: &[u8],
         fuel: u64,
-    ) -> Checked
+    ) -> Result<(), Refusal>
         ensures { result ≡ fuel_check m fuel (conf self c0.now c1.now c2.now) }
     {
-        let checked = self.value_check(m, c0, c1, c2);
-        match checked {
-            Checked::Refused(why) => {
-                return Checked::Refused(why);
-            }
-            Checked::Accepted => {
-                if !sizes::fuel_fits(self.steps, fuel) {
-                    return Checked::Refused(Refusal::StepLimit);
-                }
-                return Checked::Accepted;
-            }
+        self.value_check(m, c0, c1, c2)?;
+        if !sizes::fuel_fits(self.steps, fuel) {
+            return Err(Refusal::StepLimit);
         }
+        Ok(())
     }
 
     // The table check, then refusals 11, 12 and 13.
@@ -96,18 +89,11 @@ impl Simulator {
         c1: &[u8],
         c2: &[u8],
         fuel: u64,
-    ) -> Checked
+    ) -> Result<(), Refusal>
         ensures { result ≡ run_check m table.now fuel (conf self c0.now c1.now c2.now) }
     {
-        let checked = m.check(table);
-        match checked {
-            Checked::Refused(why) => {
-                return Checked::Refused(why);
-            }
-            Checked::Accepted => {
-                return self.fuel_check(m, c0, c1, c2, fuel);
-            }
-        }
+        m.check(table)?;
+        self.fuel_check(m, c0, c1, c2, fuel)
     }
 
     // The value with 0 in the fields of tapes that the machine lacks.
@@ -121,33 +107,22 @@ impl Simulator {
             lowest: 0,
             highest: 0,
         };
-        let t0 = self.t0;
-        let t1 = sizes::tape_or(1 < tapes, self.t1, none);
-        let t2 = sizes::tape_or(2 < tapes, self.t2, none);
-        let state = self.state;
-        Simulator {
-            state,
-            steps: self.steps,
-            t0,
-            t1,
-            t2,
-        }
+        let lacking = Simulator {
+            t1: none,
+            t2: none,
+            ..self
+        };
+        self.hand_back(tapes, lacking)
     }
 
     // The value with the fields of `before` for tapes that the machine lacks.
     pub(crate) fn hand_back(self, tapes: u64, before: Simulator) -> Simulator
         ensures { result ≡ hand_back tapes before self }
     {
-        let t0 = self.t0;
-        let t1 = sizes::tape_or(1 < tapes, self.t1, before.t1);
-        let t2 = sizes::tape_or(2 < tapes, self.t2, before.t2);
-        let state = self.state;
         Simulator {
-            state,
-            steps: self.steps,
-            t0,
-            t1,
-            t2,
+            t1: sizes::tape_or(1 < tapes, self.t1, before.t1),
+            t2: sizes::tape_or(2 < tapes, self.t2, before.t2),
+            ..self
         }
     }
 }

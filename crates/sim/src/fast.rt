@@ -4,7 +4,7 @@ ghost use Rattle.sim.specs.Model.Engine.{conf};
 ghost use Rattle.sim.specs.Model.Operations.{fast_check};
 
 use super::Simulator;
-use machine::{Checked, Machine};
+use machine::Machine;
 use outcome::Refusal;
 use run_checks::inner::words;
 
@@ -19,20 +19,13 @@ impl Simulator {
         c1: &[u8],
         c2: &[u8],
         fuel: u64,
-    ) -> Checked
+    ) -> Result<(), Refusal>
         ensures { result ≡ fast_check m table.now words.now fuel (conf self c0.now c1.now c2.now) }
     {
-        let checked = m.check(table);
-        match checked {
-            Checked::Refused(why) => {
-                return Checked::Refused(why);
-            }
-            Checked::Accepted => {
-                if !words::words_right(m, table, words) {
-                    return Checked::Refused(Refusal::PackedWords);
-                }
-                return self.fuel_check(m, c0, c1, c2, fuel);
-            }
+        m.check(table)?;
+        if !words::words_right(m, table, words) {
+            return Err(Refusal::PackedWords);
         }
+        self.fuel_check(m, c0, c1, c2, fuel)
     }
 }

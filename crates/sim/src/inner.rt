@@ -1,14 +1,15 @@
 // The tests before a step of a run, the step, and the run. They require that the engine's numbers lie inside its cells.
-ghost use Rattle.std.specs.Prelude.{◌≡◌, ◌+◌};
+ghost use Rattle.std.specs.Prelude.{◌≡◌, ◌+◌, Ok};
 ghost use Rattle.sim.specs.Model.Engine.{conf, step_of};
-ghost use Rattle.machine.specs.declared.Checked.TheVariants.{Accepted};
 ghost use Rattle.sim.specs.Model.Operations.{given, answer_of, run_check};
 ghost use Rattle.sim.specs.Model.Turns.{choice_of, LookOk, StepOk};
 
-use super::{Answered, Simulator, StopRule};
-use machine::{Action, Checked, Machine};
+use super::{Answered, Simulator};
+use machine::{Action, Machine};
+use outcome::Outcome;
 use run_checks::inner::look;
-use run_checks::inner::look::Choice;
+use std::ops::ControlFlow;
+use symbol::State;
 
 impl Simulator {
     // The tests before each step of a run: halted, never, fuel, space, in that order.
@@ -22,7 +23,7 @@ impl Simulator {
         c1: &[u8],
         c2: &[u8],
         left: u64,
-    ) -> Choice
+    ) -> ControlFlow<Outcome, Action>
         requires { LookOk m stride self c0.now c1.now c2.now }
         ensures { result ≡ choice_of m table.now proves left (conf self c0.now c1.now c2.now) }
     {
@@ -66,19 +67,15 @@ pub fn run_all(
     sim: Simulator,
     m: Machine,
     proves: bool,
-    rule: StopRule,
+    rule: Option<State>,
     table: &[u8],
     c0: &mut [u8],
     c1: &mut [u8],
     c2: &mut [u8],
     fuel: u64,
 ) -> Answered
-    requires { run_check m table.now fuel (conf sim c0.old c1.old c2.old) ≡ Accepted }
-    ensures { given (conf result.sim c0.new c1.new c2.new) result.answer ≡ answer_of Accepted m table.now proves rule fuel (conf sim c0.old c1.old c2.old) }
+    requires { run_check m table.now fuel (conf sim c0.old c1.old c2.old) ≡ Ok tt }
+    ensures { given (conf result.sim c0.new c1.new c2.new) result.answer ≡ answer_of (Ok tt) m table.now proves rule fuel (conf sim c0.old c1.old c2.old) }
 {
-    let none: [u64; 1] = [3];
-    let checked = Checked::Accepted;
-    sim.run_checked(
-        checked, m, proves, rule, table, false, &none, c0, c1, c2, fuel,
-    )
+    sim.run_checked(Ok(()), m, proves, rule, table, None, c0, c1, c2, fuel)
 }

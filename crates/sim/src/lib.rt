@@ -5,10 +5,9 @@ ghost use Rattle.std.specs.Prelude.{◌≡◌};
 ghost use Rattle.sim.specs.Model.Engine.{conf, status_of};
 ghost use Rattle.sim.specs.Model.Operations.{given, run_answer, fast_answer, step_given, step_answer, step_answer_of, made, new_answer};
 
-use machine::{Checked, Machine};
+use machine::Machine;
 use outcome::{Outcome, Refusal, Status};
 use run_checks::inner::sizes;
-pub use run_rules::{Answer, StopRule};
 use symbol::State;
 use tape::Tape;
 
@@ -34,46 +33,29 @@ pub struct Simulator {
 #[derive(Clone, Copy)]
 pub struct Answered {
     pub sim: Simulator,
-    pub answer: Answer,
-}
-
-// The status after a step, or the refusal.
-#[derive(Clone, Copy)]
-pub enum StepAnswer {
-    Done(Status),
-    Refused(Refusal),
+    pub answer: Result<Outcome, Refusal>,
 }
 
 #[derive(Clone, Copy)]
 pub struct Stepped {
     pub sim: Simulator,
-    pub answer: StepAnswer,
-}
-
-// A fresh engine, or the refusal.
-#[derive(Clone, Copy)]
-pub enum Fresh {
-    Made(Simulator),
-    Refused(Refusal),
+    pub answer: Result<Status, Refusal>,
 }
 
 // The answer of a step, from the answer of a run of one step.
-fn step_answer(answer: Answer) -> StepAnswer
+fn step_answer(answer: Result<Outcome, Refusal>) -> Result<Status, Refusal>
     ensures { result ≡ step_answer_of answer }
 {
-    match answer {
-        Answer::Refused(why) => StepAnswer::Refused(why),
-        Answer::Done(outcome) => StepAnswer::Done(status_of(outcome)),
-    }
+    answer.map(status_of)
 }
 
 // The status of a step, from the outcome of a run of one step.
 fn status_of(outcome: Outcome) -> Status
     ensures { result ≡ status_of outcome }
 {
-    match outcome.number() {
-        1 | 3 => Status::Running,
-        4 => Status::Full,
+    match outcome {
+        Outcome::OutOfFuel { .. } | Outcome::Stopped { .. } => Status::Running,
+        Outcome::Full { .. } => Status::Full,
         _ => Status::Halted,
     }
 }
@@ -87,28 +69,21 @@ impl Simulator {
         c0: &mut [u8],
         c1: &mut [u8],
         c2: &mut [u8],
-    ) -> Fresh
+    ) -> Result<Simulator, Refusal>
         ensures { made result c0.new c1.new c2.new ≡ new_answer m table.now word.now c0.old c1.old c2.old }
     {
-        let checked = sizes::fresh_check(m, table, word, c0.len(), c1.len(), c2.len());
-        match checked {
-            Checked::Refused(why) => {
-                return Fresh::Refused(why);
-            }
-            Checked::Accepted => {
-                let t0 = tape::inner::fresh(c0, word);
-                let t1 = sizes::blank(1 < m.tapes, c1);
-                let t2 = sizes::blank(2 < m.tapes, c2);
-                let start = m.start;
-                return Fresh::Made(Simulator {
-                    state: State(start as u16),
-                    steps: 0,
-                    t0,
-                    t1,
-                    t2,
-                });
-            }
-        }
+        sizes::fresh_check(m, table, word, c0.len(), c1.len(), c2.len())?;
+        let t0 = tape::inner::fresh(c0, word);
+        let t1 = sizes::blank(1 < m.tapes, c1);
+        let t2 = sizes::blank(2 < m.tapes, c2);
+        let start = m.start;
+        Ok(Simulator {
+            state: State(start as u16),
+            steps: 0,
+            t0,
+            t1,
+            t2,
+        })
     }
 
     // Runs until the machine halts, is proved never to halt, has used its fuel, lacks space, or stops by the rule.
@@ -119,16 +94,13 @@ impl Simulator {
         c0: &mut [u8],
         c1: &mut [u8],
         c2: &mut [u8],
-        rule: StopRule,
+        rule: Option<State>,
         fuel: u64,
     ) -> Answered
         ensures { given (conf result.sim c0.new c1.new c2.new) result.answer ≡ run_answer m table.now rule fuel (conf self c0.old c1.old c2.old) }
     {
         let checked = self.run_check(m, table, c0, c1, c2, fuel);
-        let none: [u64; 1] = [3];
-        self.run_checked(
-            checked, m, true, rule, table, false, &none, c0, c1, c2, fuel,
-        )
+        self.run_checked(checked, m, true, rule, table, None, c0, c1, c2, fuel)
     }
 
     // The same over packed words, which must be those of the table. The machine must have one tape.
@@ -140,13 +112,13 @@ impl Simulator {
         c0: &mut [u8],
         c1: &mut [u8],
         c2: &mut [u8],
-        rule: StopRule,
+        rule: Option<State>,
         fuel: u64,
     ) -> Answered
         ensures { given (conf result.sim c0.new c1.new c2.new) result.answer ≡ fast_answer m table.now words.now rule fuel (conf self c0.old c1.old c2.old) }
     {
         let checked = self.fast_check(m, table, words, c0, c1, c2, fuel);
-        self.run_checked(checked, m, true, rule, table, true, words, c0, c1, c2, fuel)
+        self.run_checked(checked, m, true, rule, table, Some(words), c0, c1, c2, fuel)
     }
 
     // Makes one step, even where it is a proved loop, or answers that the machine has halted or lacks space.
@@ -161,10 +133,8 @@ impl Simulator {
         ensures { step_given (conf result.sim c0.new c1.new c2.new) result.answer ≡ step_answer m table.now (conf self c0.old c1.old c2.old) }
     {
         let checked = self.run_check(m, table, c0, c1, c2, 1);
-        let state = self.state;
-        let rule = StopRule::From(state);
-        let none: [u64; 1] = [3];
-        let ran = self.run_checked(checked, m, false, rule, table, false, &none, c0, c1, c2, 1);
+        let rule = Some(self.state);
+        let ran = self.run_checked(checked, m, false, rule, table, None, c0, c1, c2, 1);
         let sim = ran.sim;
         let answer = ran.answer;
         Stepped {

@@ -4,11 +4,11 @@ ghost use Rattle.sim.specs.Model.Engine.{conf};
 ghost use Rattle.sim.specs.Model.Questions.{tape_at, cells_at, question_check, get_answer, extent_answer, count_answer, window_into, find_answer};
 
 use super::Simulator;
-use machine::{Checked, Machine};
+use machine::Machine;
 use outcome::Refusal;
-pub use run_rules::questions::{Counted, Extent, Got, Located};
 use symbol::{Dir, Symbol};
-use tape::Tape;
+use tape::view::View;
+use tape::{Span, Tape};
 
 fn cells_at<'a>(i: u64, c0: &'a [u8], c1: &'a [u8], c2: &'a [u8]) -> &'a [u8]
     ensures { result.now ≡ cells_at i c0.now c1.now c2.now }
@@ -44,21 +44,14 @@ impl Simulator {
         c1: &[u8],
         c2: &[u8],
         tape: u64,
-    ) -> Checked
+    ) -> Result<(), Refusal>
         ensures { result ≡ question_check m table.now tape (conf self c0.now c1.now c2.now) }
     {
-        let checked = self.engine_check(m, table, c0, c1, c2);
-        match checked {
-            Checked::Refused(why) => {
-                return Checked::Refused(why);
-            }
-            Checked::Accepted => {
-                if m.tapes <= tape {
-                    return Checked::Refused(Refusal::Misfit);
-                }
-                return Checked::Accepted;
-            }
+        self.engine_check(m, table, c0, c1, c2)?;
+        if m.tapes <= tape {
+            return Err(Refusal::Misfit);
         }
+        Ok(())
     }
 
     // The symbol at a position; a cell outside the tape is blank.
@@ -71,20 +64,14 @@ impl Simulator {
         c2: &'a [u8],
         tape: u64,
         at: i64,
-    ) -> Got
+    ) -> Result<Symbol, Refusal>
         ensures { result ≡ get_answer m table.now tape at (conf self c0.now c1.now c2.now) }
     {
-        let checked = self.question_check(m, table, c0, c1, c2, tape);
-        match checked {
-            Checked::Refused(why) => {
-                return Got::Refused(why);
-            }
-            Checked::Accepted => {
-                let t = self.tape_at(tape);
-                let cells = cells_at(tape, c0, c1, c2);
-                return Got::Found(Symbol(tape::inner::get(t, cells, at)));
-            }
-        }
+        self.question_check(m, table, c0, c1, c2, tape)?;
+        let t = self.tape_at(tape);
+        let cells = cells_at(tape, c0, c1, c2);
+        let view = View { tape: t, cells };
+        Ok(Symbol(view.get(at)))
     }
 
     // The positions of the lowest and the highest non-blank cell.
@@ -96,20 +83,14 @@ impl Simulator {
         c1: &'a [u8],
         c2: &'a [u8],
         tape: u64,
-    ) -> Extent
+    ) -> Result<Option<Span>, Refusal>
         ensures { result ≡ extent_answer m table.now tape (conf self c0.now c1.now c2.now) }
     {
-        let checked = self.question_check(m, table, c0, c1, c2, tape);
-        match checked {
-            Checked::Refused(why) => {
-                return Extent::Refused(why);
-            }
-            Checked::Accepted => {
-                let t = self.tape_at(tape);
-                let cells = cells_at(tape, c0, c1, c2);
-                return Extent::Found(tape::inner::non_blank(t, cells));
-            }
-        }
+        self.question_check(m, table, c0, c1, c2, tape)?;
+        let t = self.tape_at(tape);
+        let cells = cells_at(tape, c0, c1, c2);
+        let view = View { tape: t, cells };
+        Ok(view.non_blank())
     }
 
     // How many cells are not blank.
@@ -121,20 +102,14 @@ impl Simulator {
         c1: &'a [u8],
         c2: &'a [u8],
         tape: u64,
-    ) -> Counted
+    ) -> Result<u64, Refusal>
         ensures { result ≡ count_answer m table.now tape (conf self c0.now c1.now c2.now) }
     {
-        let checked = self.question_check(m, table, c0, c1, c2, tape);
-        match checked {
-            Checked::Refused(why) => {
-                return Counted::Refused(why);
-            }
-            Checked::Accepted => {
-                let t = self.tape_at(tape);
-                let cells = cells_at(tape, c0, c1, c2);
-                return Counted::Found(tape::inner::count_non_blank(t, cells));
-            }
-        }
+        self.question_check(m, table, c0, c1, c2, tape)?;
+        let t = self.tape_at(tape);
+        let cells = cells_at(tape, c0, c1, c2);
+        let view = View { tape: t, cells };
+        Ok(view.count_non_blank())
     }
 
     // Fills `out` with the symbols from a position on; positions past i64 are blank.
@@ -148,21 +123,15 @@ impl Simulator {
         tape: u64,
         from: i64,
         out: &mut [u8],
-    ) -> Checked
+    ) -> Result<(), Refusal>
         ensures { (result ≡ question_check m table.now tape (conf self c0.now c1.now c2.now)) × (out.new ≡ window_into m table.now tape from (conf self c0.now c1.now c2.now) out.old) }
     {
-        let checked = self.question_check(m, table, c0, c1, c2, tape);
-        match checked {
-            Checked::Refused(why) => {
-                return Checked::Refused(why);
-            }
-            Checked::Accepted => {
-                let t = self.tape_at(tape);
-                let cells = cells_at(tape, c0, c1, c2);
-                tape::inner::window(t, cells, from, out);
-                return Checked::Accepted;
-            }
-        }
+        self.question_check(m, table, c0, c1, c2, tape)?;
+        let t = self.tape_at(tape);
+        let cells = cells_at(tape, c0, c1, c2);
+        let view = View { tape: t, cells };
+        view.window(from, out);
+        Ok(())
     }
 
     // The nearest non-blank cell at a position or beyond it in direction `dir`; N tests the position alone.
@@ -176,19 +145,13 @@ impl Simulator {
         tape: u64,
         from: i64,
         dir: Dir,
-    ) -> Located
+    ) -> Result<Option<i64>, Refusal>
         ensures { result ≡ find_answer m table.now tape from dir (conf self c0.now c1.now c2.now) }
     {
-        let checked = self.question_check(m, table, c0, c1, c2, tape);
-        match checked {
-            Checked::Refused(why) => {
-                return Located::Refused(why);
-            }
-            Checked::Accepted => {
-                let t = self.tape_at(tape);
-                let cells = cells_at(tape, c0, c1, c2);
-                return Located::Found(tape::inner::find_non_blank(t, cells, from, dir));
-            }
-        }
+        self.question_check(m, table, c0, c1, c2, tape)?;
+        let t = self.tape_at(tape);
+        let cells = cells_at(tape, c0, c1, c2);
+        let view = View { tape: t, cells };
+        Ok(view.find_non_blank(from, dir))
     }
 }

@@ -1,21 +1,37 @@
 // The run: bursts of ordinary steps. After each burst the run decides whether it ends or makes one more step.
-ghost use Rattle.std.specs.Prelude.{◌≡◌, false, ◌+◌, ◌-◌, ◌≤◌, ◌<◌};
+ghost use Rattle.std.specs.Prelude.{◌≡◌, List, ℕ, ◌+◌, ◌-◌, ◌≤◌, ◌<◌, IfSome, Ok};
 ghost use Rattle.notation.specs.Limits.{steps_most};
 ghost use Rattle.outcome.specs.declared.Outcome.TheVariants.{Stopped};
+ghost use Rattle.sim_burst.specs.Model.Words.{WordsOk};
 ghost use Rattle.sim.specs.Model.Engine.{task, conf, end, run_of};
 ghost use Rattle.sim.specs.Model.Operations.{given, answer_of};
 ghost use Rattle.sim.specs.Model.Turns.{RunOk};
-ghost use Rattle.sim.specs.Model.Bursts.{Misses, WordsIf, Cleared, burst_start, into, BurstAllowedIf, OneTapeOk, SameRunOne, wide_burst_start, into_wide, SameRun};
+ghost use Rattle.sim.specs.Model.Bursts.{Misses, Cleared, burst_start, into, BurstAllowedIf, OneTapeOk, SameRunOne, wide_burst_start, into_wide, SameRun};
 
-use super::{Answer, Answered, Simulator, StopRule};
-use machine::{Checked, Machine};
-use outcome::Outcome;
-use run_checks::inner::look::Choice;
+use super::{Answered, Simulator};
+use machine::Machine;
+use outcome::{Outcome, Refusal};
+use sim_burst::inner::burst;
+use sim_burst::inner::entries::Entries;
 use sim_burst::inner::step::BurstState;
-use sim_burst::inner::{packed, table};
+use sim_burst_wide::inner as wide;
 use sim_burst_wide::inner::WideBurstState;
+use std::ops::ControlFlow;
 use symbol::State;
 use tape::Tape;
+
+// What a run goes by: the machine, a row's length, whether the never test is made, the stop rule, the table, and its
+// packed words where the run may go over them.
+// The cells of the three tapes stay parameters beside it, as in `Simulator::run`, whose signature may not change.
+#[derive(Clone, Copy)]
+pub struct Job<'t, 'w> {
+    pub m: Machine,
+    pub stride: u64,
+    pub proves: bool,
+    pub rule: Option<State>,
+    pub table: &'t [u8],
+    pub words: Option<&'w [u64]>,
+}
 
 // An engine after a run, and how the run ended.
 #[derive(Clone, Copy)]
@@ -32,14 +48,14 @@ pub struct Ahead {
 }
 
 // The state of the stop rule. Where it is Never, this is 65,536, which is no state.
-fn stop_of(rule: StopRule) -> usize
+fn stop_of(rule: Option<State>) -> usize
     ensures { Misses rule result }
 {
     match rule {
-        StopRule::Never => {
+        None => {
             return 65536;
         }
-        StopRule::From(p) => {
+        Some(p) => {
             return p.0 as usize;
         }
     }
@@ -65,24 +81,11 @@ impl Simulator {
             return false;
         }
         let t0 = self.t0;
-        let t1 = self.t1;
-        let t2 = self.t2;
-        if t0.head < t0.lowest {
-            return false;
-        }
-        if t0.highest < t0.head {
-            return false;
-        }
-        if t0.len <= t0.highest {
-            return false;
-        }
-        if t1.head < t1.len {
-            return false;
-        }
-        if t2.head < t2.len {
-            return false;
-        }
-        true
+        t0.lowest <= t0.head
+            && t0.head <= t0.highest
+            && t0.highest < t0.len
+            && self.t1.len <= self.t1.head
+            && self.t2.len <= self.t2.head
     }
 
     // The start of a burst, from this value.
@@ -105,55 +108,47 @@ impl Simulator {
         requires { (self.steps + left ≤ steps_most) × (at.left ≤ left) × (at.state < 65536) }
         ensures { (result.sim ≡ into self (self.steps + (left - at.left)) at) × (result.left ≡ at.left) }
     {
-        let t0 = self.t0;
-        let t1 = self.t1;
-        let t2 = self.t2;
-        let state = at.state;
+        let t0 = Tape {
+            head: at.head,
+            lowest: at.low,
+            highest: at.high,
+            ..self.t0
+        };
         Ahead {
             sim: Simulator {
-                state: State(state as u16),
+                state: State(at.state as u16),
                 steps: self.steps + (left - at.left),
-                t0: Tape {
-                    len: t0.len,
-                    origin: t0.origin,
-                    head: at.head,
-                    lowest: at.low,
-                    highest: at.high,
-                },
-                t1,
-                t2,
+                t0,
+                ..self
             },
             left: at.left,
         }
     }
 
-    // Makes the ordinary steps on one tape, over the words where `packed` is true. Makes none where no burst may run.
-    fn burst_one(
+    // Makes the ordinary steps on one tape. Makes none where no burst may run.
+    fn burst_one<E: Entries>(
         self,
+        entries: E,
         m: Machine,
         proves: bool,
         stop: usize,
-        table: &[u8],
-        packed: bool,
-        words: &[u64],
         c0: &mut [u8],
         left: u64,
     ) -> Ahead
-        requires one_tape_ok { OneTapeOk m self c0.old left }
-        requires words_if { WordsIf packed m table.now words.now }
-        ensures { SameRunOne m table.now proves stop self c0.old left result.sim c0.new result.left }
+        requires { OneTapeOk m self c0.old left }
+        ensures { (s : List ℕ) → E.known entries m.symbols s → SameRunOne m s proves stop self c0.old left result.sim c0.new result.left }
     {
         if !self.burst_allowed(m.tapes) {
             return Ahead { sim: self, left };
         }
-        let k = m.symbols as usize;
-        let t0 = self.t0;
-        let start = self.burst_start(left);
-        if packed {
-            let at = packed::burst_words(words, c0, proves, stop, k, t0.len, start);
-            return self.after(at, left);
-        }
-        let at = table::burst(table, c0, proves, stop, k, t0.len, start);
+        let by = burst::Rules {
+            entries,
+            proves,
+            stop,
+            k: m.symbols as usize,
+            len: self.t0.len,
+        };
+        let at = burst::burst(by, c0, self.burst_start(left));
         self.after(at, left)
     }
 
@@ -161,13 +156,10 @@ impl Simulator {
     fn wide(self, left: u64) -> WideBurstState
         ensures { result ≡ wide_burst_start self left }
     {
-        let t0 = self.t0;
-        let t1 = self.t1;
-        let t2 = self.t2;
         WideBurstState {
-            t0,
-            t1,
-            t2,
+            t0: self.t0,
+            t1: self.t1,
+            t2: self.t2,
             state: self.state.0,
             left,
         }
@@ -178,16 +170,13 @@ impl Simulator {
         requires { (self.steps + left ≤ steps_most) × (at.left ≤ left) }
         ensures { (result.sim ≡ into_wide (self.steps + (left - at.left)) at) × (result.left ≡ at.left) }
     {
-        let t0 = at.t0;
-        let t1 = at.t1;
-        let t2 = at.t2;
         Ahead {
             sim: Simulator {
                 state: State(at.state),
                 steps: self.steps + (left - at.left),
-                t0,
-                t1,
-                t2,
+                t0: at.t0,
+                t1: at.t1,
+                t2: at.t2,
             },
             left: at.left,
         }
@@ -196,68 +185,62 @@ impl Simulator {
     // Makes the ordinary steps from this value.
     fn burst(
         self,
-        m: Machine,
-        stride: u64,
-        proves: bool,
+        job: Job,
         stop: usize,
-        table: &[u8],
-        packed: bool,
-        words: &[u64],
         c0: &mut [u8],
         c1: &mut [u8],
         c2: &mut [u8],
         left: u64,
     ) -> Ahead
-        requires run_ok { RunOk m stride self c0.old c1.old c2.old left }
-        requires words_if { WordsIf packed m table.now words.now }
-        ensures { SameRun m table.now proves stop self c0.old c1.old c2.old left result.sim c0.new c1.new c2.new result.left }
+        requires run_ok { RunOk job.m job.stride self c0.old c1.old c2.old left }
+        requires words_if { IfSome job.words (λ words. WordsOk job.m job.table.now words.now) }
+        ensures { SameRun job.entry.m job.entry.table.now job.entry.proves stop self c0.old c1.old c2.old left result.sim c0.new c1.new c2.new result.left }
     {
-        if packed {
-            return self.burst_one(m, proves, stop, table, true, words, c0, left);
+        let m = job.m;
+        if let Some(words) = job.words {
+            return self.burst_one(words, m, job.proves, stop, c0, left);
         }
         if m.tapes == 1 {
-            return self.burst_one(m, proves, stop, table, false, words, c0, left);
+            return self.burst_one(job.table, m, job.proves, stop, c0, left);
         }
-        let start = self.wide(left);
-        let at = sim_burst_wide::inner::burst_several(
-            table, c0, c1, c2, stop, m.symbols, stride, start,
-        );
+        let by = wide::Rules {
+            table: job.table,
+            stop,
+            k: m.symbols,
+            stride: job.stride,
+        };
+        let at = wide::burst_several(by, c0, c1, c2, self.wide(left));
         self.onward(at, left)
     }
 
-    // The run over a table, or over its words where `packed` is true.
+    // The run over a table, or over its words where they are given.
     pub(crate) fn run_bursts(
         mut self,
-        m: Machine,
-        stride: u64,
-        proves: bool,
-        rule: StopRule,
-        table: &[u8],
-        packed: bool,
-        words: &[u64],
+        job: Job,
         c0: &mut [u8],
         c1: &mut [u8],
         c2: &mut [u8],
         fuel: u64,
     ) -> Ran
-        requires run_ok { RunOk m stride self c0.old c1.old c2.old fuel }
-        requires words_if { WordsIf packed m table.now words.now }
-        ensures { end (conf result.sim c0.new c1.new c2.new) result.outcome ≡ run_of (task m table.now proves rule) fuel (conf self c0.old c1.old c2.old) }
+        requires run_ok { RunOk job.m job.stride self c0.old c1.old c2.old fuel }
+        requires words_if { IfSome job.words (λ words. WordsOk job.m job.table.now words.now) }
+        ensures { end (conf result.sim c0.new c1.new c2.new) result.outcome ≡ run_of (task job.entry.m job.entry.table.now job.entry.proves job.entry.rule) fuel (conf self c0.old c1.old c2.old) }
     {
+        let rule = job.rule;
         let stop = stop_of(rule);
         let mut left = fuel;
         loop {
-            let ahead = self.burst(
-                m, stride, proves, stop, table, packed, words, c0, c1, c2, left,
-            );
+            let ahead = self.burst(job, stop, c0, c1, c2, left);
             let at = ahead.sim;
             let fuel_left = ahead.left;
-            let choice = at.decide(m, stride, proves, table, c0, c1, c2, fuel_left);
+            let choice = at.decide(
+                job.m, job.stride, job.proves, job.table, c0, c1, c2, fuel_left,
+            );
             match choice {
-                Choice::Stop(outcome) => {
+                ControlFlow::Break(outcome) => {
                     return Ran { sim: at, outcome };
                 }
-                Choice::Go(a) => {
+                ControlFlow::Continue(a) => {
                     let next = at.advance(c0, c1, c2, a);
                     if run_rules::inner::matches(rule, at.state) {
                         return stopped(next);
@@ -272,39 +255,43 @@ impl Simulator {
     // The answer of an operation after its check: the refusal, with nothing changed, or the run.
     pub(crate) fn run_checked(
         self,
-        checked: Checked,
+        checked: Result<(), Refusal>,
         m: Machine,
         proves: bool,
-        rule: StopRule,
+        rule: Option<State>,
         table: &[u8],
-        packed: bool,
-        words: &[u64],
+        words: Option<&[u64]>,
         c0: &mut [u8],
         c1: &mut [u8],
         c2: &mut [u8],
         fuel: u64,
     ) -> Answered
-        requires { Cleared checked m table.now packed words.now fuel (conf self c0.old c1.old c2.old) }
+        requires cleared { Cleared checked m table.now fuel (conf self c0.old c1.old c2.old) }
+        requires words_if { checked ≡ Ok tt → IfSome words (λ given. WordsOk m table.now given.now) }
         ensures { given (conf result.sim c0.new c1.new c2.new) result.answer ≡ answer_of checked m table.now proves rule fuel (conf self c0.old c1.old c2.old) }
     {
         match checked {
-            Checked::Refused(why) => {
+            Err(why) => {
                 return Answered {
                     sim: self,
-                    answer: Answer::Refused(why),
+                    answer: Err(why),
                 };
             }
-            Checked::Accepted => {
-                let stride = machine::inner::stride(m.tapes, m.symbols);
-                let bare = self.bare(m.tapes);
-                let ran = bare.run_over(
-                    m, stride, proves, rule, table, packed, words, c0, c1, c2, fuel,
-                );
+            Ok(()) => {
+                let job = Job {
+                    m,
+                    stride: machine::inner::stride(m.tapes, m.symbols),
+                    proves,
+                    rule,
+                    table,
+                    words,
+                };
+                let ran = self.bare(m.tapes).run_over(job, c0, c1, c2, fuel);
                 let after = ran.sim;
                 let outcome = ran.outcome;
                 return Answered {
                     sim: after.hand_back(m.tapes, self),
-                    answer: Answer::Done(outcome),
+                    answer: Ok(outcome),
                 };
             }
         }

@@ -1,20 +1,16 @@
 -- A burst of ordinary steps on several tapes: its tests before each step, one step, and what it keeps. Definitions only.
-use Rattle.std.specs.Prelude.{◌≡◌, Bool, true, false, List, ℕ, ◌-◌, ◌≤◌, ltb, length, set}
+use Rattle.std.specs.Prelude.{◌≡◌, Bool, false, List, ℕ, ◌-◌, ◌≤◌, ltb, length, set, Option, Some}
 use Rattle.notation.specs.Choice.{pick}
 use Rattle.notation.specs.Limits.{cells_most}
 use Rattle.symbol.specs.Kinds.{symbol_of, state_of}
 use Rattle.symbol.specs.declared.Dir.TheVariants.{N}
 use Rattle.machine.specs.declared.Action.{Action}
-use Rattle.machine.specs.declared.Entry.{Entry}
-use Rattle.machine.specs.declared.Entry.TheVariants.{Defined}
 use Rattle.machine.specs.Layout.{entry_number, dir_of, entry_at}
 use Rattle.tape.specs.declared.Tape.{Tape}
 use Rattle.tape.specs.Fits.{TapeSafe}
 use Rattle.tape.specs.Model.Moves.{held, read_of, leaves, act_of}
 use Rattle.sim_burst_wide.specs.declared.inner.WideBurstState.{WideBurstState}
 use Rattle.sim_burst_wide.specs.declared.inner.Decoded.{Decoded}
-use Rattle.sim_burst_wide.specs.declared.inner.MovedTape.{MovedTape}
-use Rattle.sim_burst_wide.specs.declared.inner.Next.{Next}
 
 -- ---- the results of the tests before a step
 
@@ -40,10 +36,10 @@ pub record FreeIf (b : Bool) (moves next q : ℕ) : Type 0 where
   pub small : b ≡ false → moves ≤ 26
   pub free : b ≡ false → next ≡ q → moves ≡ 26 → ⊥
 
--- where o is known, it is what the entry e says, and from state q it is no proved loop
-pub record DecodedIf (e : Entry) (q : ℕ) (o : Decoded) : Type 0 where
-  pub says : o.known ≡ true → e ≡ Defined (followed o)
-  pub ordinary : o.known ≡ true → o.next ≡ q → Moving (followed o)
+-- o is what the entry e says, and from state q it is no proved loop
+pub record DecodedOf (e : Option Action) (q : ℕ) (o : Decoded) : Type 0 where
+  pub says : e ≡ Some (followed o)
+  pub ordinary : o.next ≡ q → Moving (followed o)
 
 -- the cells after a write; a tape that the machine lacks has no cell under its head
 abbrev pub wrote : Tape → List ℕ → ℕ → List ℕ
@@ -54,18 +50,12 @@ pub record TapeMoves (t : Tape) (d : ℕ) (r : Tape) : Type 0 where
   pub inside : leaves t (dir_of d) ≡ false
   pub acts : (c : List ℕ) (w : ℕ) → held r (wrote t c w) ≡ act_of (held t c) w (dir_of d)
 
-pub record MovedTapeIf (t : Tape) (d : ℕ) (r : MovedTape) : Type 0 where
-  pub tape_moves : r.inside ≡ true → TapeMoves t d r.tape
-
 pub record Steps (x : WideBurstState) (o : Decoded) (y : WideBurstState) : Type 0 where
   pub tape_moves0 : TapeMoves x.t0 o.dir0 y.t0
   pub tape_moves1 : TapeMoves x.t1 o.dir1 y.t1
   pub tape_moves2 : TapeMoves x.t2 o.dir2 y.t2
   pub state_is : y.state ≡ o.next
   pub left_is : y.left ≡ x.left - 1
-
-pub record NextIf (x : WideBurstState) (o : Decoded) (r : Next) : Type 0 where
-  pub steps : r.inside ≡ true → Steps x o r.at
 
 -- ---- what a burst may assume
 
@@ -90,7 +80,7 @@ pub record WideStep (s : List ℕ) (stop k stride : ℕ) (x : WideBurstState) (c
   pub fuel : x.left ≡ 0 → ⊥
   pub goes : x.state ≡ stop → ⊥
   pub act : Action
-  pub says : entry_at s (entry_number k stride x.state (read_of (held x.t0 c0)) (read_of (held x.t1 c1)) (read_of (held x.t2 c2))) ≡ Defined act
+  pub says : entry_at s (entry_number k stride x.state (read_of (held x.t0 c0)) (read_of (held x.t1 c1)) (read_of (held x.t2 c2))) ≡ Some act
   pub ordinary : act.next.0 ≡ x.state → Moving act
   pub inside0 : leaves x.t0 act.dir0 ≡ false
   pub inside1 : leaves x.t1 act.dir1 ≡ false

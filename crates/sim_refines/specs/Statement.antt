@@ -1,17 +1,15 @@
 -- THE PLAIN ENGINE REFINES THE TABLE MACHINE: the claim about a run of the engine's model. Definitions only.
-use Rattle.std.specs.Prelude.{◌≡◌, Bool, true, false, List, ℕ, suc, ◌+◌, ◌≤◌, ◌<◌, ◌^◌, length}
+use Rattle.symbol.specs.declared.State.{State}
+use Rattle.std.specs.Prelude.{◌≡◌, Bool, true, false, List, ℕ, suc, ◌+◌, ◌≤◌, ◌<◌, ◌^◌, length, Ok, Option, Some}
 use Rattle.outcome.specs.declared.NonHaltProof.{NonHaltProof}
 use Rattle.outcome.specs.declared.Outcome.{Outcome}
 use Rattle.outcome.specs.declared.Outcome.TheVariants.{OutOfFuel, NeverHalts, Stopped, Full}
 use Rattle.machine.specs.declared.Machine.{Machine}
 use Rattle.machine.specs.declared.Action.{Action}
-use Rattle.machine.specs.declared.Entry.TheVariants.{Defined}
-use Rattle.machine.specs.declared.Checked.TheVariants.{Accepted}
 use Rattle.machine.specs.Model.Check.{table_check}
 use Rattle.table_laws.specs.WellFormed.{Bytes}
 use Rattle.table_machine.specs.TableMachine.{Config, entry, run, Halted, halted_at, out_of_fuel_at}
 pub use Rattle.table_machine.specs.Beside.{table_in, Judged, Unproved, has_rule}
-use Rattle.run_rules.specs.declared.StopRule.{StopRule}
 use Rattle.run_checks.specs.declared.inner.look.Look.{Look}
 use Rattle.run_checks.specs.declared.inner.look.Look.TheVariants.{Halt, Never, Go}
 use Rattle.sim.specs.Model.Engine.{Task, task, Conf, End, roomy_of, run_of}
@@ -32,7 +30,7 @@ after k j σ = run (table_in k) j (held_by k σ)
 pub data Sees (k : Task) (c : Config) : Look → Type 0 where
   no_entry : Halted (table_in k) c → Sees k c Halt
   loops : (p : NonHaltProof) → k.proves ≡ true → Judged k c (NeverHalts c.steps p) → Sees k c (Never p)
-  goes_on : (a : Action) → entry (table_in k) c ≡ Defined a → Unproved k c → Sees k c (Go a)
+  goes_on : (a : Action) → entry (table_in k) c ≡ Some a → Unproved k c → Sees k c (Go a)
 
 -- ---- a run
 
@@ -66,7 +64,7 @@ pub data Answers (k : Task) (fuel made : ℕ) (σ e : Conf) : Outcome → Type 0
   -- "stops after the matching step"
   stopped : (j : ℕ) → made ≡ suc j → has_rule k (after k j σ) ≡ true → Answers k fuel made σ e (Stopped (held_by k e).steps)
   -- there is fuel and an entry a, but no room for its moves: no part of that step was made
-  full : (a : Action) → made < fuel → entry (table_in k) (held_by k e) ≡ Defined a → Unproved k (held_by k e) → roomy_of e a ≡ false
+  full : (a : Action) → made < fuel → entry (table_in k) (held_by k e) ≡ Some a → Unproved k (held_by k e) → roomy_of e a ≡ false
       → Answers k fuel made σ e (Full (held_by k e).steps)
 
 -- a run from σ with end e is a run of the table machine
@@ -80,5 +78,5 @@ pub record Refines (k : Task) (fuel : ℕ) (σ : Conf) (e : End) : Type 0 where
 
 -- for every table that is accepted, every engine value that fits, and fuel within the bound (the others are refused: 1 to 6, 12, 13)
 abbrev pub PlainRefines : Type 0
-PlainRefines = (m : Machine) (s : List ℕ) → Bytes s → table_check m s ≡ Accepted → (proves : Bool) (rule : StopRule) (fuel : ℕ) (σ : Conf)
+PlainRefines = (m : Machine) (s : List ℕ) → Bytes s → table_check m s ≡ Ok tt → (proves : Bool) (rule : Option State) (fuel : ℕ) (σ : Conf)
     → EngineFits m σ → σ.sim.steps + fuel ≤ 2 ^ 62 → Refines (task m s proves rule) fuel σ (run_of (task m s proves rule) fuel σ)

@@ -6,3 +6,4 @@ pub mod Run
 pub mod Advance
 pub mod AdvanceCases
 pub mod SlotCases
+pub mod Sound

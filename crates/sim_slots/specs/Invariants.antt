@@ -1,6 +1,6 @@
 -- What the functions of this crate return to one another, and what they may assume. Definitions only.
-use Rattle.std.specs.Prelude.{◌≡◌, Bool, true, List, ℕ, ◌+◌, ◌≤◌, length}
-use Rattle.std.proofs.Math.Option.{Option, none, some}
+use Rattle.outcome.specs.declared.Refusal.{Refusal}
+use Rattle.std.specs.Prelude.{◌≡◌, Bool, true, List, ℕ, ◌+◌, ◌≤◌, length, Err, None, Ok, Option, Result, Some}
 use Rattle.notation.specs.Limits.{cells_most}
 use Rattle.outcome.specs.declared.Outcome.{Outcome}
 use Rattle.outcome.specs.declared.Outcome.TheVariants.{OutOfFuel}
@@ -8,20 +8,16 @@ use Rattle.machine.specs.declared.Machine.{Machine}
 use Rattle.tape.specs.declared.Tape.{Tape}
 use Rattle.tape.specs.Model.Moves.{Held}
 use Rattle.sim.specs.declared.Simulator.{Simulator}
-use Rattle.run_rules.specs.declared.Answer.{Answer}
-use Rattle.run_rules.specs.declared.Answer.TheVariants as Ans
 use Rattle.sim.specs.Model.Engine.{Conf}
 use Rattle.sim.specs.Model.Operations.{sizes_fit, sim_fits}
-use Rattle.sim_slots.specs.declared.inner.Found.{Found}
-use Rattle.sim_slots.specs.declared.inner.Found.TheVariants.{Nothing, Holds}
 use Rattle.sim_slots.specs.Model.Slots.{size_of, slot_size, part0, part1, part2}
 
 -- ---- an advance
 
 -- the outcome of a run; a run that passed its check is not refused
-abbrev pub outcome_in : Answer → Outcome
-outcome_in (Ans.Done o) = o
-outcome_in (Ans.Refused why) = OutOfFuel 0
+abbrev pub outcome_in : Result Outcome Refusal → Outcome
+outcome_in (Ok o) = o
+outcome_in (Err why) = OutOfFuel 0
 
 -- ---- saving
 
@@ -63,15 +59,15 @@ pub record FilledOk (m : Machine) (v : Simulator) (b c0 c1 c2 : List ℕ) : Type
 
 -- the answer of a restore, with the buffers after it
 pub record Restored : Type 0 where
-  pub found : Found
+  pub found : Option Simulator
   pub c0 : List ℕ
   pub c1 : List ℕ
   pub c2 : List ℕ
 
-abbrev pub restored : Found → (c0 c1 c2 : List ℕ) → Restored
+abbrev pub restored : Option Simulator → (c0 c1 c2 : List ℕ) → Restored
 restored f c0 c1 c2 = record { found = f; c0 = c0; c1 = c1; c2 = c2 }
 
 -- where nothing is found the buffers are unchanged
 abbrev pub restored_on : Option Conf → Conf → Restored
-restored_on none σ = restored Nothing σ.c0 σ.c1 σ.c2
-restored_on (some v) σ = restored (Holds v.sim) v.c0 v.c1 v.c2
+restored_on None σ = restored None σ.c0 σ.c1 σ.c2
+restored_on (Some v) σ = restored (Some v.sim) v.c0 v.c1 v.c2

@@ -1,8 +1,7 @@
 // An advance of the plain engine, and its slots. The functions require buffers and slots of the right sizes.
-ghost use Rattle.std.specs.Prelude.{◌≡◌, true, ◌+◌, ◌≤◌, ◌<◌, length};
+ghost use Rattle.std.specs.Prelude.{◌≡◌, true, ◌+◌, ◌≤◌, ◌<◌, length, Ok};
 ghost use Rattle.std.proofs.Math.Seq.{paste};
 ghost use Rattle.notation.specs.Choice.{pick};
-ghost use Rattle.machine.specs.declared.Checked.TheVariants.{Accepted};
 ghost use Rattle.tape.specs.Fits.{tape_fits};
 ghost use Rattle.tape.specs.Model.Moves.{held};
 ghost use Rattle.sim.specs.Model.Engine.{conf};
@@ -13,8 +12,8 @@ ghost use Rattle.sim_slots.specs.Invariants.{outcome_in, PutOk, PutIf, SaveOk, F
 
 use machine::Machine;
 use notation::limits;
-use outcome::Outcome;
-use sim::{Answer, Simulator, StopRule};
+use outcome::{Outcome, Refusal};
+use sim::Simulator;
 use store_bytes::inner::{copy_in, get_16, get_32, get_64, put_16, put_32, put_64};
 use symbol::State;
 use tape::Tape;
@@ -28,13 +27,10 @@ pub struct Advanced {
 }
 
 // The outcome of a run; a run that passed its check is not refused.
-fn outcome_in(answer: Answer) -> Outcome
+fn outcome_in(answer: Result<Outcome, Refusal>) -> Outcome
     ensures { result ≡ outcome_in answer }
 {
-    match answer {
-        Answer::Done(outcome) => outcome,
-        Answer::Refused(_) => Outcome::OutOfFuel { steps: 0 },
-    }
+    answer.unwrap_or(Outcome::OutOfFuel { steps: 0 })
 }
 
 // Runs without the never test. Where all the fuel was used, makes the never test there, with fuel 0.
@@ -47,10 +43,10 @@ pub fn advance(
     c2: &mut [u8],
     fuel: u64,
 ) -> Advanced
-    requires { run_check m table.now fuel (conf sim c0.old c1.old c2.old) ≡ Accepted }
+    requires { run_check m table.now fuel (conf sim c0.old c1.old c2.old) ≡ Ok tt }
     ensures { (result.outcome, conf result.sim c0.new c1.new c2.new) ≡ advance_of m table.now fuel (conf sim c0.old c1.old c2.old) }
 {
-    let ran = sim::inner::run_all(sim, m, false, StopRule::Never, table, c0, c1, c2, fuel);
+    let ran = sim::inner::run_all(sim, m, false, None, table, c0, c1, c2, fuel);
     let after = ran.sim;
     let answer = ran.answer;
     let outcome = outcome_in(answer);
@@ -60,7 +56,7 @@ pub fn advance(
             outcome,
         };
     }
-    let tested = sim::inner::run_all(after, m, true, StopRule::Never, table, c0, c1, c2, 0);
+    let tested = sim::inner::run_all(after, m, true, None, table, c0, c1, c2, 0);
     let still = tested.sim;
     let verdict = tested.answer;
     Advanced {
@@ -69,21 +65,11 @@ pub fn advance(
     }
 }
 
-// What a slot holds: nothing that fits, or an engine, whose cells are now in the buffers.
-#[derive(Clone, Copy)]
-pub enum Found {
-    Nothing,
-    Holds(Simulator),
-}
-
 // The number of bytes for a tape's cells; 0 for a tape that the machine lacks.
 fn part_size(has: bool, n: usize) -> usize
     ensures { result ≡ size_if has n }
 {
-    if has {
-        return n;
-    }
-    0
+    if has { n } else { 0 }
 }
 
 // The size of a slot: 128 bytes more than the cells buffers.
@@ -168,10 +154,7 @@ fn get_if(has: bool, slot: &[u8], p: usize, other: Tape) -> Tape
     requires { p + 20 ≤ length slot.now }
     ensures { result ≡ pick has (tape_at slot.now p) other }
 {
-    if has {
-        return get_tape(slot, p);
-    }
-    other
+    if has { get_tape(slot, p) } else { other }
 }
 
 // Reads the engine's value in a slot; tapes that the machine lacks keep the fields of `sim`.
@@ -207,10 +190,7 @@ fn part_fits_if(has: bool, k: u64, t: Tape, slot: &[u8], at: usize, n: usize) ->
     requires { at + n ≤ length slot.now }
     ensures { result ≡ if_has has (tape_fits k t (part_of at n slot.now)) }
 {
-    if has {
-        return part_fits(k, t, slot, at, n);
-    }
-    true
+    !has || part_fits(k, t, slot, at, n)
 }
 
 // Whether an engine fits the cells in the slot.
@@ -304,14 +284,14 @@ pub fn restore(
     c0: &mut [u8],
     c1: &mut [u8],
     c2: &mut [u8],
-) -> Found
+) -> Option<Simulator>
     requires { length slot.now ≡ size_of m (length c0.old) (length c1.old) (length c2.old) }
     ensures { restored result c0.new c1.new c2.new ≡ restored_on (unpack_of m slot.now step (conf sim c0.old c1.old c2.old)) (conf sim c0.old c1.old c2.old) }
 {
     let v = get_sim(sim, m, slot);
     if !holds_one(v, m, slot, step, c0.len(), c1.len(), c2.len()) {
-        return Found::Nothing;
+        return None;
     }
     fill_all(v, m, slot, c0, c1, c2);
-    Found::Holds(v)
+    Some(v)
 }

@@ -3,21 +3,20 @@
 
 ghost use Rattle.std.specs.Prelude.{◌≡◌};
 ghost use Rattle.sim.specs.Model.Engine.{conf};
-ghost use Rattle.timeline_rule.specs.Model.Timeline.{seek, forward, back, call_for};
+ghost use Rattle.timeline_rule.specs.declared.Call.TheVariants.{Seek, Forward, Back};
+ghost use Rattle.timeline_rule.specs.Model.Timeline.{call_for};
 ghost use Rattle.timeline_rule.specs.Model.Kind.{call_on, new_with};
 ghost use Rattle.sim_slots.specs.Model.Kind.{plain_kind};
 ghost use Rattle.sim_timeline.specs.Model.{with_lent, replied, begun};
 
-use machine::{Checked, Machine};
-use notation::number;
-use outcome::Refusal;
-use sim::{Answer, Simulator};
-use sim_slots::inner as engine;
+use engine::PlainOn;
+use machine::Machine;
+use outcome::{Outcome, Refusal};
+use sim::Simulator;
+use sim_slots::inner as slots;
 use timeline_rule::{Times, inner as sums};
 
-mod checks;
-mod moves;
-mod turns;
+mod engine;
 
 // The engine's value and the timeline's own numbers. The table, the engine's buffers and the store of slots are lent to
 // each call.
@@ -31,18 +30,12 @@ pub struct Timeline {
 #[derive(Clone, Copy)]
 pub struct Answered {
     pub timeline: Timeline,
-    pub answer: Answer,
-}
-
-// A new timeline, or the refusal.
-#[derive(Clone, Copy)]
-pub enum Begun {
-    Made(Timeline),
-    Refused(Refusal),
+    pub answer: Result<Outcome, Refusal>,
 }
 
 impl Timeline {
-    // Saves the engine in slot 0: at most `most` slots are kept, `every` steps apart at first.
+    // Saves the engine in slot 0: at most `most` slots are kept, `every` steps apart at first. The trait does not serve
+    // here, since its engine holds `&mut` slices and `new` is lent shared ones.
     pub fn new(
         engine: Simulator,
         m: Machine,
@@ -53,26 +46,19 @@ impl Timeline {
         store: &mut [u8],
         most: u64,
         every: u64,
-    ) -> Begun
+    ) -> Result<Timeline, Refusal>
         ensures { begun result c0.now c1.now c2.now store.new ≡ new_with plain_kind m table.now most every (conf engine c0.now c1.now c2.now) store.old }
     {
-        let checked = checks::new_check(engine, m, table, c0, c1, c2, store, most, every);
-        match checked {
-            Checked::Refused(why) => {
-                return Begun::Refused(why);
-            }
-            Checked::Accepted => {
-                let size = engine::slot_size(m, c0.len(), c1.len(), c2.len());
-                turns::save_at(engine, m, c0, c1, c2, store, size, 0);
-                let times = Times {
-                    most,
-                    first: engine.steps,
-                    count: 1,
-                    every,
-                };
-                return Begun::Made(Timeline { engine, times });
-            }
-        }
+        let size = engine::admitted(engine, m, table, c0, c1, c2)?;
+        sums::first_check(most, every, store.len() / size)?;
+        slots::save(engine, m, c0, c1, c2, &mut store[..size]);
+        let times = Times {
+            most,
+            first: engine.steps,
+            count: 1,
+            every,
+        };
+        Ok(Timeline { engine, times })
     }
 
     // Moves to the step `target`, or to an earlier one where the machine halts or is full. A target below the start
@@ -87,22 +73,18 @@ impl Timeline {
         store: &mut [u8],
         target: u64,
     ) -> Answered
-        ensures { replied result.answer (with_lent result.timeline c0.new c1.new c2.new store.new) ≡ call_on plain_kind m table.now (with_lent self c0.old c1.old c2.old store.old) (seek target) }
+        ensures { replied result.answer (with_lent result.timeline c0.new c1.new c2.new store.new) ≡ call_on plain_kind m table.now (with_lent self c0.old c1.old c2.old store.old) (Seek target) }
     {
-        let checked = self.call_check(m, table, c0, c1, c2, store, target);
-        match checked {
-            Checked::Refused(why) => {
-                return Answered {
-                    timeline: self,
-                    answer: Answer::Refused(why),
-                };
-            }
-            Checked::Accepted => {
-                let size = engine::slot_size(m, c0.len(), c1.len(), c2.len());
-                let times = self.times;
-                let goal = number::max(target, times.first);
-                return self.go_to(m, table, c0, c1, c2, store, size, goal);
-            }
+        let sim = self.engine;
+        let mut on = PlainOn { sim, c0, c1, c2 };
+        let mut times = self.times;
+        let answer = timeline_engine::seek(&mut on, &mut times, m, table, store, target);
+        Answered {
+            timeline: Timeline {
+                engine: on.sim,
+                times,
+            },
+            answer,
         }
     }
 
@@ -117,7 +99,7 @@ impl Timeline {
         store: &mut [u8],
         n: u64,
     ) -> Answered
-        ensures { replied result.answer (with_lent result.timeline c0.new c1.new c2.new store.new) ≡ call_on plain_kind m table.now (with_lent self c0.old c1.old c2.old store.old) (forward n) }
+        ensures { replied result.answer (with_lent result.timeline c0.new c1.new c2.new store.new) ≡ call_on plain_kind m table.now (with_lent self c0.old c1.old c2.old store.old) (Forward n) }
     {
         let sim = self.engine;
         let target = sums::forward_to(sim.steps, n);
@@ -135,7 +117,7 @@ impl Timeline {
         store: &mut [u8],
         n: u64,
     ) -> Answered
-        ensures { replied result.answer (with_lent result.timeline c0.new c1.new c2.new store.new) ≡ call_on plain_kind m table.now (with_lent self c0.old c1.old c2.old store.old) (back n) }
+        ensures { replied result.answer (with_lent result.timeline c0.new c1.new c2.new store.new) ≡ call_on plain_kind m table.now (with_lent self c0.old c1.old c2.old store.old) (Back n) }
     {
         let sim = self.engine;
         let target = sums::back_to(sim.steps, n);
@@ -143,6 +125,7 @@ impl Timeline {
     }
 
     // The call given by two numbers: `which` is 0 for seek, 1 for forward, else back.
+    // The C interface gives the call as two numbers.
     pub fn call(
         self,
         m: Machine,

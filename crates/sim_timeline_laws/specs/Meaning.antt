@@ -1,12 +1,10 @@
 -- The plain engine as a kind of engine: the meaning of its value, one step of it, and which step is full. Definitions only; `FullStep` is the rule of space.
-use Rattle.std.specs.Prelude.{◌≡◌, Bool, true, false, List, ℕ, ◌+◌, ◌-◌, ◌<◌, eqb, ltb, length}
+use Rattle.std.specs.Prelude.{◌≡◌, Bool, true, false, List, ℕ, ◌+◌, ◌-◌, ◌<◌, eqb, ltb, length, None, Option, Some}
 use Rattle.notation.specs.Choice.{pick, both}
 use Rattle.symbol.specs.declared.Dir.{Dir}
 use Rattle.symbol.specs.declared.Dir.TheVariants.{L, R, N}
 use Rattle.machine.specs.declared.Machine.{Machine}
 use Rattle.machine.specs.declared.Action.{Action}
-use Rattle.machine.specs.declared.Entry.{Entry}
-use Rattle.machine.specs.declared.Entry.TheVariants.{Undefined, Defined}
 use Rattle.table_machine.specs.TableMachine.{Config, entry, step}
 use Rattle.table_machine.specs.Tables.{table_of}
 use Rattle.tape.specs.Model.Moves.{Held}
@@ -82,9 +80,9 @@ mean_of m σ = record {
 
 -- ---- one step: the table machine's, and each tape's move; without an entry the machine has halted, and nothing moves
 
-abbrev pub moved_on : Extent → (Action → Dir) → Entry → Extent
-moved_on x dir Undefined = x
-moved_on x dir (Defined a) = moved_by x (dir a)
+abbrev pub moved_on : Extent → (Action → Dir) → Option Action → Extent
+moved_on x dir None = x
+moved_on x dir (Some a) = moved_by x (dir a)
 
 unfoldable pub next_of : Machine → List ℕ → Mean → Mean
 next_of m s x = record {
@@ -102,7 +100,7 @@ pub data SomePasses (x : Mean) (a : Action) : Type 0 where
   third : passes x.extent2 a.dir2 ≡ true → SomePasses x a
 
 abbrev pub NoRoom : Machine → List ℕ → Mean → Type 0
-NoRoom m s x = (a : Action) × (entry (table_of m s) x.config ≡ Defined a) × SomePasses x a
+NoRoom m s x = (a : Action) × (entry (table_of m s) x.config ≡ Some a) × SomePasses x a
 
 -- after j steps from the engine e, the next step is full
 abbrev pub FullStep : Machine → (table : List ℕ) → Conf → ℕ → Type 0

@@ -9,7 +9,7 @@ pub mod position;
 // A tape symbol, by its number. Number 0 is the blank, which fills every cell that was never written.
 // The layout is C's, since the record of a run contains a symbol and crosses the C boundary.
 #[repr(C)]
-#[derive(Clone, Copy)]
+#[derive(Clone, Copy, PartialEq, Eq)]
 pub struct Symbol(pub u8);
 
 impl Symbol {
@@ -30,13 +30,12 @@ impl Symbol {
     pub fn is_blank(self) -> bool
         ensures { result ≡ eqb self.0 0 }
     {
-        let blank = Symbol::BLANK;
-        self.0 == blank.0
+        self == Symbol::BLANK
     }
 }
 
 // A control state, by its number.
-#[derive(Clone, Copy)]
+#[derive(Clone, Copy, PartialEq, Eq)]
 pub struct State(pub u16);
 
 impl State {
@@ -54,7 +53,7 @@ impl State {
 }
 
 // The move of a head after writing: one cell left, one cell right, or none.
-#[derive(Clone, Copy)]
+#[derive(Clone, Copy, PartialEq, Eq)]
 pub enum Dir {
     L,
     R,

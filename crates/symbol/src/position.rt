@@ -10,13 +10,6 @@ use notation::limits;
 // Position -1, raised.
 const BEFORE_ZERO: u64 = 9223372036854775807;
 
-// An index into a buffer, where there is one.
-#[derive(Clone, Copy)]
-pub enum Found {
-    At(usize),
-    Nothing,
-}
-
 // A position raised by 2^63.
 pub fn raised(at: i64) -> u64
     ensures { (result ≡ raised_of at) × (result + dn at ≡ raised_zero + up at) }
@@ -45,14 +38,14 @@ pub fn of_index(index: u32, origin: u32) -> i64
 }
 
 // The index of a position among `len` cells, where index `origin` is position 0.
-pub fn index_of(at: i64, origin: usize, len: usize) -> Found
+pub fn index_of(at: i64, origin: usize, len: usize) -> Option<usize>
     ensures { result ≡ index_of at origin len }
 {
     index_of_raised(raised(at), origin, len)
 }
 
 // The same for a raised position.
-pub fn index_of_raised(raised: u64, origin: usize, len: usize) -> Found
+pub fn index_of_raised(raised: u64, origin: usize, len: usize) -> Option<usize>
     ensures { result ≡ index_of_raised raised origin len }
 {
     if raised < limits::RAISED_ZERO {
@@ -60,16 +53,16 @@ pub fn index_of_raised(raised: u64, origin: usize, len: usize) -> Found
         if below <= origin as u64 {
             let index = origin - below as usize;
             if index < len {
-                return Found::At(index);
+                return Some(index);
             }
         }
-        return Found::Nothing;
+        return None;
     }
     let above = raised - limits::RAISED_ZERO;
     if origin < len {
         if above < (len - origin) as u64 {
-            return Found::At(origin + above as usize);
+            return Some(origin + above as usize);
         }
     }
-    Found::Nothing
+    None
 }

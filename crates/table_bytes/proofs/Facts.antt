@@ -1,3 +1,1 @@
 pub mod EntryCases
-pub mod WordCases
-pub mod Written

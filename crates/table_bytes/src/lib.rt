@@ -1,4 +1,4 @@
 // The meaning of a table's bytes, without any type of a machine.
-#![tactic(auto)]
+#![tactic(auto, unfolding(notation::specs::Choice::both, notation::specs::Choice::pick))]
 
 pub mod inner;

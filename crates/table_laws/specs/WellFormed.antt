@@ -1,14 +1,10 @@
 -- Well-formed tables, defined by document 01's description of the layout and not by the check. Definitions only.
-use Rattle.std.specs.Prelude.{◌≡◌, List, [], ◌∷◌, ℕ, zero, suc, ◌+◌, ◌*◌, ◌/◌, ◌%◌, ◌≤◌, ◌<◌, length, get_or}
+use Rattle.std.specs.Prelude.{◌≡◌, List, [], ◌∷◌, ℕ, zero, suc, ◌+◌, ◌*◌, ◌/◌, ◌%◌, ◌≤◌, ◌<◌, length, get_or, None, Option, Some}
 use Rattle.symbol.specs.declared.Dir.TheVariants.{N}
 use Rattle.outcome.specs.declared.Refusal.{Refusal}
-use Rattle.outcome.specs.declared.Place.{Place}
-use Rattle.outcome.specs.declared.Place.TheVariants.{At, Unsaid}
 use Rattle.outcome.specs.Numbers.{refusal_number, place_of}
 use Rattle.machine.specs.declared.Machine.{Machine}
 use Rattle.machine.specs.declared.Action.{Action}
-use Rattle.machine.specs.declared.Entry.{Entry}
-use Rattle.machine.specs.declared.Entry.TheVariants.{Undefined, Defined}
 use Rattle.machine.specs.Layout.{entry_count, byte_at}
 use Rattle.symbol.specs.Kinds.{dir_number}
 
@@ -18,9 +14,9 @@ Bytes s = (j : ℕ) → get_or s j 0 < 256
 
 -- "Eight bytes each: byte 0 is 1 for a defined entry; bytes 1 and 2 the next state, low byte first; 3 to 5 the writes;
 -- 6 is d0 + 3 × d1 + 9 × d2 with L 0, R 1, N 2; 7 is 0. An undefined entry is eight zeros."
-abbrev pub entry_bytes : Entry → List ℕ
-entry_bytes Undefined = 0 ∷ 0 ∷ 0 ∷ 0 ∷ 0 ∷ 0 ∷ 0 ∷ 0 ∷ []
-entry_bytes (Defined a) =
+abbrev pub entry_bytes : Option Action → List ℕ
+entry_bytes None = 0 ∷ 0 ∷ 0 ∷ 0 ∷ 0 ∷ 0 ∷ 0 ∷ 0 ∷ []
+entry_bytes (Some a) =
     1 ∷ (a.next.0 % 256) ∷ (a.next.0 / 256) ∷ a.write0.0 ∷ a.write1.0 ∷ a.write2.0
     ∷ (dir_number a.dir0 + 3 * dir_number a.dir1 + 9 * dir_number a.dir2) ∷ 0 ∷ []
 
@@ -33,13 +29,13 @@ pub record ActionOf (m : Machine) (a : Action) : Type 0 where
   pub lacks1 : m.tapes < 2 → (a.write1.0 ≡ 0) × (a.dir1 ≡ N)
   pub lacks2 : m.tapes < 3 → (a.write2.0 ≡ 0) × (a.dir2 ≡ N)
 
-abbrev pub EntryOf : Machine → Entry → Type 0
-EntryOf m Undefined = Unit {0}
-EntryOf m (Defined a) = ActionOf m a
+abbrev pub EntryOf : Machine → Option Action → Type 0
+EntryOf m None = Unit {0}
+EntryOf m (Some a) = ActionOf m a
 
 -- place i of the table holds the bytes of an entry of the machine
 pub record LaidOut (m : Machine) (s : List ℕ) (i : ℕ) : Type 0 where
-  pub entry : Entry
+  pub entry : Option Action
   pub of_machine : EntryOf m entry
   pub written : (j : ℕ) → j < 8 → byte_at s i j ≡ get_or (entry_bytes entry) j 0
 
@@ -58,9 +54,9 @@ abbrev pub WellFormed : Machine → List ℕ → Type 0
 WellFormed m s = (n : ℕ) → Asked m s n
 
 -- "lowest entry number given"
-abbrev pub Lowest : Machine → List ℕ → Place → Type 0
-Lowest m s Unsaid = Unit {0}
-Lowest m s (At i) = (i < entry_count m) × ¬ (LaidOut m s i) × ((j : ℕ) → j < i → LaidOut m s j)
+abbrev pub Lowest : Machine → List ℕ → Option ℕ → Type 0
+Lowest m s None = Unit {0}
+Lowest m s (Some i) = (i < entry_count m) × ¬ (LaidOut m s i) × ((j : ℕ) → j < i → LaidOut m s j)
 
 -- "Only the first that applies is given."
 pub record FirstRefusal (m : Machine) (s : List ℕ) (why : Refusal) : Type 0 where

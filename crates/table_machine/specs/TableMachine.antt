@@ -1,5 +1,5 @@
 -- THE TABLE MACHINE of document 01: configuration, step, run, verdict. Both engines are proved equal to it. Definitions only.
-use Rattle.std.specs.Prelude.{◌≡◌, List, [], ℕ, zero, suc, get_or, ℤ, pos, negsuc, ◌<ℤ◌}
+use Rattle.std.specs.Prelude.{◌≡◌, List, [], ℕ, zero, suc, get_or, ℤ, pos, negsuc, ◌<ℤ◌, None, Option, Some}
 use Rattle.std.proofs.Math.IntN.{suc_ℤ, pred_ℤ}
 use Rattle.notation.specs.Choice.{pick}
 use Rattle.notation.specs.Position.{eq_z, min_ℤ, max_ℤ}
@@ -10,12 +10,10 @@ use Rattle.outcome.specs.declared.NonHaltProof.TheVariants.{StayLoop, ChainToInf
 use Rattle.outcome.specs.declared.Outcome.{Outcome}
 use Rattle.outcome.specs.declared.Outcome.TheVariants as Out
 use Rattle.machine.specs.declared.Action.{Action}
-use Rattle.machine.specs.declared.Entry.{Entry}
-use Rattle.machine.specs.declared.Entry.TheVariants.{Undefined, Defined}
 
 -- the entry for a state and three symbols read
 abbrev pub Table : Type 0
-Table = ℕ → ℕ → ℕ → ℕ → Entry
+Table = ℕ → ℕ → ℕ → ℕ → Option Action
 
 -- "a symbol for every whole-number position, a head, and the lowest and highest head so far"
 pub record Tape : Type 0 where
@@ -79,7 +77,7 @@ blank_tape = start_tape []
 abbrev pub start : ℕ → List ℕ → Config
 start q w = record { state = q; steps = zero; tape0 = start_tape w; tape1 = blank_tape; tape2 = blank_tape }
 
-abbrev pub entry : Table → Config → Entry
+abbrev pub entry : Table → Config → Option Action
 entry d c = d c.state (read_t c.tape0) (read_t c.tape1) (read_t c.tape2)
 
 -- "A step with a defined entry writes, moves, takes the next state and adds 1."
@@ -93,9 +91,9 @@ act c a = record {
 }
 
 -- "With no entry it halts": the configuration stays as it is
-abbrev pub act_on : Config → Entry → Config
-act_on c Undefined = c
-act_on c (Defined a) = act c a
+abbrev pub act_on : Config → Option Action → Config
+act_on c None = c
+act_on c (Some a) = act c a
 
 unfoldable pub step : Table → Config → Config
 step d c = act_on c (entry d c)
@@ -105,7 +103,7 @@ run d zero c = c
 run d (suc n) c = run d n (step d c)
 
 abbrev pub Halted : Table → Config → Type 0
-Halted d c = entry d c ≡ Undefined
+Halted d c = entry d c ≡ None
 
 -- ---- the verdict
 
@@ -155,7 +153,7 @@ out_of_fuel_at c = Out.OutOfFuel c.steps
 
 -- "Its verdict at a configuration: halted if there is no entry; else never if ..; else out of fuel."
 pub data Verdict (tapes : ℕ) (d : Table) (c : Config) : Outcome → Type 0 where
-  halts : entry d c ≡ Undefined → Verdict tapes d c (halted_at c)
-  stays : (a : Action) → entry d c ≡ Defined a → Stays c a → Verdict tapes d c (stay_loop_at c)
-  walks : (a : Action) (m : Dir) → entry d c ≡ Defined a → Walks tapes c a m → Verdict tapes d c (chain_at c m)
-  goes : (a : Action) → entry d c ≡ Defined a → ¬ (Stays c a) → ((m : Dir) → ¬ (Walks tapes c a m)) → Verdict tapes d c (out_of_fuel_at c)
+  halts : entry d c ≡ None → Verdict tapes d c (halted_at c)
+  stays : (a : Action) → entry d c ≡ Some a → Stays c a → Verdict tapes d c (stay_loop_at c)
+  walks : (a : Action) (m : Dir) → entry d c ≡ Some a → Walks tapes c a m → Verdict tapes d c (chain_at c m)
+  goes : (a : Action) → entry d c ≡ Some a → ¬ (Stays c a) → ((m : Dir) → ¬ (Walks tapes c a m)) → Verdict tapes d c (out_of_fuel_at c)

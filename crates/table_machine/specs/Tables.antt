@@ -1,8 +1,7 @@
 -- The table's bytes as a table of the table machine, the tables of a machine, and the tapes that a machine lacks. Definitions only.
-use Rattle.std.specs.Prelude.{◌≡◌, List, ℕ, ◌<◌}
+use Rattle.std.specs.Prelude.{◌≡◌, List, ℕ, ◌<◌, Some}
 use Rattle.machine.specs.declared.Machine.{Machine}
 use Rattle.machine.specs.declared.Action.{Action}
-use Rattle.machine.specs.declared.Entry.TheVariants.{Defined}
 use Rattle.machine.specs.Layout.{stride_of, entry_number, entry_at}
 use Rattle.table_laws.specs.WellFormed.{ActionOf}
 use Rattle.table_machine.specs.TableMachine.{Table, Config, blank_tape}
@@ -13,7 +12,7 @@ table_of m s q a0 a1 a2 = entry_at s (entry_number m.symbols (stride_of m) q a0 
 
 -- every entry has a next state below n, writes symbols below k, and leaves the tapes that the machine lacks unchanged
 abbrev pub TableOf : Machine → Table → Type 0
-TableOf m d = (q x y z : ℕ) (a : Action) → d q x y z ≡ Defined a → ActionOf m a
+TableOf m d = (q x y z : ℕ) (a : Action) → d q x y z ≡ Some a → ActionOf m a
 
 -- the tapes that the machine lacks are blank
 pub record Bare (tapes : ℕ) (c : Config) : Type 0 where

@@ -1,14 +1,14 @@
 -- The bytes of a mirrored and of a renamed table (document 02, request 10; document 01, machine.rs: eight bytes an entry). Definitions only.
-use Rattle.std.specs.Prelude.{List, [], ◌++◌, ℕ, zero, suc, ◌+◌, ◌*◌, ◌/◌, ◌%◌}
+use Rattle.machine.specs.declared.Action.{Action}
+use Rattle.std.specs.Prelude.{List, [], ◌++◌, ℕ, zero, suc, ◌+◌, ◌*◌, ◌/◌, ◌%◌, Option}
 use Rattle.machine.specs.declared.Machine.{Machine}
-use Rattle.machine.specs.declared.Entry.{Entry}
 use Rattle.machine.specs.Layout.{stride_of, entry_count, entry_at}
 use Rattle.table_laws.specs.WellFormed.{entry_bytes}
 use Rattle.table_machine_symmetry.specs.Mirror.{mirrored_entry}
 use Rattle.table_machine_symmetry.specs.Renaming.{renamed_entry}
 
 -- the bytes of n entries: f 0, f 1, ..
-unfoldable pub table_bytes : (ℕ → Entry) → ℕ → List ℕ
+unfoldable pub table_bytes : (ℕ → Option Action) → ℕ → List ℕ
 table_bytes f zero = []
 table_bytes f (suc n) = entry_bytes (f zero) ++ table_bytes (λ i. f (suc i)) n
 

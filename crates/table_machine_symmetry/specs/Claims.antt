@@ -1,9 +1,8 @@
 -- What is claimed of a table's mirror and of its renamings (document 02, request 10), for one to three tapes: whole configurations of the table machine are equal.
 -- Definitions only.
-use Rattle.std.specs.Prelude.{◌≡◌, ◌↔◌, List, [], ℕ, ◌<◌, get_or}
+use Rattle.std.specs.Prelude.{◌≡◌, ◌↔◌, List, [], ℕ, ◌<◌, get_or, Ok}
 use Rattle.outcome.specs.declared.Outcome.{Outcome}
 use Rattle.machine.specs.declared.Machine.{Machine}
-use Rattle.machine.specs.declared.Checked.TheVariants.{Accepted}
 use Rattle.machine.specs.Model.Check.{table_check}
 use Rattle.table_laws.specs.WellFormed.{Bytes}
 use Rattle.table_machine.specs.TableMachine.{Config, run, start, Halted, Verdict}
@@ -15,7 +14,7 @@ use Rattle.table_machine_symmetry.specs.Bytes.{mirrored_bytes, renamed_bytes}
 -- the table's bytes are a table that the table check accepts
 pub record AcceptedTable (m : Machine) (s : List ℕ) : Type 0 where
   pub bytes : Bytes s
-  pub accepted : table_check m s ≡ Accepted
+  pub accepted : table_check m s ≡ Ok tt
 
 -- a word of symbols below k
 abbrev pub WordBelow : (k : ℕ) → List ℕ → Type 0

@@ -1,13 +1,11 @@
 -- THE MIRROR (document 02, request 10): "exchanging L and R .. negates the head and reflects the cells and the extent". Definitions only.
-use Rattle.std.specs.Prelude.{neg_ℤ}
+use Rattle.std.specs.Prelude.{neg_ℤ, None, Option, Some}
 use Rattle.symbol.specs.Kinds.{reversed_of}
 use Rattle.outcome.specs.declared.NonHaltProof.{NonHaltProof}
 use Rattle.outcome.specs.declared.NonHaltProof.TheVariants.{StayLoop, ChainToInfinity}
 use Rattle.outcome.specs.declared.Outcome.{Outcome}
 use Rattle.outcome.specs.declared.Outcome.TheVariants.{Halted, OutOfFuel, NeverHalts, Stopped, Full}
 use Rattle.machine.specs.declared.Action.{Action}
-use Rattle.machine.specs.declared.Entry.{Entry}
-use Rattle.machine.specs.declared.Entry.TheVariants.{Undefined, Defined}
 use Rattle.table_machine.specs.TableMachine.{Table, Tape, Config}
 
 -- ---- the table: "exchanging L and R"
@@ -23,9 +21,9 @@ mirrored_action a = record {
   dir2 = reversed_of a.dir2;
 }
 
-abbrev pub mirrored_entry : Entry → Entry
-mirrored_entry Undefined = Undefined
-mirrored_entry (Defined a) = Defined (mirrored_action a)
+abbrev pub mirrored_entry : Option Action → Option Action
+mirrored_entry None = None
+mirrored_entry (Some a) = Some (mirrored_action a)
 
 abbrev pub mirrored_table : Table → Table
 mirrored_table d q x y z = mirrored_entry (d q x y z)

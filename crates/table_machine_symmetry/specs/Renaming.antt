@@ -1,5 +1,5 @@
 -- RENAMINGS (document 02, request 10): "permuting a one-tape table's states, start included, gives .. the same steps, head and cells, the state renamed". Definitions only.
-use Rattle.std.specs.Prelude.{◌≡◌, ℕ, ◌<◌}
+use Rattle.std.specs.Prelude.{◌≡◌, ℕ, ◌<◌, None, Option, Some}
 use Rattle.symbol.specs.Kinds.{state_of}
 use Rattle.symbol.specs.declared.State.{State}
 use Rattle.outcome.specs.declared.NonHaltProof.{NonHaltProof}
@@ -8,8 +8,6 @@ use Rattle.outcome.specs.declared.Outcome.{Outcome}
 use Rattle.outcome.specs.declared.Outcome.TheVariants.{Halted, OutOfFuel, NeverHalts, Stopped, Full}
 use Rattle.machine.specs.declared.Machine.{Machine}
 use Rattle.machine.specs.declared.Action.{Action}
-use Rattle.machine.specs.declared.Entry.{Entry}
-use Rattle.machine.specs.declared.Entry.TheVariants.{Undefined, Defined}
 use Rattle.table_machine.specs.TableMachine.{Config}
 
 -- a permutation of the states below n: `to` gives a state's new number, `from` the state that has a new number
@@ -35,9 +33,9 @@ renamed_action to a = record {
   dir2 = a.dir2;
 }
 
-abbrev pub renamed_entry : (ℕ → ℕ) → Entry → Entry
-renamed_entry to Undefined = Undefined
-renamed_entry to (Defined a) = Defined (renamed_action to a)
+abbrev pub renamed_entry : (ℕ → ℕ) → Option Action → Option Action
+renamed_entry to None = None
+renamed_entry to (Some a) = Some (renamed_action to a)
 
 abbrev pub renamed_machine : (ℕ → ℕ) → Machine → Machine
 renamed_machine to m = record { tapes = m.tapes; symbols = m.symbols; states = m.states; start = to m.start }

@@ -1,170 +1,160 @@
 // Whether a line is of the one-line form, byte by byte.
-ghost use Rattle.std.specs.Prelude.{◌≡◌, ◌<◌, eqb};
-ghost use Rattle.table_text_form.specs.Form.{spot, may_end, is_full, width_of, row_ends, is_move, on_if, entry_begins, step_between, step, ends, form_of};
+ghost use Rattle.std.specs.Prelude.{◌≡◌, ◌<◌};
+ghost use Rattle.table_text_form.specs.Form.{may_end, is_full, width_of, row_ends, is_move, on_if, entry_begins, step_between, step, ends, form_of};
 
-use table_bytes::inner::within;
-use table_text_form::{Next, Phase, Scanned, Spot};
-
-fn made(width: u64, rows: u64, col: u64, phase: Phase) -> Spot
-    ensures { result ≡ spot width rows col phase }
-{
-    Spot {
-        width,
-        rows,
-        col,
-        phase,
-    }
-}
+use table_text_form::{Phase, Spot};
 
 // Whether the row may end here.
+#[tactic(auto, unfolding(notation::specs::Choice::both, notation::specs::Choice::pick, table_text_form::specs::Form::may_end))]
 fn may_end(at: Spot) -> bool
     ensures { result ≡ may_end at }
 {
     if at.width == 0 {
-        return 2 <= at.col;
+        2 <= at.col
+    } else {
+        at.col == at.width
     }
-    at.col == at.width
 }
 
 // Whether the row must end here.
+#[tactic(auto, unfolding(notation::specs::Choice::both, notation::specs::Choice::pick, table_text_form::specs::Form::is_full))]
 fn is_full(at: Spot) -> bool
     ensures { result ≡ is_full at }
 {
     if at.width == 0 {
-        return at.col == 10;
+        at.col == 10
+    } else {
+        at.col == at.width
     }
-    at.col == at.width
 }
 
 fn width_of(at: Spot) -> u64
     ensures { result ≡ width_of at }
 {
-    if at.width == 0 {
-        return at.col;
-    }
-    at.width
+    if at.width == 0 { at.col } else { at.width }
 }
 
+#[tactic(auto, unfolding(notation::specs::Choice::both, notation::specs::Choice::pick, table_text_form::specs::Form::row_ends))]
 fn row_ends(at: Spot, b: u8) -> bool
     ensures { result ≡ row_ends at b }
 {
-    if b != 95 {
-        return false;
-    }
-    if !may_end(at) {
-        return false;
-    }
-    at.rows < 24
+    b == b'_' && may_end(at) && at.rows < 24
 }
 
 // L or R.
 fn is_move(b: u8) -> bool
     ensures { result ≡ is_move b }
 {
-    if b == 76 {
-        return true;
-    }
-    b == 82
+    matches!(b, b'L' | b'R')
 }
 
-fn is_dash(b: u8) -> bool
-    ensures { result ≡ eqb b 45 }
-{
-    b == 45
-}
-
-fn on_if(test: bool, at: Spot) -> Next
+fn on_if(test: bool, at: Spot) -> Option<Spot>
     ensures { result ≡ on_if test at }
 {
-    if test {
-        return Next::On(at);
-    }
-    Next::Stop
+    test.then_some(at)
 }
 
-fn entry_begins(at: Spot, b: u8) -> Next
+#[tactic(auto, unfolding(notation::specs::Choice::both, notation::specs::Choice::pick, table_text_form::specs::Form::entry_begins))]
+fn entry_begins(at: Spot, b: u8) -> Option<Spot>
     ensures { result ≡ entry_begins at b }
 {
     if is_full(at) {
-        return Next::Stop;
+        return None;
     }
-    if is_dash(b) {
-        return Next::On(made(at.width, at.rows, at.col, Phase::Dash));
+    if b == b'-' {
+        return Some(Spot {
+            phase: Phase::Dash,
+            ..at
+        });
     }
     on_if(
-        within(48, 57, b as u64),
-        made(at.width, at.rows, at.col, Phase::Wrote),
+        b.is_ascii_digit(),
+        Spot {
+            phase: Phase::Wrote,
+            ..at
+        },
     )
 }
 
-fn between(at: Spot, b: u8) -> Next
+fn between(at: Spot, b: u8) -> Option<Spot>
     requires { at.rows < 18446744073709551615 }
     ensures { result ≡ step_between at b }
 {
     if row_ends(at, b) {
-        return Next::On(made(width_of(at), at.rows + 1, 0, Phase::Between));
+        return Some(Spot {
+            width: width_of(at),
+            rows: at.rows + 1,
+            col: 0,
+            phase: Phase::Between,
+        });
     }
     entry_begins(at, b)
 }
 
 // The spot after byte `b`.
-fn step(at: Spot, b: u8) -> Next
+#[tactic(auto, unfolding(notation::specs::Choice::both, notation::specs::Choice::pick, table_text_form::specs::Form::step))]
+fn step(at: Spot, b: u8) -> Option<Spot>
     requires { (at.col < 18446744073709551615) × (at.rows < 18446744073709551615) }
     ensures { result ≡ step at b }
 {
-    let phase = at.phase;
-    match phase {
+    match at.phase {
         Phase::Between => between(at, b),
-        Phase::Wrote => on_if(is_move(b), made(at.width, at.rows, at.col, Phase::Moved)),
-        Phase::Moved => on_if(
-            within(65, 90, b as u64),
-            made(at.width, at.rows, at.col + 1, Phase::Between),
+        Phase::Wrote => on_if(
+            is_move(b),
+            Spot {
+                phase: Phase::Moved,
+                ..at
+            },
         ),
-        Phase::Dash => on_if(is_dash(b), made(at.width, at.rows, at.col, Phase::Dashes)),
+        Phase::Moved => on_if(
+            b.is_ascii_uppercase(),
+            Spot {
+                col: at.col + 1,
+                phase: Phase::Between,
+                ..at
+            },
+        ),
+        Phase::Dash => on_if(
+            b == b'-',
+            Spot {
+                phase: Phase::Dashes,
+                ..at
+            },
+        ),
         Phase::Dashes => on_if(
-            is_dash(b),
-            made(at.width, at.rows, at.col + 1, Phase::Between),
+            b == b'-',
+            Spot {
+                col: at.col + 1,
+                phase: Phase::Between,
+                ..at
+            },
         ),
     }
 }
 
 // Whether a line may end here.
+#[tactic(auto, unfolding(notation::specs::Choice::both, notation::specs::Choice::pick, table_text_form::specs::Form::ends))]
 fn ends(at: Spot) -> bool
     ensures { result ≡ ends at }
 {
-    let phase = at.phase;
-    match phase {
-        Phase::Between => may_end(at),
-        Phase::Wrote => false,
-        Phase::Moved => false,
-        Phase::Dash => false,
-        Phase::Dashes => false,
-    }
+    matches!(at.phase, Phase::Between) && may_end(at)
 }
 
 // Whether a line is of the form.
-pub(crate) fn scan(line: &[u8]) -> Scanned
+pub(crate) fn scan(line: &[u8]) -> Result<(u64, u64), u64>
     ensures { result ≡ form_of line.now }
 {
-    let mut at = made(0, 0, 0, Phase::Between);
-    let mut i: usize = 0;
-    while i < line.len() {
-        let next = step(at, line[i]);
-        match next {
-            Next::On(then) => {
-                at = then;
-                i += 1;
-            }
-            Next::Stop => {
-                return Scanned::Malformed(i as u64);
-            }
-        }
+    let mut at = Spot {
+        width: 0,
+        rows: 0,
+        col: 0,
+        phase: Phase::Between,
+    };
+    for (i, &b) in line.iter().enumerate() {
+        at = step(at, b).ok_or(i as u64)?;
     }
     if ends(at) {
-        return Scanned::Formed {
-            rows: at.rows + 1,
-            symbols: width_of(at),
-        };
+        return Ok((at.rows + 1, width_of(at)));
     }
-    Scanned::Malformed(i as u64)
+    Err(line.len() as u64)
 }

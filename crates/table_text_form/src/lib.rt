@@ -21,17 +21,3 @@ pub struct Spot {
     pub col: u64,
     pub phase: Phase,
 }
-
-// Where a byte leads.
-#[derive(Clone, Copy)]
-pub enum Next {
-    On(Spot),
-    Stop,
-}
-
-// Whether a line is of the form: its rows and symbols, or the place where it is malformed.
-#[derive(Clone, Copy)]
-pub enum Scanned {
-    Formed { rows: u64, symbols: u64 },
-    Malformed(u64),
-}

@@ -1,7 +1,6 @@
 -- What an accepted reading and an accepted writing leave (document 02, request 1). Definitions only.
-use Rattle.std.specs.Prelude.{◌≡◌, List, ℕ, ◌+◌, ◌*◌, ◌≤◌, ◌<◌, length, get_or, take}
+use Rattle.std.specs.Prelude.{◌≡◌, List, ℕ, ◌+◌, ◌*◌, ◌≤◌, ◌<◌, length, get_or, take, Ok}
 use Rattle.machine.specs.declared.Machine.{Machine}
-use Rattle.machine.specs.declared.Checked.TheVariants.{Accepted}
 use Rattle.machine.specs.Model.Check.{table_check}
 use Rattle.table_laws.specs.WellFormed.{WellFormed}
 use Rattle.table_text_rows.specs.Meaning.{RowUndefined, HasLine}
@@ -27,7 +26,7 @@ pub record TableRead (line table : List ℕ) (m : Machine) : Type 0 where
   pub same_length : length (read_into line table) ≡ length table
   pub rest : (j : ℕ) → 8 * (m.states * m.symbols) ≤ j → get_or (read_into line table) j 0 ≡ get_or table j 0
   -- the table check accepts it, and it is laid out as document 01 says
-  pub accepted : table_check m (table_of m line table) ≡ Accepted
+  pub accepted : table_check m (table_of m line table) ≡ Ok tt
   pub well_formed : WellFormed m (table_of m line table)
   -- "Each entry is a symbol written, L or R, and the next state's letter."  "`---` is an undefined entry."
   pub says : (q a : ℕ) → q < rows → a < m.symbols → SaysAt rows m.symbols line (table_of m line table) q a

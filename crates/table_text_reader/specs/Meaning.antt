@@ -1,9 +1,8 @@
 -- What a line of the form says, in document 02's words. In bytes 0 is 48, A 65, L 76, R 82, Z 90, `-` 45 and `_` 95. Definitions only.
-use Rattle.std.specs.Prelude.{◌≡◌, ◌⊎◌, List, ℕ, ◌+◌, ◌*◌, ◌≤◌, ◌<◌, get_or}
+use Rattle.machine.specs.declared.Action.{Action}
+use Rattle.std.specs.Prelude.{◌≡◌, ◌⊎◌, List, ℕ, ◌+◌, ◌*◌, ◌≤◌, ◌<◌, get_or, None, Option, Some}
 use Rattle.symbol.specs.declared.Dir.{Dir}
 use Rattle.symbol.specs.declared.Dir.TheVariants.{L, R, N}
-use Rattle.machine.specs.declared.Entry.{Entry}
-use Rattle.machine.specs.declared.Entry.TheVariants.{Undefined, Defined}
 use Rattle.machine.specs.Layout.{entry_at}
 use Rattle.table_text_form.specs.Line.{Digit, Letter, place, OfForm}
 
@@ -47,9 +46,9 @@ abbrev pub LetterOf : (z c q : ℕ) → Type 0
 LetterOf z c q = ((c ≡ 90) × (q ≡ z)) ⊎ ((c ≡ 65 + q) × (q < z))
 
 -- the bytes x, y and c are the text of an entry
-abbrev pub Says : (z x y c : ℕ) → Entry → Type 0
-Says z x y c Undefined = (x ≡ 45) × (y ≡ 45) × (c ≡ 45)
-Says z x y c (Defined a) = (x ≡ 48 + a.write0.0) × MoveOf y a.dir0 × LetterOf z c a.next.0
+abbrev pub Says : (z x y c : ℕ) → Option Action → Type 0
+Says z x y c None = (x ≡ 45) × (y ≡ 45) × (c ≡ 45)
+Says z x y c (Some a) = (x ≡ 48 + a.write0.0) × MoveOf y a.dir0 × LetterOf z c a.next.0
 
 -- entry a of row q of a line is that of a table
 abbrev pub SaysAt : (z k : ℕ) → List ℕ → List ℕ → (q a : ℕ) → Type 0

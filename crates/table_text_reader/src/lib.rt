@@ -3,10 +3,3 @@
 
 use machine::Machine;
 use outcome::Refusal;
-
-// The answer of reading: the numbers of the machine whose table was written.
-#[derive(Clone, Copy)]
-pub enum Read {
-    Table(Machine),
-    Refused(Refusal),
-}

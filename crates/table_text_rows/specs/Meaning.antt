@@ -1,14 +1,13 @@
 -- Which tables have a line, in document 02's words. Definitions only.
-use Rattle.std.specs.Prelude.{◌≡◌, ◌⊎◌, List, ℕ, ◌+◌, ◌*◌, ◌≤◌, ◌<◌}
+use Rattle.std.specs.Prelude.{◌≡◌, ◌⊎◌, List, ℕ, ◌+◌, ◌*◌, ◌≤◌, ◌<◌, None, Some}
 use Rattle.symbol.specs.declared.Dir.TheVariants.{N}
 use Rattle.machine.specs.declared.Machine.{Machine}
 use Rattle.machine.specs.declared.Action.{Action}
-use Rattle.machine.specs.declared.Entry.TheVariants.{Undefined, Defined}
 use Rattle.machine.specs.Layout.{entry_at}
 
 -- row q of a table of one tape and k symbols
 abbrev pub RowUndefined : (k : ℕ) → List ℕ → ℕ → Type 0
-RowUndefined k s q = (a : ℕ) → a < k → entry_at s (q * k + a) ≡ Undefined
+RowUndefined k s q = (a : ℕ) → a < k → entry_at s (q * k + a) ≡ None
 
 -- "Writing takes a last row that is all undefined as Z's."
 abbrev pub Lettered : Machine → List ℕ → ℕ → Type 0
@@ -21,5 +20,5 @@ pub record HasLine (m : Machine) (s : List ℕ) (z : ℕ) : Type 0 where
   pub lettered : Lettered m s z
   pub rows_are : (1 ≤ z) × (z ≤ 25)
   pub start_is : m.start ≡ 0
-  pub moves : (i : ℕ) (a : Action) → i < m.states * m.symbols → entry_at s i ≡ Defined a → ¬ (a.dir0 ≡ N)
+  pub moves : (i : ℕ) (a : Action) → i < m.states * m.symbols → entry_at s i ≡ Some a → ¬ (a.dir0 ≡ N)
   pub before_last : (q : ℕ) → q + 1 < m.states → ¬ (RowUndefined m.symbols s q)

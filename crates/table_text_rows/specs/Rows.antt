@@ -1,18 +1,17 @@
 -- The test of 21 (document 02, request 1): "a table with several tapes, symbols not 2 to 10, lettered rows not 1 to 25, a start other than 0, an N move, or an undefined row before the last". Definitions only.
-use Rattle.std.specs.Prelude.{Bool, true, false, not, List, ℕ, ◌-◌, ◌*◌, eqb}
+use Rattle.machine.specs.declared.Action.{Action}
+use Rattle.std.specs.Prelude.{Bool, true, false, not, List, ℕ, ◌-◌, ◌*◌, eqb, None, Option, Some}
 use Rattle.notation.specs.Choice.{pick, both}
 use Rattle.notation.specs.Scan.{all_in}
 use Rattle.symbol.specs.declared.Dir.{Dir}
 use Rattle.symbol.specs.declared.Dir.TheVariants.{L, R, N}
 use Rattle.machine.specs.declared.Machine.{Machine}
-use Rattle.machine.specs.declared.Entry.{Entry}
-use Rattle.machine.specs.declared.Entry.TheVariants.{Undefined, Defined}
 use Rattle.machine.specs.Layout.{entry_at}
 use Rattle.table_bytes.specs.Model.Entries.{within}
 
-abbrev pub is_undefined : Entry → Bool
-is_undefined Undefined = true
-is_undefined (Defined a) = false
+abbrev pub is_undefined : Option Action → Bool
+is_undefined None = true
+is_undefined (Some a) = false
 
 abbrev pub undefined_at : List ℕ → ℕ → Bool
 undefined_at s i = is_undefined (entry_at s i)
@@ -30,9 +29,9 @@ is_moving L = true
 is_moving R = true
 is_moving N = false
 
-abbrev pub moves_or : Entry → Bool
-moves_or Undefined = true
-moves_or (Defined a) = is_moving a.dir0
+abbrev pub moves_or : Option Action → Bool
+moves_or None = true
+moves_or (Some a) = is_moving a.dir0
 
 abbrev pub moves_at : List ℕ → ℕ → Bool
 moves_at s i = moves_or (entry_at s i)

@@ -2,10 +2,3 @@
 #![tactic(auto)]
 
 use outcome::Refusal;
-
-// The answer of writing: how many bytes the line has.
-#[derive(Clone, Copy)]
-pub enum Written {
-    Line(u64),
-    Refused(Refusal),
-}

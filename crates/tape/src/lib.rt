@@ -2,6 +2,7 @@
 #![tactic(auto)]
 
 pub mod inner;
+pub mod view;
 
 // The first `len` of the lent cells are the tape's. The other numbers are indexes into them: of position 0, of the
 // head, and of the lowest and the highest head so far. A tape that the machine lacks has 0 in every field.
@@ -14,16 +15,9 @@ pub struct Tape {
     pub highest: usize,
 }
 
-// The positions of the lowest and the highest non-blank cell.
+// The positions of the lowest and the highest non-blank cell of a tape that has one.
 #[derive(Clone, Copy)]
-pub enum Span {
-    Empty,
-    Cells { from: i64, to: i64 },
-}
-
-// The result of a search for a cell: its position, or nowhere.
-#[derive(Clone, Copy)]
-pub enum Spot {
-    At(i64),
-    Nowhere,
+pub struct Span {
+    pub from: i64,
+    pub to: i64,
 }

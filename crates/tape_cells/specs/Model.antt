@@ -1,11 +1,8 @@
 -- The results of the loops over a tape's cells: the buffer after writing, and what a scan finds. Definitions only.
-use Rattle.std.specs.Prelude.{Bool, List, ℕ, ◌+◌, ◌-◌, eqb, length, get_or}
+use Rattle.std.specs.Prelude.{◌≡◌, Bool, List, ℕ, ◌+◌, ◌-◌, ◌<◌, eqb, length, get_or, slice_index, None, Option, Some}
 use Rattle.notation.specs.Fill.{fill_from}
 use Rattle.notation.specs.Scan.{first_fail}
 use Rattle.notation.specs.ScanDown.{last_fail}
-use Rattle.symbol.specs.Model.{found_of}
-use Rattle.symbol.specs.declared.position.Found.{Found}
-use Rattle.symbol.specs.declared.position.Found.TheVariants as Index
 
 -- ---- the buffer after writing
 
@@ -39,18 +36,22 @@ abbrev pub blank_at : List ℕ → ℕ → Bool
 blank_at c i = eqb (get_or c i 0) 0
 
 -- the number of cells that a found index requires
-abbrev pub reach : Found → ℕ
-reach (Index.At i) = i + 1
-reach Index.Nothing = 0
+abbrev pub reach : Option ℕ → ℕ
+reach (Some i) = i + 1
+reach None = 0
 
 -- the cell at a found index; blank where none was found
-unfoldable pub found_cell : List ℕ → Found → ℕ
-found_cell c (Index.At i) = get_or c i 0
-found_cell c Index.Nothing = 0
+unfoldable pub found_cell : List ℕ → Option ℕ → ℕ
+found_cell c (Some i) = get_or c i 0
+found_cell c None = 0
 
 -- the lowest non-blank cell from index `from` on, below `to`, and the highest below `to`
-unfoldable pub first_written : List ℕ → (from to : ℕ) → Found
-first_written c from to = found_of (first_fail (blank_at c) (to - from) from)
+unfoldable pub first_written : List ℕ → (from to : ℕ) → Option ℕ
+first_written c from to = (first_fail (blank_at c) (to - from) from)
 
-unfoldable pub last_written : List ℕ → (to : ℕ) → Found
-last_written c to = found_of (last_fail (blank_at c) to)
+unfoldable pub last_written : List ℕ → (to : ℕ) → Option ℕ
+last_written c to = (last_fail (blank_at c) to)
+
+-- index i holds the highest non-blank cell
+abbrev pub IsLastWritten : List ℕ → ℕ → Type 0
+IsLastWritten c i = (i < length c) × ((slice_index c i ≡ 0) → ⊥) × ((j : ℕ) → i < j → j < length c → slice_index c j ≡ 0)

@@ -1,12 +1,11 @@
 -- The first len of a tape's cells c by position, where index o is position 0 (document 01, tape.rs): a cell, a window, and the nearest cell that is
 -- not blank. "A cell outside is blank." Definitions only.
-use Rattle.std.specs.Prelude.{List, ℕ, ◌+◌, ◌-◌, ◌≤◌, ◌^◌, min, ltb, ℤ, length}
+use Rattle.std.specs.Prelude.{List, ℕ, ◌+◌, ◌-◌, ◌≤◌, ◌^◌, min, ltb, ℤ, length, Option}
 use Rattle.notation.specs.Choice.{pick}
 use Rattle.notation.specs.Fill.{fill_from}
 use Rattle.notation.specs.Limits.{cells_most}
 use Rattle.notation.specs.Position.{◌⊖◌, up, dn}
 use Rattle.symbol.specs.Model.{raised_of, index_of}
-use Rattle.symbol.specs.declared.position.Found.{Found}
 use Rattle.tape_cells.specs.Model.{found_cell, first_written, last_written}
 
 -- what the questions may assume
@@ -44,8 +43,8 @@ abbrev pub cells_below : (up down o len : ℕ) → ℕ
 cells_below up down o len = min (o + up - down) len
 
 -- the highest non-blank cell at position z or below it, and the lowest at z or above it
-abbrev pub last_up_to : (o len : ℕ) → List ℕ → ℤ → Found
+abbrev pub last_up_to : (o len : ℕ) → List ℕ → ℤ → Option ℕ
 last_up_to o len c z = last_written c (cells_below (up z) (dn z) (o + 1) len)
 
-abbrev pub first_from : (o len : ℕ) → List ℕ → ℤ → Found
+abbrev pub first_from : (o len : ℕ) → List ℕ → ℤ → Option ℕ
 first_from o len c z = first_written c (cells_below (up z) (dn z) o len) len

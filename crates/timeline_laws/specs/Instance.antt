@@ -1,7 +1,6 @@
 -- The facts to prove for a kind of engine, of each of its engines that the check accepts. Definitions only.
-use Rattle.std.specs.Prelude.{ℕ, ◌≡◌, ◌↔◌, List}
+use Rattle.std.specs.Prelude.{ℕ, ◌≡◌, ◌↔◌, List, Ok}
 use Rattle.machine.specs.declared.Machine.{Machine}
-use Rattle.machine.specs.declared.Checked.TheVariants.{Accepted}
 use Rattle.table_laws.specs.WellFormed.{Bytes}
 use Rattle.table_machine.specs.TableMachine.{start}
 use Rattle.table_machine.specs.Tables.{table_of, TableOf, Bare}
@@ -27,7 +26,7 @@ pub record Instance (X : EngineMeaning) (m : Machine) (s : List ℕ) (e : X.kind
 
 -- the facts of every engine that the check accepts
 abbrev pub Instances : EngineMeaning → Type 1
-Instances X = (m : Machine) (s : List ℕ) → Bytes s → (e : X.kind.State) → X.kind.check m s e ≡ Accepted → Instance X m s e
+Instances X = (m : Machine) (s : List ℕ) → Bytes s → (e : X.kind.State) → X.kind.check m s e ≡ Ok tt → Instance X m s e
 
 -- a fresh engine holds the word's configuration
 abbrev pub Beginnings : EngineMeaning → Type 0

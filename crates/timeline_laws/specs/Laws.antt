@@ -1,8 +1,6 @@
 -- The laws that make operations an engine of the table machine: all that the third demand requires of an engine. Definitions only.
-use Rattle.std.specs.Prelude.{◌≡◌, ℕ, ◌+◌, ◌≤◌, ◌<◌}
-use Rattle.std.proofs.Math.Option.{some}
+use Rattle.std.specs.Prelude.{◌≡◌, ℕ, ◌+◌, ◌≤◌, ◌<◌, Ok, Some}
 use Rattle.notation.specs.Limits.{steps_most}
-use Rattle.machine.specs.declared.Checked.TheVariants.{Accepted}
 use Rattle.timeline_rule.specs.Model.Engine.{Ops}
 use Rattle.timeline_laws.specs.Automaton.{Automaton, iterate}
 
@@ -31,7 +29,7 @@ pub record Laws (M : Automaton) (O : Ops M.Out) : Type 1 where
   pub Same : O.State → O.State → Type 0
   -- slot i holds that engine
   pub Holds : O.Store → ℕ → O.State → Type 0
-  pub fits_check : (s : O.State) → Fits s → O.check s ≡ Accepted
+  pub fits_check : (s : O.State) → Fits s → O.check s ≡ Ok tt
   pub fits_low : (s : O.State) → Fits s → O.now s ≤ steps_most
   pub fits_good : (s : O.State) → Fits s → Good (mean s)
   -- a step
@@ -52,4 +50,4 @@ pub record Laws (M : Automaton) (O : Ops M.Out) : Type 1 where
   pub move_same : (i k : ℕ) (t : O.Store) (u : O.State) → i < O.slots t → k < O.slots t → Holds t i u → Holds (O.move i k t) k u
   pub move_other : (i k j : ℕ) (t : O.Store) (u : O.State) → i < O.slots t → k < O.slots t → ¬ (j ≡ k) → Holds t j u → Holds (O.move i k t) j u
   pub restores : (i : ℕ) (s : O.State) (t : O.Store) (u : O.State) → Fits s → i < O.slots t → Holds t i u
-      → (s' : O.State) × (O.restore i (O.now u) s t ≡ some s') × Same s' u × (mean s' ≡ mean u) × Fits s'
+      → (s' : O.State) × (O.restore i (O.now u) s t ≡ Some s') × Same s' u × (mean s' ≡ mean u) × Fits s'

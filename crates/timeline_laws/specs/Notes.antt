@@ -1,12 +1,12 @@
 -- A TIMELINE THAT NOTES WHAT IT SAVES: the same timeline, with a note for each slot: the engine that was saved there. A note moves with its slot;
 -- no operation reads it. The notes define "the engine saved". Definitions only.
-use Rattle.std.specs.Prelude.{ℕ, List, [], ◌∷◌, eqb}
-use Rattle.std.proofs.Math.Option.{Option, none, some}
+use Rattle.std.specs.Prelude.{ℕ, List, [], ◌∷◌, eqb, None, Option, Some}
 use Rattle.notation.specs.Choice.{pick}
 use Rattle.outcome.specs.declared.Outcome.{Outcome}
 use Rattle.machine.specs.declared.Machine.{Machine}
 use Rattle.timeline_rule.specs.Model.Engine.{Ops}
-use Rattle.timeline_rule.specs.Model.Timeline.{TimelineWith, Reply, Call, call}
+use Rattle.timeline_rule.specs.declared.Call.{Call}
+use Rattle.timeline_rule.specs.Model.Timeline.{TimelineWith, Reply, call}
 use Rattle.timeline_rule.specs.Model.Kind.{Kind, TimelineOf, ops_for}
 
 -- a store with a note for each slot
@@ -27,7 +27,7 @@ noting O = record {
   check = O.check;
   advance = O.advance;
   slots = λ t. O.slots t.bytes;
-  save = λ i s t. record { bytes = O.save i s t.bytes; note = note_at i (some s) t.note };
+  save = λ i s t. record { bytes = O.save i s t.bytes; note = note_at i (Some s) t.note };
   move = λ i k t. record { bytes = O.move i k t.bytes; note = note_at k (t.note i) t.note };
   restore = λ i p s t. O.restore i p s t.bytes;
 }
@@ -43,7 +43,7 @@ NotedOf K = TimelineWith K.State (Noted (List ℕ) K.State)
 
 -- "A new timeline saves slot 0 at its starting step."
 abbrev pub new_noted : (K : Kind) → TimelineOf K → NotedOf K
-new_noted K v = record { engine = v.engine; store = record { bytes = v.store; note = note_at 0 (some v.engine) (λ j. none) }; times = v.times }
+new_noted K v = record { engine = v.engine; store = record { bytes = v.store; note = note_at 0 (Some v.engine) (λ j. None) }; times = v.times }
 
 abbrev pub call_noted : (K : Kind) → Machine → (table : List ℕ) → NotedOf K → Call → Reply Outcome × NotedOf K
 call_noted K m s w c = call (noting (ops_for K m s w.engine)) w c

@@ -1,7 +1,6 @@
 -- THE THIRD DEMAND, for any kind of engine, in terms of the table machine and the models only. Definitions only. `Demand` is the statement, for fresh engines;
 -- `DemandFrom` is the same for any engine value that a new timeline accepts. Both use `WholeList`, where c is the configuration that the engine holds at the start.
-use Rattle.std.specs.Prelude.{ℕ, ◌+◌, ◌-◌, ◌*◌, ◌≤◌, ◌<◌, min, max, ◌^◌, ◌≡◌, Bool, true, false, ◌↔◌, List, [], ◌∷◌, ◌++◌, leb}
-use Rattle.std.proofs.Math.Option.{Option, none, some}
+use Rattle.std.specs.Prelude.{ℕ, ◌+◌, ◌-◌, ◌*◌, ◌≤◌, ◌<◌, min, max, ◌^◌, ◌≡◌, Bool, true, false, ◌↔◌, List, [], ◌∷◌, ◌++◌, leb, None, Option, Some}
 use Rattle.notation.specs.Choice.{pick}
 use Rattle.symbol.specs.Kinds.{state_of}
 use Rattle.outcome.specs.declared.NonHaltProof.{NonHaltProof}
@@ -14,7 +13,9 @@ use Rattle.table_laws.specs.WellFormed.{Bytes}
 use Rattle.table_machine.specs.TableMachine.{Config, start, run, Halted, Verdict}
 use Rattle.table_machine.specs.Tables.{table_of}
 use Rattle.store_bytes.specs.Model.{slot_of}
-use Rattle.timeline_rule.specs.Model.Timeline.{Reply, refused, answered, Call, forward, target}
+use Rattle.timeline_rule.specs.declared.Call.{Call}
+use Rattle.timeline_rule.specs.declared.Call.TheVariants.{Forward}
+use Rattle.timeline_rule.specs.Model.Timeline.{Reply, refused, answered, target}
 use Rattle.timeline_rule.specs.Model.Kind.{TimelineOf, new_on, call_on}
 use Rattle.timeline_laws.specs.Meaning.{EngineMeaning}
 use Rattle.timeline_laws.specs.Notes.{bare, NotedOf, new_noted, after_noted}
@@ -28,8 +29,8 @@ goal first p c = max (target p c) first
 
 -- "its target, or h where that is less"
 abbrev pub or_halt : ℕ → Option ℕ → ℕ
-or_halt t none = t
-or_halt t (some h) = min t h
+or_halt t None = t
+or_halt t (Some h) = min t h
 
 -- "An accepted call makes p its target, or h where that is less; a refused one leaves p."
 abbrev pub place_by : (first : ℕ) → Option ℕ → ℕ → List Call → ℕ
@@ -47,8 +48,8 @@ module _ (m : Machine) (s : List ℕ) (c : Config) where
 
   -- h is the first step, from the start on, at which the machine has halted, if there is one
   abbrev pub HaltsIn : Option ℕ → Type 0
-  HaltsIn none = (n : ℕ) → c.steps ≤ n → ¬ HaltedAt n
-  HaltsIn (some h) = (c.steps ≤ h) × HaltedAt h × ((j : ℕ) → c.steps ≤ j → j < h → ¬ HaltedAt j)
+  HaltsIn None = (n : ℕ) → c.steps ≤ n → ¬ HaltedAt n
+  HaltsIn (Some h) = (c.steps ≤ h) × HaltedAt h × ((j : ℕ) → c.steps ≤ j → j < h → ¬ HaltedAt j)
 
   -- the step count of the configuration after t steps: t, or h where that is less (`WholeList.paper`)
   abbrev pub reach_in : ℕ → ℕ
@@ -78,7 +79,7 @@ stopped_at (answered o) q = steps_if (is_full o) o q
 abbrev pub Numbers : Outcome → Config → Type 0
 Numbers (Out.Halted n q) c = (n ≡ c.steps) × (q ≡ state_of c.state)
 Numbers (Out.OutOfFuel n) c = n ≡ c.steps
-Numbers (Out.NeverHalts n p) c = (n ≡ c.steps) × (proof_state p ≡ some (state_of c.state))
+Numbers (Out.NeverHalts n p) c = (n ≡ c.steps) × (proof_state p ≡ Some (state_of c.state))
 Numbers (Out.Stopped n) c = ⊥
 Numbers (Out.Full n) c = n ≡ c.steps
 
@@ -104,8 +105,8 @@ module _ (X : EngineMeaning) (m : Machine) (s : List ℕ) where
 
   -- forward a and then forward b give the same configuration and the same answer as one forward a + b
   pub record Twice (v : TimelineOf X.kind) (a b : ℕ) : Type 0 where
-    pub holds : held_on (call_on X.kind m s (call_on X.kind m s v (forward a)).1 (forward b)).1 ≡ held_on (call_on X.kind m s v (forward (a + b))).1
-    pub answers : (call_on X.kind m s (call_on X.kind m s v (forward a)).1 (forward b)).0 ≡ (call_on X.kind m s v (forward (a + b))).0
+    pub holds : held_on (call_on X.kind m s (call_on X.kind m s v (Forward a)).1 (Forward b)).1 ≡ held_on (call_on X.kind m s v (Forward (a + b))).1
+    pub answers : (call_on X.kind m s (call_on X.kind m s v (Forward a)).1 (Forward b)).0 ≡ (call_on X.kind m s v (Forward (a + b))).0
 
 -- ---- a list of calls on a new timeline, whose engine e holds c
 
@@ -123,10 +124,10 @@ module _ (X : EngineMeaning) (m : Machine) (s : List ℕ) (c : Config) where
   -- start + i × interval. The slot is read for that step, into the buffers of the timeline's engine, as a call that goes back reads it.
   pub record SlotGives (u : NotedOf X.kind) (i : ℕ) : Type 0 where
     pub saved : X.kind.State
-    pub noted : u.store.note i ≡ some saved
+    pub noted : u.store.note i ≡ Some saved
     pub step : X.kind.now saved ≡ c.steps + i * u.times.every
     pub read : X.kind.State
-    pub reads : X.kind.unpack m (slot_of (X.kind.slot_size m u.engine) i u.store.bytes) (c.steps + i * u.times.every) u.engine ≡ some read
+    pub reads : X.kind.unpack m (slot_of (X.kind.slot_size m u.engine) i u.store.bytes) (c.steps + i * u.times.every) u.engine ≡ Some read
     pub same : X.Same m read saved
 
 module _ (X : EngineMeaning) (m : Machine) (s : List ℕ) (c : Config) (e : X.kind.State) where
@@ -181,7 +182,7 @@ module _ (X : EngineMeaning) (m : Machine) (s : List ℕ) (c : Config) (e : X.ki
     -- "So from any such p, forward a and then forward b end in the same configuration and answer as one forward a + b, where p + a + b is within that limit and
     -- none of the three calls ends for lack of space."
     pub twice : (a b : ℕ) → place_after X m s c v ks + a + b ≤ 2 ^ 62
-        → RoomFor X m s (after_on X m s v ks) (forward a) → RoomFor X m s (call_on X.kind m s (after_on X m s v ks) (forward a)).1 (forward b)
+        → RoomFor X m s (after_on X m s v ks) (Forward a) → RoomFor X m s (call_on X.kind m s (after_on X m s v ks) (Forward a)).1 (Forward b)
         → Twice X m s (after_on X m s v ks) a b
     -- `FullFrom` is the engine's rule: an advance of n steps by e itself ends full exactly when one of its steps is full
     pub rule : (n : ℕ) → c.steps + n ≤ 2 ^ 62

@@ -1,11 +1,9 @@
 -- The requirements of a timeline's code on its engine and its own numbers, and the results of the parts of a call. Definitions only.
-use Rattle.std.specs.Prelude.{◌≡◌, Bool, false, List, ℕ, ◌+◌, ◌-◌, ◌≤◌, ◌<◌}
-use Rattle.std.proofs.Math.Option.{Option, some}
+use Rattle.std.specs.Prelude.{◌≡◌, Bool, false, List, ℕ, ◌+◌, ◌-◌, ◌≤◌, ◌<◌, Ok, Option, Some}
 use Rattle.notation.specs.Choice.{pick}
 use Rattle.notation.specs.Limits.{steps_most}
 use Rattle.outcome.specs.declared.Outcome.{Outcome}
 use Rattle.machine.specs.declared.Machine.{Machine}
-use Rattle.machine.specs.declared.Checked.TheVariants.{Accepted}
 use Rattle.store_bytes.specs.Model.{slot_count}
 use Rattle.timeline_rule.specs.declared.Times.{Times}
 use Rattle.timeline_rule.specs.Model.Timeline.{slot_for, slot_step, advance_to, gas_for}
@@ -20,14 +18,19 @@ timeline_of X e t v = record { engine = e; store = t; times = v }
 
 pub record Sound (X : Kind) (m : Machine) (s : List ℕ) (size : ℕ) (Fits : X.State → Type 0) : Type 0 where
   -- an accepted engine whose buffers give slots of that size fits
-  pub accepted : (e : X.State) → X.check m s e ≡ Accepted → X.slot_size m e ≡ size → Fits e
+  pub accepted : (e : X.State) → X.check m s e ≡ Ok tt → X.slot_size m e ≡ size → Fits e
   pub low : (e : X.State) → Fits e → X.now e ≤ steps_most
   -- an advance keeps the engine fitting and does not go back
   pub advance_fits : (n : ℕ) (e : X.State) → Fits e → X.now e + n ≤ steps_most → Fits (X.advance m s n e).1
   pub advance_climbs : (n : ℕ) (e : X.State) → Fits e → X.now e + n ≤ steps_most → X.now e ≤ X.now (X.advance m s n e).1
   -- an engine restored into the buffers of a fitting one fits, and its step count is p
-  pub restored_fits : (b : List ℕ) (p : ℕ) (e r : X.State) → Fits e → p ≤ steps_most → some r ≡ X.unpack m b p e → Fits r
-  pub restored_now : (b : List ℕ) (p : ℕ) (e r : X.State) → Fits e → p ≤ steps_most → some r ≡ X.unpack m b p e → X.now r ≡ p
+  pub restored_fits : (b : List ℕ) (p : ℕ) (e r : X.State) → Fits e → p ≤ steps_most → Some r ≡ X.unpack m b p e → Fits r
+  pub restored_now : (b : List ℕ) (p : ℕ) (e r : X.State) → Fits e → p ≤ steps_most → Some r ≡ X.unpack m b p e → X.now r ≡ p
+
+-- an engine that passes its check, whose buffers give slots of that size
+pub record Fits (X : Kind) (m : Machine) (s : List ℕ) (size : ℕ) (e : X.State) : Type 0 where
+  pub accepted : X.check m s e ≡ Ok tt
+  pub sized : X.slot_size m e ≡ size
 
 -- ---- the timeline's numbers; its slots can hold any bytes
 

@@ -8,8 +8,7 @@ ghost use Rattle.timeline_rule.specs.Model.Kind.{spent};
 ghost use Rattle.timeline_rule.specs.Model.Due.{due_of, is_due, stop_for, forward_to, target_to, Thinned, TimesFit, ThinOk, RecordOk};
 
 use super::Times;
-use machine::Checked;
-use notation::{limits, number};
+use notation::limits;
 use outcome::{Outcome, Refusal};
 
 // A step that no engine reaches: 2^62 + 1.
@@ -31,7 +30,7 @@ pub(crate) fn within(low: u64, high: u64, x: u64) -> bool
 fn capped(step: u64) -> u64
     ensures { result ≡ min step (steps_most + 1) }
 {
-    number::min(step, UNREACHED)
+    step.min(UNREACHED)
 }
 
 // The step at which the next slot is due, or 2^62 + 1 where that is over 2^62.
@@ -87,6 +86,7 @@ pub fn back_to(p: u64, n: u64) -> u64
 }
 
 // The target of the call given by two numbers, made at step p: `which` is 0 for seek, 1 for forward, else back.
+// The C interface gives the call as two numbers.
 pub fn target_of(which: u64, p: u64, n: u64) -> u64
     ensures { result ≡ target_to which p n }
 {
@@ -103,20 +103,20 @@ pub fn target_of(which: u64, p: u64, n: u64) -> u64
 pub fn is_spent(outcome: Outcome) -> bool
     ensures { result ≡ spent outcome }
 {
-    outcome.number() == 1
+    matches!(outcome, Outcome::OutOfFuel { .. })
 }
 
 // Refusals 14 and 15 of a new timeline, on a store of `slots` slots.
-pub fn first_check(most: u64, every: u64, slots: usize) -> Checked
+pub fn first_check(most: u64, every: u64, slots: usize) -> Result<(), Refusal>
     ensures { result ≡ first_check most every slots }
 {
     if !super::new_ok(most, every) {
-        return Checked::Refused(Refusal::Settings);
+        return Err(Refusal::Settings);
     }
     if (slots as u64) <= most {
-        return Checked::Refused(Refusal::StoreSize);
+        return Err(Refusal::StoreSize);
     }
-    Checked::Accepted
+    Ok(())
 }
 
 impl Times {
@@ -162,20 +162,20 @@ impl Times {
 }
 
 // Refusals 14, 15 and 13 of a call, on an engine at step p and a store of `slots` slots.
-pub fn later_check(t: Times, p: u64, slots: usize, target: u64) -> Checked
+pub fn later_check(t: Times, p: u64, slots: usize, target: u64) -> Result<(), Refusal>
     requires { p ≤ steps_most }
     ensures { result ≡ later_check t p slots target }
 {
     if !t.ok(p) {
-        return Checked::Refused(Refusal::Settings);
+        return Err(Refusal::Settings);
     }
     if (slots as u64) <= t.most {
-        return Checked::Refused(Refusal::StoreSize);
+        return Err(Refusal::StoreSize);
     }
     if limits::STEPS < target {
-        return Checked::Refused(Refusal::StepLimit);
+        return Err(Refusal::StepLimit);
     }
-    Checked::Accepted
+    Ok(())
 }
 
 pub fn is_due(t: Times, p: u64) -> bool
@@ -195,9 +195,9 @@ pub fn stop(t: Times, target: u64, p: u64) -> u64
 {
     let d = due(t.first, t.count, t.every);
     if target < d {
-        return number::max(target, p);
+        return target.max(p);
     }
-    number::max(d, p)
+    d.max(p)
 }
 
 // The slot to go back to.
@@ -207,7 +207,7 @@ pub fn slot_for(t: Times, target: u64) -> u64
     requires le_count { 1 ≤ t.count }
     ensures { result ≡ slot_for target t }
 {
-    number::min((target - t.first) / t.every, t.count - 1)
+    ((target - t.first) / t.every).min(t.count - 1)
 }
 
 // Counts one slot more, after a save into the next slot, and thins if there are more than `most`.

@@ -1,5 +1,5 @@
 // A timeline's own numbers, for an engine of either kind: its settings, the number of slots recorded, and the step at
-// which the next slot is due. The specs define the timeline over any engine.
+// which the next slot is due; and the calls on it. The specs define the timeline over any engine.
 #![tactic(auto)]
 
 ghost use Rattle.std.specs.Prelude.{◌≡◌};
@@ -17,6 +17,14 @@ pub struct Times {
     pub count: u64,
     // The interval: the steps from one slot to the next.
     pub every: u64,
+}
+
+// A call on a timeline, with its number: a step to seek, or a number of steps forward or back.
+#[derive(Clone, Copy, PartialEq, Eq)]
+pub enum Call {
+    Seek(u64),
+    Forward(u64),
+    Back(u64),
 }
 
 // Whether the settings of a new timeline pass the test of refusal 14.

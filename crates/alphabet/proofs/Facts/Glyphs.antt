@@ -1,5 +1,7 @@
 -- The encoder's test of a glyph agrees with document 01's sentence, and so does its refusal 17. Assumes nothing.
-use Rattle.std.specs.Prelude.{◌≡◌, refl, ◌↔◌, Bool, true, false, List, [], ◌∷◌, ℕ, ◌<◌, eqb, get_or}
+use Rattle.outcome.specs.declared.Refusal.{Refusal}
+use Rattle.symbol.specs.declared.Symbol.{Symbol}
+use Rattle.std.specs.Prelude.{◌≡◌, refl, ◌↔◌, Bool, true, false, List, [], ◌∷◌, ℕ, ◌<◌, eqb, get_or, Err, Option, Result, ⊤}
 use Rattle.std.proofs.Common.{ap, subst, arith, lt-ltb, ltb-true, eqb-true, eq-eqb, ne_eqb}
 use Rattle.std.proofs.Math.Path.{subst⁻¹}
 use Rattle.std.proofs.Math.Decide.{dec_lt}
@@ -7,9 +9,6 @@ use Rattle.std.proofs.lemmas.Bool.{eqb-false, not-true}
 use Rattle.notation.proofs.Facts.Tests.{clash, by_test, pick_cases, both_split, both_true}
 use Rattle.symbol.specs.Kinds.{symbol_of}
 use Rattle.outcome.specs.declared.Refusal.TheVariants as Why
-use Rattle.machine.specs.declared.Checked.{Checked}
-use Rattle.machine.specs.declared.Checked.TheVariants.{Refused}
-use Rattle.alphabet.specs.declared.Named.{Named}
 use Rattle.alphabet.specs.Model.{symbol_for, is_input, allowed_on, allowed_at, encode_check}
 use Rattle.alphabet.specs.Glyphs.{First, Absent, named_numbers, Flagged, Allowed, blank, input, NotAllowed, missing, unflagged, FirstNotAllowed}
 use Rattle.alphabet.proofs.Facts.Encode.{Spelt, absent, first, spelt, Answers, taken, glyph, short, answers, refused_place}
@@ -42,14 +41,14 @@ module _ (glyphs : List ℕ) (x : ℕ) where
   pub symbol_place : (i : ℕ) → (named_numbers (symbol_for glyphs x) ≡ 1 ∷ i ∷ []) ↔ First glyphs x i
   symbol_place i = by _ (spelt glyphs x)
     where
-      by : (n : Named) → Spelt glyphs x n → (named_numbers n ≡ 1 ∷ i ∷ []) ↔ First glyphs x i
+      by : (n : Option Symbol) → Spelt glyphs x n → (named_numbers n ≡ 1 ∷ i ∷ []) ↔ First glyphs x i
       by n (absent f) = ((λ e. let z : ◌≡◌ {A = ℕ} 0 1 = cc in absurd (omega arith)), λ p. absurd (f i p.among p.small p.equal))
       by n (first j f) = ((λ e. let q : j ≡ i = cc in subst (First glyphs x) q f), λ p. ap (λ k. 1 ∷ k ∷ []) (one-first glyphs x j i f p))
 
   pub symbol_none : (named_numbers (symbol_for glyphs x) ≡ 0 ∷ []) ↔ Absent glyphs x
   symbol_none = by _ (spelt glyphs x)
     where
-      by : (n : Named) → Spelt glyphs x n → (named_numbers n ≡ 0 ∷ []) ↔ Absent glyphs x
+      by : (n : Option Symbol) → Spelt glyphs x n → (named_numbers n ≡ 0 ∷ []) ↔ Absent glyphs x
       by n (absent f) = ((λ e. f), λ g. refl)
       by n (first j f) = ((λ e. let z : ◌≡◌ {A = ℕ} 0 1 = cc in absurd (omega arith)), λ g. absurd (g j f.among f.small f.equal))
 
@@ -67,7 +66,7 @@ module _ (glyphs flags : List ℕ) (x : ℕ) where
   judged : Judged (allowed_on flags (symbol_for glyphs x))
   judged = by _ (spelt glyphs x)
     where
-      by : (n : Named) → Spelt glyphs x n → Judged (allowed_on flags n)
+      by : (n : Option Symbol) → Spelt glyphs x n → Judged (allowed_on flags n)
       by n (absent f) = not_allowed (missing f)
       by n (first i f) = pick_cases (eqb i 0) true (is_input flags (symbol_of i)) Judged
           (λ t. allowed (blank (subst (First glyphs x) (eqb-true i 0 t) f)))
@@ -94,26 +93,26 @@ module _ (glyphs flags word : List ℕ) where
 
   -- ---- 17, and its place
 
-  refused_says : (room i : ℕ) → encode_check glyphs flags word room ≡ Refused (Why.Glyph i) → FirstNotAllowed glyphs flags word i
+  refused_says : (room i : ℕ) → encode_check glyphs flags word room ≡ Err (Why.Glyph i) → FirstNotAllowed glyphs flags word i
   refused_says room i e =
       let f = refused_place glyphs flags word room i e in
       record { inside = f.inside; bad = (says i).1 f.bad; good = λ j h. (says j).0 (f.good j h) }
 
-  refused_holds : (room i : ℕ) → FirstNotAllowed glyphs flags word i → encode_check glyphs flags word room ≡ Refused (Why.Glyph i)
+  refused_holds : (room i : ℕ) → FirstNotAllowed glyphs flags word i → encode_check glyphs flags word room ≡ Err (Why.Glyph i)
   refused_holds room i f = by _ (answers glyphs flags word room)
     where
       wrong : allowed_at glyphs flags word i ≡ false
       wrong = (not_allowed_exact i).1 f.bad
 
-      by : (r : Checked) → Answers glyphs flags word room r → r ≡ Refused (Why.Glyph i)
+      by : (r : Result ⊤ Refusal) → Answers glyphs flags word room r → r ≡ Err (Why.Glyph i)
       by r (taken a h) = absurd (clash (a i f.inside) wrong)
       by r (short a h) = absurd (clash (a i f.inside) wrong)
-      by r (glyph j b) = ap (λ k. Refused (Why.Glyph k)) (same (dec_lt i j) (dec_lt j i))
+      by r (glyph j b) = ap (λ k. Err (Why.Glyph k)) (same (dec_lt i j) (dec_lt j i))
         where
           same : Dec (i < j) → Dec (j < i) → j ≡ i
           same (yes h) d = absurd (clash (b.good i h) wrong)
           same (no h) (yes g) = absurd (clash ((allowed_exact j).1 (f.good j g)) b.bad)
           same (no h) (no g) = omega arith
 
-  pub refused_exact : (room i : ℕ) → (encode_check glyphs flags word room ≡ Refused (Why.Glyph i)) ↔ FirstNotAllowed glyphs flags word i
+  pub refused_exact : (room i : ℕ) → (encode_check glyphs flags word room ≡ Err (Why.Glyph i)) ↔ FirstNotAllowed glyphs flags word i
   refused_exact room i = (refused_says room i, refused_holds room i)

@@ -1,12 +1,11 @@
 -- Engines as numbers, and a timeline's own numbers, as they cross the C boundary. Definitions only.
-use Rattle.std.specs.Prelude.{List, ℕ, ◌+◌, ltb, get_or, set}
+use Rattle.symbol.specs.declared.State.{State}
+use Rattle.std.specs.Prelude.{List, ℕ, ◌+◌, ltb, get_or, set, None, Option, Some}
 use Rattle.notation.specs.Choice.{pick}
 use Rattle.symbol.specs.Kinds.{state_of}
 use Rattle.machine.specs.declared.Machine.{Machine}
 use Rattle.tape.specs.declared.Tape.{Tape}
 use Rattle.sim.specs.declared.Simulator.{Simulator}
-use Rattle.run_rules.specs.declared.StopRule.{StopRule}
-use Rattle.run_rules.specs.declared.StopRule.TheVariants as Rule
 use Rattle.rle.specs.declared.ChainSim.{ChainSim}
 use Rattle.timeline_rule.specs.declared.Times.{Times}
 
@@ -35,8 +34,8 @@ unfoldable pub with_engine : List ℕ → Simulator → List ℕ
 with_engine xs v = with_tape (with_tape (with_tape (set xs 0 v.steps) 1 v.t0) 6 v.t1) 11 v.t2
 
 -- a number below 65536 is a `from` state; from 65536 on there is no rule
-abbrev pub rule_of : ℕ → StopRule
-rule_of n = pick (ltb n 65536) (Rule.From (state_of n)) Rule.Never
+abbrev pub rule_of : ℕ → Option State
+rule_of n = pick (ltb n 65536) (Some (state_of n)) None
 
 -- ---- a run-length engine: its state, the symbol under the head, and seven numbers: steps, macro steps, runs on the left, runs on the right, head, lowest, highest
 

@@ -1,13 +1,12 @@
 -- The effect of each C call of the plain engine: its result, the engine's numbers, the answer's values, and the cells. Definitions only.
-use Rattle.std.specs.Prelude.{◌≡◌, List, ℕ}
+use Rattle.outcome.specs.declared.Refusal.{Refusal}
+use Rattle.outcome.specs.declared.Outcome.{Outcome}
+use Rattle.std.specs.Prelude.{◌≡◌, List, ℕ, Err, Ok, Result}
 use Rattle.outcome.specs.Numbers.{refusal_number}
-use Rattle.run_rules.specs.declared.Answer.{Answer}
 use Rattle.sim.specs.declared.Simulator.{Simulator}
-use Rattle.sim.specs.declared.Fresh.{Fresh}
-use Rattle.sim.specs.declared.Fresh.TheVariants as New
 use Rattle.sim.specs.Model.Operations.{Given, StepGiven, Made}
 use Rattle.capi_engines.specs.Model.Engines.{with_engine}
-use Rattle.capi_numbers.specs.Model.Answers.{refused_out, answer_code, answer_out, step_code, step_out}
+use Rattle.capi_numbers.specs.Model.Answers.{refused_out, result_code, result_out, outcome_out, status_out}
 
 -- ---- calls that hand back an engine
 
@@ -24,24 +23,24 @@ abbrev pub call : (code state : ℕ) (engine out c0 c1 c2 : List ℕ) → Call
 call code state engine out c0 c1 c2 = record { code = code; state = state; engine = engine; out = out; c0 = c0; c1 = c1; c2 = c2 }
 
 -- the numbers that an engine v and an answer a leave: the result n, the state q, the engine's numbers ys for xs, and the values ts for os in `out`
-pub record HandedBack (v : Simulator) (a : Answer) (xs os : List ℕ) (n q : ℕ) (ys ts : List ℕ) : Type 0 where
-  pub code : n ≡ answer_code a
+pub record HandedBack (v : Simulator) (a : Result Outcome Refusal) (xs os : List ℕ) (n q : ℕ) (ys ts : List ℕ) : Type 0 where
+  pub code : n ≡ result_code a
   pub state : q ≡ v.state.0
   pub engine : ys ≡ with_engine xs v
-  pub out : ts ≡ answer_out a os
+  pub out : ts ≡ result_out outcome_out a os
 
 unfoldable pub ran_call : Given → (engine out : List ℕ) → Call
 ran_call g engine out =
-    call (answer_code g.answer) g.at.sim.state.0 (with_engine engine g.at.sim) (answer_out g.answer out) g.at.c0 g.at.c1 g.at.c2
+    call (result_code g.answer) g.at.sim.state.0 (with_engine engine g.at.sim) (result_out outcome_out g.answer out) g.at.c0 g.at.c1 g.at.c2
 
 unfoldable pub step_call : StepGiven → (engine out : List ℕ) → Call
 step_call g engine out =
-    call (step_code g.answer) g.at.sim.state.0 (with_engine engine g.at.sim) (step_out g.answer out) g.at.c0 g.at.c1 g.at.c2
+    call (result_code g.answer) g.at.sim.state.0 (with_engine engine g.at.sim) (result_out status_out g.answer out) g.at.c0 g.at.c1 g.at.c2
 
 -- a refused fresh engine leaves the numbers as they were
-abbrev pub new_on : Fresh → (state : ℕ) (engine out c0 c1 c2 : List ℕ) → Call
-new_on (New.Made v) q engine out c0 c1 c2 = call 0 v.state.0 (with_engine engine v) out c0 c1 c2
-new_on (New.Refused why) q engine out c0 c1 c2 = call (refusal_number why) q engine (refused_out why out) c0 c1 c2
+abbrev pub new_on : Result Simulator Refusal → (state : ℕ) (engine out c0 c1 c2 : List ℕ) → Call
+new_on (Ok v) q engine out c0 c1 c2 = call 0 v.state.0 (with_engine engine v) out c0 c1 c2
+new_on (Err why) q engine out c0 c1 c2 = call (refusal_number why) q engine (refused_out why out) c0 c1 c2
 
 unfoldable pub new_call : Made → (state : ℕ) (engine out : List ℕ) → Call
 new_call g q engine out = new_on g.answer q engine out g.c0 g.c1 g.c2

@@ -1,8 +1,7 @@
 -- Each operation's check is the first of its list of tests. Assumes nothing.
-use Rattle.std.specs.Prelude.{◌≡◌, Bool, true, false, List, [], ◌∷◌, ◌++◌, ℕ, ◌*◌, eqb, ltb, leb, length}
+use Rattle.std.specs.Prelude.{◌≡◌, Bool, true, false, List, [], ◌∷◌, ◌++◌, ℕ, ◌*◌, eqb, ltb, leb, length, Err, Ok, Option, Result, ⊤}
 use Rattle.std.proofs.Math.Path.{refl, ap}
 use Rattle.std.proofs.Common.{sym, ◌∙◌, arith, le-leb, leb-true}
-use Rattle.std.proofs.Math.Option.{Option}
 use Rattle.notation.specs.Choice.{pick, both}
 use Rattle.notation.proofs.Facts.Tests.{clash, by_test, pick_true, pick_false}
 use Rattle.notation.specs.Scan.{all_in, first_fail}
@@ -10,8 +9,6 @@ use Rattle.notation.proofs.Facts.Scan.{Scanned, clean, failed, scanned, all_says
 use Rattle.outcome.specs.declared.Refusal.{Refusal}
 use Rattle.outcome.specs.declared.Refusal.TheVariants as Why
 use Rattle.machine.specs.declared.Machine.{Machine}
-use Rattle.machine.specs.declared.Checked.{Checked}
-use Rattle.machine.specs.declared.Checked.TheVariants.{Accepted, Refused}
 use Rattle.machine.specs.Layout.{entry_count}
 use Rattle.machine.specs.Model.Check.{within, demand, checked_on, answer_at, entry_ok, entries_check, size_check, table_check}
 use Rattle.machine.specs.Model.Packing.{pack_check}
@@ -33,27 +30,27 @@ use Rattle.demands_first.specs.FirstTests.{table_tests, pack_tests, word_tests, 
 -- ---- an operation whose result depends on its check alone
 
 -- `on c` is its result where its check gives c
-pub turns : {X : Type 0} (numbers : List ℕ) (tests : List Test) (refusal : X → Checked) (as_it_was : Refusal → X) (on : Checked → X) (c : Checked)
-    → numbers_of tests ≡ numbers → c ≡ first_of tests → refusal (on Accepted) ≡ Accepted → ((why : Refusal) → on (Refused why) ≡ as_it_was why)
-    → ((why : Refusal) → refusal (as_it_was why) ≡ Refused why) → TurnsAway numbers tests refusal as_it_was (on c)
+pub turns : {X : Type 0} (numbers : List ℕ) (tests : List Test) (refusal : X → Result ⊤ Refusal) (as_it_was : Refusal → X) (on : Result ⊤ Refusal → X) (c : Result ⊤ Refusal)
+    → numbers_of tests ≡ numbers → c ≡ first_of tests → refusal (on (Ok tt)) ≡ Ok tt → ((why : Refusal) → on (Err why) ≡ as_it_was why)
+    → ((why : Refusal) → refusal (as_it_was why) ≡ Err why) → TurnsAway numbers tests refusal as_it_was (on c)
 turns numbers tests refusal as_it_was on c n e done kept says = record { numbered = n; first = by c ∙ e; unchanged = same c }
   where
-    by : (c : Checked) → refusal (on c) ≡ c
-    by Accepted = done
-    by (Refused why) = ap refusal (kept why) ∙ says why
+    by : (c : Result ⊤ Refusal) → refusal (on c) ≡ c
+    by (Ok tt) = done
+    by (Err why) = ap refusal (kept why) ∙ says why
 
-    same : (c : Checked) → (why : Refusal) → refusal (on c) ≡ Refused why → on c ≡ as_it_was why
-    same Accepted why h = let k : Accepted ≡ Refused why = sym done ∙ h in let z : ◌≡◌ {A = ℕ} 0 1 = cc in absurd (omega arith)
-    same (Refused r) why h = let k : Refused r ≡ Refused why = sym (by (Refused r)) ∙ h in let q : r ≡ why = cc in kept r ∙ ap as_it_was q
+    same : (c : Result ⊤ Refusal) → (why : Refusal) → refusal (on c) ≡ Err why → on c ≡ as_it_was why
+    same (Ok tt) why h = let k : (Ok tt) ≡ Err why = sym done ∙ h in let z : ◌≡◌ {A = ℕ} 0 1 = cc in absurd (omega arith)
+    same (Err r) why h = let k : Err r ≡ Err why = sym (by (Err r)) ∙ h in let q : r ≡ why = cc in kept r ∙ ap as_it_was q
 
 -- ---- one list after another
 
-pick_on : (b : Bool) (x y z : Checked) (r : Refusal) → checked_on x y ≡ z → checked_on (pick b x (Refused r)) y ≡ pick b z (Refused r)
+pick_on : (b : Bool) (x y z : Result ⊤ Refusal) (r : Refusal) → checked_on x y ≡ z → checked_on (pick b x (Err r)) y ≡ pick b z (Err r)
 unfolding pick
 pick_on true x y z r e = e
 pick_on false x y z r e = refl
 
-both_on : (a b : Bool) (r : Refusal) → checked_on (pick a Accepted (Refused r)) (pick b Accepted (Refused r)) ≡ pick (both a b) Accepted (Refused r)
+both_on : (a b : Bool) (r : Refusal) → checked_on (pick a (Ok tt) (Err r)) (pick b (Ok tt) (Err r)) ≡ pick (both a b) (Ok tt) (Err r)
 unfolding pick both
 both_on true b r = refl
 both_on false b r = refl
@@ -63,19 +60,19 @@ unfolding first_of
 first_add [] b = refl
 first_add (t ∷ a) b = pick_on t.holds (first_of a) (first_of b) (first_of (a ++ b)) t.why (first_add a b)
 
-pub on_first : (c d : Checked) (a b : List Test) → c ≡ first_of a → d ≡ first_of b → checked_on c d ≡ first_of (a ++ b)
+pub on_first : (c d : Result ⊤ Refusal) (a b : List Test) → c ≡ first_of a → d ≡ first_of b → checked_on c d ≡ first_of (a ++ b)
 on_first c d a b p q = (λ i. checked_on (p i) (q i)) ∙ first_add a b
 
-on_on : (a b c : Checked) → checked_on (checked_on a b) c ≡ checked_on a (checked_on b c)
-on_on (Refused why) b c = refl
-on_on Accepted b c = refl
+on_on : (a b c : Result ⊤ Refusal) → checked_on (checked_on a b) c ≡ checked_on a (checked_on b c)
+on_on (Err why) b c = refl
+on_on (Ok tt) b c = refl
 
 -- ---- 6, 10 and 17: the lowest number whose test fails
 
-scan-first : (p : ℕ → Bool) (n : ℕ) (why : ℕ → Refusal) → answer_at why (first_fail p n 0) ≡ pick (all_in p n 0) Accepted (Refused (why (lowest p n)))
+scan-first : (p : ℕ → Bool) (n : ℕ) (why : ℕ → Refusal) → answer_at why (first_fail p n 0) ≡ pick (all_in p n 0) (Ok tt) (Err (why (lowest p n)))
 scan-first p n why = by (first_fail p n 0) (scanned p n 0)
   where
-    by : (x : Option ℕ) → Scanned p n 0 x → answer_at why x ≡ pick (all_in p n 0) Accepted (Refused (why (number_or0 x)))
+    by : (x : Option ℕ) → Scanned p n 0 x → answer_at why x ≡ pick (all_in p n 0) (Ok tt) (Err (why (number_or0 x)))
     by x (clean h) = sym (pick_true _ _ _ (all_holds p n 0 h))
     by x (failed j a b z r) = sym (pick_false _ _ _ (by_test (all_in p n 0) (λ t. absurd (clash (all_says p n 0 t j a b) z)) (λ t. t)))
 
@@ -83,7 +80,7 @@ module _ (m : Machine) (s : List ℕ) where
   pub table_first : table_check m s ≡ first_of (table_tests m s)
   unfolding table_check size_check entries_check first_of
   table_first =
-      ap (λ (x : Checked). demand (within 1 3 m.tapes) Why.Tapes (demand (within 1 256 m.symbols) Why.Symbols (demand (within 1 65536 m.states) Why.States
+      ap (λ (x : Result ⊤ Refusal). demand (within 1 3 m.tapes) Why.Tapes (demand (within 1 256 m.symbols) Why.Symbols (demand (within 1 65536 m.states) Why.States
       (demand (ltb m.start m.states) Why.Start (demand (eqb (length s) (8 * entry_count m)) Why.TableSize x)))))
       (scan-first (entry_ok m s) (entry_count m) Why.Entry)
 
@@ -110,9 +107,9 @@ limit_same steps fuel =
     by_test (step_limit steps fuel) (λ t. fuel_passes steps fuel (leb-true _ _ t) ∙ sym t)
     (λ f. by_test (Sizes.fuel_fits steps fuel) (λ t. absurd (clash (le-leb _ _ (fuel_says steps fuel t)) f)) (λ t. t ∙ sym f))
 
-limit_first : (steps fuel : ℕ) → demand (Sizes.fuel_fits steps fuel) Why.StepLimit Accepted ≡ first_of (or (step_limit steps fuel) Why.StepLimit ∷ [])
+limit_first : (steps fuel : ℕ) → demand (Sizes.fuel_fits steps fuel) Why.StepLimit (Ok tt) ≡ first_of (or (step_limit steps fuel) Why.StepLimit ∷ [])
 unfolding first_of
-limit_first steps fuel = ap (λ (b : Bool). pick b Accepted (Refused Why.StepLimit)) (limit_same steps fuel)
+limit_first steps fuel = ap (λ (b : Bool). pick b (Ok tt) (Err Why.StepLimit)) (limit_same steps fuel)
 
 -- ---- the plain engine
 
@@ -148,7 +145,7 @@ module _ (m : Machine) (s : List ℕ) (σ : Plain.Conf) where
       (ap (demand (Sizes.words_right m s words) Why.PackedWords) (fuel_first fuel))
 
   -- 12 for the value, and 12 for the tape's number
-  ask_first : (i : ℕ) → checked_on (Plains.value_check m σ) (demand (ltb i m.tapes) Why.Misfit Accepted) ≡ first_of (sizes ∷ or (both fits.holds (ltb i m.tapes)) Why.Misfit ∷ [])
+  ask_first : (i : ℕ) → checked_on (Plains.value_check m σ) (demand (ltb i m.tapes) Why.Misfit (Ok tt)) ≡ first_of (sizes ∷ or (both fits.holds (ltb i m.tapes)) Why.Misfit ∷ [])
   unfolding Plains.value_check Sizes.sizes_fit first_of
   ask_first i = pick_on sizes.holds _ _ _ Why.BufferSize (both_on fits.holds (ltb i m.tapes) Why.Misfit)
 

@@ -1,5 +1,7 @@
 -- The run-length engine's runs that end for lack of space. Assumes nothing.
-use Rattle.std.specs.Prelude.{◌≡◌, refl, true, false, List, ℕ, ◌+◌, ◌-◌, ◌≤◌, ◌<◌, ◌^◌}
+use Rattle.symbol.specs.declared.State.{State}
+use Rattle.outcome.specs.declared.Refusal.{Refusal}
+use Rattle.std.specs.Prelude.{◌≡◌, refl, true, false, List, ℕ, ◌+◌, ◌-◌, ◌≤◌, ◌<◌, ◌^◌, Ok, Option, Result, ⊤}
 use Rattle.std.proofs.Common.{sym, ◌∙◌, arith, le-leb}
 use Rattle.std.proofs.Math.Path.{ap}
 use Rattle.notation.specs.Choice.{pick}
@@ -7,12 +9,8 @@ use Rattle.notation.proofs.Facts.Tests.{clash, both_true}
 use Rattle.outcome.specs.declared.Outcome.{Outcome}
 use Rattle.outcome.specs.declared.Outcome.TheVariants.{OutOfFuel, Full}
 use Rattle.machine.specs.declared.Machine.{Machine}
-use Rattle.machine.specs.declared.Checked.{Checked}
-use Rattle.machine.specs.declared.Checked.TheVariants.{Accepted}
 use Rattle.table_laws.specs.WellFormed.{Bytes}
 use Rattle.run_checks.specs.Model.Sizes.{fuel_fits}
-use Rattle.run_rules.specs.declared.StopRule.{StopRule}
-use Rattle.run_rules.specs.declared.Answer.TheVariants as Ans
 use Rattle.table_machine.specs.Tables.{table_of}
 use Rattle.sim.specs.Model.Engine.{task, matches}
 use Rattle.rle.specs.Model.Engine.{Conf, End, end, run_of}
@@ -30,7 +28,7 @@ use Rattle.demands_first.proofs.Facts.FirstSpace.{fuel_verdict}
 module _ (m : Machine) (s : List ℕ) (bytes : Bytes s) where
   -- ---- a run that answers full
 
-  module _ (rule : StopRule) (fuel : ℕ) (σ τ : Conf) (n : ℕ) (done : run_answer m s rule fuel σ ≡ given τ (Ans.Done (Full n))) where
+  module _ (rule : Option State) (fuel : ℕ) (σ τ : Conf) (n : ℕ) (done : run_answer m s rule fuel σ ≡ given τ (Ok (Full n))) where
     ran : Refines (task m s true rule) fuel σ (end τ (Full n))
     ran = (run_holds m s bytes rule fuel σ τ (Full n) done).refines
 
@@ -58,8 +56,8 @@ module _ (m : Machine) (s : List ℕ) (bytes : Bytes s) where
 
   -- ---- more fuel does not go past a full step
 
-  module _ (rule : StopRule) (a b : ℕ) (σ τ : Conf) (n : ℕ) (done : run_answer m s rule a σ ≡ given τ (Ans.Done (OutOfFuel n)))
-      (accepted : run_check m s (a + b) σ ≡ Accepted) (more : 0 < b) (unruled : matches rule τ.sim.state ≡ false) (next : ChainFull m s τ) where
+  module _ (rule : Option State) (a b : ℕ) (σ τ : Conf) (n : ℕ) (done : run_answer m s rule a σ ≡ given τ (Ok (OutOfFuel n)))
+      (accepted : run_check m s (a + b) σ ≡ Ok tt) (more : 0 < b) (unruled : matches rule τ.sim.state ≡ false) (next : ChainFull m s τ) where
     held : RunHolds m s rule a σ τ (OutOfFuel n)
     held = run_holds m s bytes rule a σ τ (OutOfFuel n) done
 
@@ -74,7 +72,7 @@ module _ (m : Machine) (s : List ℕ) (bytes : Bytes s) where
     going_on q (full x l h u r g) = let z : ◌≡◌ {A = ℕ} 0 1 = cc in absurd (omega arith)
 
     -- b more steps are within the limit
-    again_accepted : run_check m s b τ ≡ Accepted
+    again_accepted : run_check m s b τ ≡ Ok tt
     unfolding run_check fuel_fits pick
     again_accepted =
         let p = run_says m s σ (a + b) accepted in
@@ -87,13 +85,13 @@ module _ (m : Machine) (s : List ℕ) (bytes : Bytes s) where
     abbrev whole : End
     whole = run_of (task m s true rule) (a + b) σ
 
-    whole_is : run_answer m s rule (a + b) σ ≡ given whole.at (Ans.Done whole.outcome)
+    whole_is : run_answer m s rule (a + b) σ ≡ given whole.at (Ok whole.outcome)
     unfolding run_answer
-    whole_is = ap (λ (c : Checked). run_on c σ whole) accepted
+    whole_is = ap (λ (c : Result ⊤ Refusal). run_on c σ whole) accepted
 
-    pub chain_onward : (ω : Conf) × (run_answer m s rule (a + b) σ ≡ given ω (Ans.Done (Full n))) × Alike τ ω
+    pub chain_onward : (ω : Conf) × (run_answer m s rule (a + b) σ ≡ given ω (Ok (Full n))) × Alike τ ω
     chain_onward =
         let g = going_on refl held.refines.answers in
-        let stayed : run_answer m s rule b τ ≡ given τ (Ans.Done (Full τ.sim.steps)) = full_stays m s bytes b τ again_accepted rule more g.0 unruled next in
+        let stayed : run_answer m s rule b τ ≡ given τ (Ok (Full τ.sim.steps)) = full_stays m s bytes b τ again_accepted rule more g.0 unruled next in
         let p = cut_same m s bytes rule a b σ τ τ whole.at n (Full τ.sim.steps) whole.outcome done stayed whole_is in
-        (whole.at, whole_is ∙ ap (λ (o : Outcome). given whole.at (Ans.Done o)) (sym p.0 ∙ ap Full g.1), p.1)
+        (whole.at, whole_is ∙ ap (λ (o : Outcome). given whole.at (Ok o)) (sym p.0 ∙ ap Full g.1), p.1)

@@ -1,18 +1,15 @@
 -- The run-length engine under a timeline: its advance, and its reading of a slot. Assumes nothing.
-use Rattle.std.specs.Prelude.{◌≡◌, ◌↔◌, Bool, false, List, ℕ, ◌+◌, ◌≤◌, ◌<◌, drop}
+use Rattle.std.specs.Prelude.{◌≡◌, ◌↔◌, Bool, false, List, ℕ, ◌+◌, ◌≤◌, ◌<◌, drop, None, Ok, Some}
 use Rattle.std.proofs.Math.Path.{refl, ap, subst⁻¹}
 use Rattle.std.proofs.Common.{sym, ◌∙◌, subst, arith, eqb-true, eq-eqb, length-take}
 use Rattle.std.proofs.Math.Bool.{true}
-use Rattle.std.proofs.Math.Option.{none, some}
 use Rattle.notation.specs.Choice.{pick}
 use Rattle.notation.proofs.Facts.Tests.{clash, both_split, both_true}
 use Rattle.notation.specs.Limits.{steps_most}
 use Rattle.outcome.specs.declared.Outcome.{Outcome}
 use Rattle.outcome.specs.declared.Outcome.TheVariants.{Full}
 use Rattle.machine.specs.declared.Machine.{Machine}
-use Rattle.machine.specs.declared.Checked.TheVariants.{Accepted}
 use Rattle.table_laws.specs.WellFormed.{Bytes}
-use Rattle.run_rules.specs.declared.StopRule.TheVariants as Rule
 use Rattle.run_rules.specs.Model.Task.{Task, task}
 use Rattle.table_machine.specs.TableMachine.{Config, blank_tape}
 use Rattle.table_machine.specs.Tables.{table_of}
@@ -40,9 +37,9 @@ use Rattle.demands_first.proofs.Facts.FirstTimelineSpace.{there_is, there_says, 
 
 -- ---- an advance
 
-module _ (m : Machine) (s : List ℕ) (bytes : Bytes s) (n : ℕ) (σ : Conf) (checked : engine_check m s σ ≡ Accepted) (small : σ.sim.steps + n ≤ steps_most) where
+module _ (m : Machine) (s : List ℕ) (bytes : Bytes s) (n : ℕ) (σ : Conf) (checked : engine_check m s σ ≡ Ok tt) (small : σ.sim.steps + n ≤ steps_most) where
   abbrev quiet : Task
-  quiet = task m s false Rule.Never
+  quiet = task m s false None
 
   abbrev ending : End
   ending = run_of quiet n σ
@@ -51,7 +48,7 @@ module _ (m : Machine) (s : List ℕ) (bytes : Bytes s) (n : ℕ) (σ : Conf) (c
   p = engine_says m s σ checked
 
   ran : Refines quiet n σ ending
-  ran = chain_refines m s bytes p.table p.single false Rule.Never n σ p.fits small
+  ran = chain_refines m s bytes p.table p.single false None n σ p.fits small
 
   fits : ChainFits m ending.at
   fits = ran.went.kept.fits
@@ -59,7 +56,7 @@ module _ (m : Machine) (s : List ℕ) (bytes : Bytes s) (n : ℕ) (σ : Conf) (c
   -- the never test's verdict there is not Full
   asked : (j : ℕ) → ¬ ((ran_from m s true 0 ending.at).outcome ≡ Full j)
   unfolding ran_from
-  asked j = not_full_verdict _ _ _ _ (no_fuel_verdict (task m s true Rule.Never) (accepted_table m s bytes p.table) p.single ending.at fits refl) j
+  asked j = not_full_verdict _ _ _ _ (no_fuel_verdict (task m s true None) (accepted_table m s bytes p.table) p.single ending.at fits refl) j
 
   full_by : {o : Outcome} → Answers quiet n ran.made ending.at o → (j : ℕ) → verdict_or o (ran_from m s true 0 ending.at).outcome ≡ Full j
       → (ran.made < n) × (j ≡ ending.at.sim.steps) × ChainFull m s ending.at
@@ -134,7 +131,7 @@ module _ (m : Machine) (b : List ℕ) (σ : Conf) where
     got_config : config_of got ≡ config_of h
     got_config = λ i. config_with h (lefts_live i) (rights_live i)
 
-  got_read : (s : List ℕ) (p : ℕ) (r : Conf) → engine_check m s σ ≡ Accepted → pick (test p) (some got) none ≡ some r → ReadBack chain_kind chain_meaning m s b p σ r
+  got_read : (s : List ℕ) (p : ℕ) (r : Conf) → engine_check m s σ ≡ Ok tt → pick (test p) (Some got) None ≡ Some r → ReadBack chain_kind chain_meaning m s b p σ r
   unfolding unpacked
   got_read s p r c q =
       let t = there_says (test p) got r q in

@@ -1,5 +1,5 @@
 -- The plain engine under a timeline: its advance, and its reading of a slot. Assumes nothing.
-use Rattle.std.specs.Prelude.{◌≡◌, ◌↔◌, Bool, List, ℕ, ◌+◌, ◌≤◌, ◌<◌, length, take, drop, get_or}
+use Rattle.std.specs.Prelude.{◌≡◌, ◌↔◌, Bool, List, ℕ, ◌+◌, ◌≤◌, ◌<◌, length, take, drop, get_or, None, Ok}
 use Rattle.std.proofs.Math.Path.{refl, sym, ap, subst, subst⁻¹}
 use Rattle.std.proofs.Common.{◌∙◌, arith, eqb-true, eq-eqb, length-take, get_or-take}
 use Rattle.std.proofs.Math.Bool.{true, false}
@@ -11,13 +11,11 @@ use Rattle.notation.specs.Limits.{steps_most}
 use Rattle.outcome.specs.declared.Outcome.{Outcome}
 use Rattle.outcome.specs.declared.Outcome.TheVariants.{Full}
 use Rattle.machine.specs.declared.Machine.{Machine}
-use Rattle.machine.specs.declared.Checked.TheVariants.{Accepted}
 use Rattle.table_laws.specs.WellFormed.{Bytes}
 use Rattle.tape.specs.declared.Tape.{Tape}
 use Rattle.tape.specs.Model.Moves.{held, no_tape}
 use Rattle.tape.specs.Fits.{tape_fits}
 use Rattle.tape.proofs.Facts.Fits.{fits_says}
-use Rattle.run_rules.specs.declared.StopRule.TheVariants as Rule
 use Rattle.table_machine.specs.TableMachine.{entry, run}
 use Rattle.table_machine.specs.Tables.{table_of}
 use Rattle.table_machine.proofs.Facts.Table.{accepted_table}
@@ -50,9 +48,9 @@ use Rattle.demands_first.proofs.Facts.FirstTimelineSpace.{there_is, there_says, 
 
 -- ---- an advance
 
-module _ (m : Machine) (s : List ℕ) (bytes : Bytes s) (n : ℕ) (σ : Conf) (checked : engine_check m s σ ≡ Accepted) (small : σ.sim.steps + n ≤ steps_most) where
+module _ (m : Machine) (s : List ℕ) (bytes : Bytes s) (n : ℕ) (σ : Conf) (checked : engine_check m s σ ≡ Ok tt) (small : σ.sim.steps + n ≤ steps_most) where
   abbrev quiet : Task
-  quiet = task m s false Rule.Never
+  quiet = task m s false None
 
   abbrev ending : End
   ending = run_of quiet n (bare_of m σ)
@@ -65,7 +63,7 @@ module _ (m : Machine) (s : List ℕ) (bytes : Bytes s) (n : ℕ) (σ : Conf) (c
 
   ran : Refines quiet n (bare_of m σ) ending
   unfolding bare_sim
-  ran = plain_refines m s bytes p.table false Rule.Never n (bare_of m σ) (bare_fits m σ p.fits) small
+  ran = plain_refines m s bytes p.table false None n (bare_of m σ) (bare_fits m σ p.fits) small
 
   here : bare_of m back ≡ ending.at
   here = bare_back m σ ending.at ran.went.kept.fits
@@ -79,7 +77,7 @@ module _ (m : Machine) (s : List ℕ) (bytes : Bytes s) (n : ℕ) (σ : Conf) (c
   -- the never test's verdict there is not Full
   asked : (j : ℕ) → ¬ ((ran_from m s true 0 back).outcome ≡ Full j)
   unfolding ran_from
-  asked j = not_full_verdict _ _ _ _ ((verdict_exact (task m s true Rule.Never) refl (bare_of m back) bare_again _).1 refl) j
+  asked j = not_full_verdict _ _ _ _ ((verdict_exact (task m s true None) refl (bare_of m back) bare_again _).1 refl) j
 
   full_by : {o : Outcome} → Answers quiet n ran.made (bare_of m σ) ending.at o → (j : ℕ) → verdict_or o (ran_from m s true 0 back).outcome ≡ Full j
       → (ran.made < n) × (j ≡ ending.at.sim.steps) × PlainFull m s back
@@ -198,7 +196,7 @@ module _ (m : Machine) (b : List ℕ) (σ : Conf) where
     abbrev got : Conf
     got = filled m b v σ.c0 σ.c1 σ.c2
 
-    got_accepted : engine_check m s got ≡ Accepted
+    got_accepted : engine_check m s got ≡ Ok tt
     unfolding filled fill_if pick
     got_accepted = check_holds m s got (record {
       table = passed.table;

@@ -1,5 +1,5 @@
 -- The plain engine's rule of a full step, and the tests of its run and its step. Assumes nothing.
-use Rattle.std.specs.Prelude.{◌≡◌, refl, false, List, ℕ, suc}
+use Rattle.std.specs.Prelude.{◌≡◌, refl, false, List, ℕ, suc, None, Option, Some}
 use Rattle.std.proofs.Common.{ap, ◌∙◌, subst, arith}
 use Rattle.std.proofs.Math.Path.{subst⁻¹}
 use Rattle.notation.specs.Choice.{pick}
@@ -9,11 +9,8 @@ use Rattle.outcome.specs.declared.Outcome.TheVariants.{OutOfFuel}
 use Rattle.outcome.specs.declared.Status.TheVariants as Step
 use Rattle.machine.specs.declared.Machine.{Machine}
 use Rattle.machine.specs.declared.Action.{Action}
-use Rattle.machine.specs.declared.Entry.{Entry}
-use Rattle.machine.specs.declared.Entry.TheVariants.{Defined}
 use Rattle.run_checks.specs.declared.inner.look.Look.{Look}
 use Rattle.run_checks.specs.declared.inner.look.Look.TheVariants.{Halt, Never, Go}
-use Rattle.run_rules.specs.declared.StopRule.TheVariants as Rule
 use Rattle.table_machine.specs.TableMachine.{Table, Config, entry, out_of_fuel_at, Verdict, halts, stays, walks, goes}
 use Rattle.table_machine.specs.Tables.{table_of, TableOf}
 use Rattle.table_machine.proofs.Facts.Run.{not_defined}
@@ -29,24 +26,24 @@ use Rattle.sim_timeline_laws.proofs.Facts.Step.{step_room, step_full, mean_bare}
 -- ---- the engine: a step lacks space on one of its tapes
 
 -- a full step has an entry
-pub full_act : (m : Machine) (s : List ℕ) (σ : Conf) → NoRoom m s (mean_of m σ) → (a : Action) × (entry (table_of m s) (config_of m σ) ≡ Defined a)
+pub full_act : (m : Machine) (s : List ℕ) (σ : Conf) → NoRoom m s (mean_of m σ) → (a : Action) × (entry (table_of m s) (config_of m σ) ≡ Some a)
 unfolding mean_of
 full_act m s σ g = (g.0, g.1)
 
 module _ (m : Machine) (s : List ℕ) (table : TableOf m (table_of m s)) (σ : Conf) (f : EngineFits m (bare_of m σ)) where
-  pub lacks_some : (a : Action) → entry (table_of m s) (config_of m (bare_of m σ)) ≡ Defined a → roomy_of (bare_of m σ) a ≡ false → NoRoom m s (mean_of m σ)
+  pub lacks_some : (a : Action) → entry (table_of m s) (config_of m (bare_of m σ)) ≡ Some a → roomy_of (bare_of m σ) a ≡ false → NoRoom m s (mean_of m σ)
   lacks_some a e r = subst (NoRoom m s) (mean_bare m σ) (step_full m s table (bare_of m σ) f a e r)
 
-  pub some_lacks : (a : Action) → entry (table_of m s) (config_of m (bare_of m σ)) ≡ Defined a → NoRoom m s (mean_of m σ) → roomy_of (bare_of m σ) a ≡ false
+  pub some_lacks : (a : Action) → entry (table_of m s) (config_of m (bare_of m σ)) ≡ Some a → NoRoom m s (mean_of m σ) → roomy_of (bare_of m σ) a ≡ false
   some_lacks a e g =
       by_test (roomy_of (bare_of m σ) a) (λ t. absurd (step_room m s table (bare_of m σ) f a e t (subst⁻¹ (NoRoom m s) (mean_bare m σ) g))) (λ n. n)
 
 -- ---- a run, and a step, whose next step is full
 
-same-act : (x : Entry) (a b : Action) → x ≡ Defined b → x ≡ Defined a → b ≡ a
+same-act : (x : Option Action) (a b : Action) → x ≡ Some b → x ≡ Some a → b ≡ a
 same-act x a b h g = cc
 
-module _ (k : Task) (σ : Conf) (f : EngineFits k.machine σ) (a : Action) (reads : entry (table_in k) (held_by k σ) ≡ Defined a)
+module _ (k : Task) (σ : Conf) (f : EngineFits k.machine σ) (a : Action) (reads : entry (table_in k) (held_by k σ) ≡ Some a)
     (going : Judged k (held_by k σ) (out_of_fuel_at (held_by k σ))) (lacks : roomy_of σ a ≡ false) where
   pub full_ends : (fuel : ℕ) → run_of k (suc fuel) σ ≡ full_end σ
   unfolding run_of run_with
@@ -61,12 +58,12 @@ module _ (k : Task) (σ : Conf) (f : EngineFits k.machine σ) (a : Action) (read
       by (goes_on b e u) = let q : b ≡ a = same-act (entry (table_in k) (held_by k σ)) a b e reads in pick_false _ _ _ (ap (roomy_of σ) q ∙ lacks)
 
 -- the step makes no never test
-pub full_once : (m : Machine) (s : List ℕ) (σ : Conf) → EngineFits m σ → (a : Action) → entry (table_of m s) (config_of m σ) ≡ Defined a → roomy_of σ a ≡ false
+pub full_once : (m : Machine) (s : List ℕ) (σ : Conf) → EngineFits m σ → (a : Action) → entry (table_of m s) (config_of m σ) ≡ Some a → roomy_of σ a ≡ false
     → once_of m s σ ≡ once σ Step.Full
 unfolding once_of
-full_once m s σ f a reads lacks = by (look_sees (task m s false Rule.Never) σ f)
+full_once m s σ f a reads lacks = by (look_sees (task m s false None) σ f)
   where
-    by : {l : Look} → Sees (task m s false Rule.Never) (config_of m σ) l
+    by : {l : Look} → Sees (task m s false None) (config_of m σ) l
         → on_look l (once σ Step.Halted) (λ p. once σ Step.Halted) (λ b. pick (roomy_of σ b) (once (step_of σ b) Step.Running) (once σ Step.Full)) ≡ once σ Step.Full
     by (no_entry h) = absurd (not_defined _ a h reads)
     by (loops p t v) = absurd (clash t refl)

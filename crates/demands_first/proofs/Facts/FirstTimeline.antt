@@ -1,9 +1,8 @@
 -- A timeline over any kind of engine refuses by its lists of tests, and a refusal changes nothing. Assumes nothing.
 use Rattle.std.proofs.Math.Path.{◌≡◌, refl, sym, ap, subst⁻¹}
 use Rattle.std.proofs.Common.{◌∙◌, subst, arith}
-use Rattle.std.specs.Prelude.{Bool, ℕ, max, eqb, ltb, leb}
+use Rattle.std.specs.Prelude.{Bool, ℕ, max, eqb, ltb, leb, Err, None, Ok, Option, Result, Some, ⊤}
 use Rattle.std.proofs.Math.Bool.{true}
-use Rattle.std.proofs.Math.Option.{Option, none, some}
 use mathlib.Core.List.{List, [], ◌∷◌, ◌++◌, append_assoc}
 use borrow.Author.Tests.{eqb-true, le-ltb}
 use Rattle.notation.specs.Choice.{pick}
@@ -14,15 +13,14 @@ use Rattle.outcome.specs.declared.Refusal.{Refusal}
 use Rattle.outcome.specs.declared.Refusal.TheVariants as Why
 use Rattle.outcome.specs.Numbers.{refusal_number}
 use Rattle.machine.specs.declared.Machine.{Machine}
-use Rattle.machine.specs.declared.Checked.{Checked}
-use Rattle.machine.specs.declared.Checked.TheVariants.{Accepted, Refused}
 use Rattle.machine.specs.Model.Check.{checked_on}
 use Rattle.table_laws.specs.WellFormed.{Bytes}
 use Rattle.sim.specs.Model.Engine.{Conf}
 use Rattle.sim.specs.Model.Operations.{engine_check}
 use Rattle.store_bytes.specs.Model.{slot_count}
 use Rattle.timeline_rule.specs.Model.Engine.{Ops}
-use Rattle.timeline_rule.specs.Model.Timeline.{Call, Reply, refused, target, new_ok, times_ok, slot_for, slot_step, go_on, from_slot, go_back, stay, go_to, call_check, on_check, call, new_check, born, on_new, new}
+use Rattle.timeline_rule.specs.declared.Call.{Call}
+use Rattle.timeline_rule.specs.Model.Timeline.{Reply, refused, target, new_ok, times_ok, slot_for, slot_step, go_on, from_slot, go_back, stay, go_to, call_check, on_check, call, new_check, born, on_new, new}
 use Rattle.timeline_rule.specs.Model.Kind.{Kind, TimelineOf, ops_for, new_on, call_on, store_after, new_with}
 use Rattle.demands_first.specs.FirstClaims.{Test, or, first_of, numbers_of, TurnsAway}
 use Rattle.demands_first.specs.FirstTests.{table_tests, plain_sizes, plain_fits}
@@ -39,19 +37,19 @@ numbers_add [] b = refl
 numbers_add (t ∷ a) b = ap (λ l. refusal_number t.why ∷ l) (numbers_add a b)
 
 -- `on Accepted` is the result where the tests a all pass; b is the list of the tests after them
-turns-after : {X : Type 0} (na nb : List ℕ) (a b : List Test) (refusal : X → Checked) (as_it_was : Refusal → X) (on : Checked → X) (c : Checked)
-    → numbers_of a ≡ na → c ≡ first_of a → TurnsAway nb b refusal as_it_was (on Accepted) → ((why : Refusal) → on (Refused why) ≡ as_it_was why)
-    → ((why : Refusal) → refusal (as_it_was why) ≡ Refused why) → TurnsAway (na ++ nb) (a ++ b) refusal as_it_was (on c)
+turns-after : {X : Type 0} (na nb : List ℕ) (a b : List Test) (refusal : X → Result ⊤ Refusal) (as_it_was : Refusal → X) (on : Result ⊤ Refusal → X) (c : Result ⊤ Refusal)
+    → numbers_of a ≡ na → c ≡ first_of a → TurnsAway nb b refusal as_it_was (on (Ok tt)) → ((why : Refusal) → on (Err why) ≡ as_it_was why)
+    → ((why : Refusal) → refusal (as_it_was why) ≡ Err why) → TurnsAway (na ++ nb) (a ++ b) refusal as_it_was (on c)
 turns-after na nb a b refusal as_it_was on c n e last kept says =
     record { numbered = numbers_add a b ∙ (λ i. n i ++ last.numbered i); first = by c ∙ on_first c (first_of b) a b e refl; unchanged = same c }
   where
-    by : (c : Checked) → refusal (on c) ≡ checked_on c (first_of b)
-    by Accepted = last.first
-    by (Refused why) = ap refusal (kept why) ∙ says why
+    by : (c : Result ⊤ Refusal) → refusal (on c) ≡ checked_on c (first_of b)
+    by (Ok tt) = last.first
+    by (Err why) = ap refusal (kept why) ∙ says why
 
-    same : (c : Checked) → (why : Refusal) → refusal (on c) ≡ Refused why → on c ≡ as_it_was why
-    same Accepted why h = last.unchanged why h
-    same (Refused r) why h = let k : Refused r ≡ Refused why = sym (by (Refused r)) ∙ h in let q : r ≡ why = cc in kept r ∙ ap as_it_was q
+    same : (c : Result ⊤ Refusal) → (why : Refusal) → refusal (on c) ≡ Err why → on c ≡ as_it_was why
+    same (Ok tt) why h = last.unchanged why h
+    same (Err r) why h = let k : Err r ≡ Err why = sym (by (Err r)) ∙ h in let q : r ≡ why = cc in kept r ∙ ap as_it_was q
 
 module _ (X : Kind) (numbers : List ℕ) (engine_tests : Machine → (table : List ℕ) → X.State → List Test)
     (numbered : (m : Machine) (s : List ℕ) (e : X.State) → numbers_of (engine_tests m s e) ≡ numbers)
@@ -88,24 +86,24 @@ module _ (X : Kind) (numbers : List ℕ) (engine_tests : Machine → (table : Li
       abbrev GoesTo : ℕ → Bool → Left → Type 0
       GoesTo t b x = TurnsAway (16 ∷ []) (or b Why.Slot ∷ []) (λ (x : Left). of_reply x.0) (λ why. (refused why, w)) x
 
-      goes : (t : ℕ) (b : Bool) (x : Left) → b ≡ true → of_reply x.0 ≡ Accepted → GoesTo t b x
+      goes : (t : ℕ) (b : Bool) (x : Left) → b ≡ true → of_reply x.0 ≡ Ok tt → GoesTo t b x
       unfolding numbers_of first_of
       goes t b x e a = record {
         numbered = refl;
         first = a ∙ sym (pick_true b _ _ e);
-        unchanged = λ why h. let k : Accepted ≡ Refused why = sym a ∙ h in let z : ◌≡◌ {A = ℕ} 0 1 = cc in absurd (omega arith);
+        unchanged = λ why h. let k : (Ok tt) ≡ Err why = sym a ∙ h in let z : ◌≡◌ {A = ℕ} 0 1 = cc in absurd (omega arith);
       }
 
-      on_goes : (t : ℕ) (v : TimelineOf X) → of_reply (go_on P t v).0 ≡ Accepted
+      on_goes : (t : ℕ) (v : TimelineOf X) → of_reply (go_on P t v).0 ≡ Ok tt
       unfolding go_on
       on_goes t v = refl
 
       from_slot_lem : (t : ℕ) (x : Option X.State) → GoesTo t (is_there x) (from_slot P t w x)
       unfolding numbers_of first_of pick
-      from_slot_lem t none = record { numbered = refl; first = refl; unchanged = λ why h. let q : Why.Slot ≡ why = cc in ap (λ r. (refused r, w)) q }
-      from_slot_lem t (some e) = goes t true _ refl (on_goes t _)
+      from_slot_lem t None = record { numbered = refl; first = refl; unchanged = λ why h. let q : Why.Slot ≡ why = cc in ap (λ r. (refused r, w)) q }
+      from_slot_lem t (Some e) = goes t true _ refl (on_goes t _)
 
-      stay_goes : of_reply (stay P w).0 ≡ Accepted
+      stay_goes : of_reply (stay P w).0 ≡ Ok tt
       unfolding stay
       stay_goes = refl
 

@@ -1,8 +1,7 @@
 -- A timeline's call that ends for lack of space, over any kind of engine: its loop makes advances. Assumes nothing.
-use Rattle.std.specs.Prelude.{◌≡◌, ◌↔◌, Bool, true, false, List, eqb, ltb}
+use Rattle.std.specs.Prelude.{◌≡◌, ◌↔◌, Bool, true, false, List, eqb, ltb, Err, None, Ok, Option, Result, Some, ⊤}
 use Rattle.std.proofs.Math.Path.{refl, ap, subst, subst⁻¹}
 use Rattle.std.proofs.Common.{sym, ◌∙◌, arith, lt-ltb, ltb-true, ltb-false}
-use Rattle.std.proofs.Math.Option.{Option, none, some}
 use Prim.Native.Nat.{ℕ, zero, suc, ◌+◌, ◌-◌, ◌*◌, ◌≤◌, ◌<◌}
 use Rattle.notation.specs.Choice.{pick}
 use Rattle.notation.proofs.Facts.Tests.{by_test, pick_cases, pick_true, pick_false}
@@ -11,14 +10,13 @@ use Rattle.outcome.specs.declared.Outcome.{Outcome}
 use Rattle.outcome.specs.declared.Outcome.TheVariants.{Full}
 use Rattle.outcome.specs.declared.Refusal.{Refusal}
 use Rattle.machine.specs.declared.Machine.{Machine}
-use Rattle.machine.specs.declared.Checked.{Checked}
-use Rattle.machine.specs.declared.Checked.TheVariants.{Accepted, Refused}
 use Rattle.table_machine.specs.TableMachine.{run}
 use Rattle.table_machine.specs.Tables.{table_of}
 use Rattle.table_machine.proofs.Facts.Run.{run_add}
 use Rattle.store_bytes.specs.Model.{slot_of}
 use Rattle.timeline_rule.specs.Model.Engine.{Ops}
-use Rattle.timeline_rule.specs.Model.Timeline.{Call, Reply, refused, answered, target, slot_for, slot_step, ended, record_due, with_engine, stop_at, stride, turned, advance_to, gas_for, go_on, from_slot, go_back, stay, go_to, on_check, call}
+use Rattle.timeline_rule.specs.declared.Call.{Call}
+use Rattle.timeline_rule.specs.Model.Timeline.{Reply, refused, answered, target, slot_for, slot_step, ended, record_due, with_engine, stop_at, stride, turned, advance_to, gas_for, go_on, from_slot, go_back, stay, go_to, on_check, call}
 use Rattle.timeline_rule.proofs.Facts.Loop.{not_done, record_engine}
 use Rattle.timeline_rule.proofs.Facts.GoCases.{back_small, call_says}
 use Rattle.timeline_rule.proofs.Facts.CheckCases.{times_shape}
@@ -29,12 +27,12 @@ use Rattle.demands_first.specs.FirstSpace.{StopsFull}
 
 -- ---- a slot that is read where its test passes
 
-pub there_is : {A : Type 0} (b : Bool) (x : A) → is_there (pick b (some x) none) ≡ b
+pub there_is : {A : Type 0} (b : Bool) (x : A) → is_there (pick b (Some x) None) ≡ b
 unfolding pick
 there_is true x = refl
 there_is false x = refl
 
-pub there_says : {A : Type 0} (b : Bool) (x r : A) → pick b (some x) none ≡ some r → (b ≡ true) × (x ≡ r)
+pub there_says : {A : Type 0} (b : Bool) (x r : A) → pick b (Some x) None ≡ Some r → (b ≡ true) × (x ≡ r)
 unfolding pick
 there_says true x r q = (refl, cc)
 there_says false x r q = let z : ◌≡◌ {A = ℕ} 0 1 = cc in absurd (omega arith)
@@ -51,22 +49,22 @@ module _ (X : Kind) (M : Meaning X) (m : Machine) (s : List ℕ) where
   pub record Advanced (n : ℕ) (e : X.State) (o : Outcome) (e' : X.State) : Type 0 where
     pub made : ℕ
     pub within : made ≤ n
-    pub accepted : X.check m s e' ≡ Accepted
+    pub accepted : X.check m s e' ≡ Ok tt
     pub counted : X.now e' ≡ X.now e + made
     pub holds : M.config m e' ≡ run (table_of m s) made (M.config m e)
     pub full : (k : ℕ) → o ≡ Full k → (made < n) × (k ≡ X.now e') × M.NextFull m s e'
 
   -- r was read from a slot's bytes for step p into the buffers of e
   pub record ReadBack (b : List ℕ) (p : ℕ) (e r : X.State) : Type 0 where
-    pub accepted : X.check m s r ≡ Accepted
+    pub accepted : X.check m s r ≡ Ok tt
     pub at_step : X.now r ≡ p
     pub holds : M.config m r ≡ M.config m (M.shown m b e)
 
   pub record Engine : Type 0 where
     pub now_is : (e : X.State) → X.now e ≡ (M.config m e).steps
-    pub low : (e : X.State) → X.check m s e ≡ Accepted → X.now e ≤ steps_most
-    pub advances : (n : ℕ) (e : X.State) → X.check m s e ≡ Accepted → X.now e + n ≤ steps_most → Advanced n e (X.advance m s n e).0 (X.advance m s n e).1
-    pub reads : (b : List ℕ) (p : ℕ) (e r : X.State) → X.check m s e ≡ Accepted → X.unpack m b p e ≡ some r → ReadBack b p e r
+    pub low : (e : X.State) → X.check m s e ≡ Ok tt → X.now e ≤ steps_most
+    pub advances : (n : ℕ) (e : X.State) → X.check m s e ≡ Ok tt → X.now e + n ≤ steps_most → Advanced n e (X.advance m s n e).0 (X.advance m s n e).1
+    pub reads : (b : List ℕ) (p : ℕ) (e r : X.State) → X.check m s e ≡ Ok tt → X.unpack m b p e ≡ Some r → ReadBack b p e r
     pub slots : Slots X M m
 
 -- ---- the slot to go back to
@@ -99,7 +97,7 @@ module _ (X : Kind) (M : Meaning X) (m : Machine) (s : List ℕ) (E : Engine X M
   Stops t n e e' = StopsFull (table_of m s) (M.config m e) (M.config m e') t n (M.NextFull m s e')
 
   -- an advance of no steps is not full
-  still : (e : X.State) → X.check m s e ≡ Accepted → (n : ℕ) → (X.advance m s 0 e).0 ≡ Full n → ⊥
+  still : (e : X.State) → X.check m s e ≡ Ok tt → (n : ℕ) → (X.advance m s 0 e).0 ≡ Full n → ⊥
   still e a n q =
       let l = E.low e a in
       let f = (E.advances 0 e a (omega arith)).full n q in
@@ -136,7 +134,7 @@ module _ (X : Kind) (M : Meaning X) (m : Machine) (s : List ℕ) (E : Engine X M
     abbrev O : Ops Outcome
     O = ops_of X m s size
 
-    module _ (t : ℕ) (w : TimelineOf X) (accepted : X.check m s w.engine ≡ Accepted) (below : X.now w.engine ≤ t) (top : t ≤ steps_most) where
+    module _ (t : ℕ) (w : TimelineOf X) (accepted : X.check m s w.engine ≡ Ok tt) (below : X.now w.engine ≤ t) (top : t ≤ steps_most) where
       abbrev e : X.State
       e = (record_due O w).engine
 
@@ -165,7 +163,7 @@ module _ (X : Kind) (M : Meaning X) (m : Machine) (s : List ℕ) (E : Engine X M
       turn_goes : (x : Outcome × TimelineOf X) → ((n : ℕ) → x.0 ≡ Full n → Stops t n (turned O t w).engine x.1.engine) → Claim x
       turn_goes x rest n q = from_here n _ (advance_then t j e _ _ short leg n _ (rest n q))
 
-    loop_stops : (gas t : ℕ) (w : TimelineOf X) → X.check m s w.engine ≡ Accepted → X.now w.engine ≤ t → t ≤ steps_most
+    loop_stops : (gas t : ℕ) (w : TimelineOf X) → X.check m s w.engine ≡ Ok tt → X.now w.engine ≤ t → t ≤ steps_most
         → (n : ℕ) → (advance_to O gas t w).0 ≡ Full n → Stops t n w.engine (advance_to O gas t w).1.engine
     unfolding advance_to
     loop_stops zero t w a l h = λ n q. absurd (still w.engine a n q)
@@ -177,7 +175,7 @@ module _ (X : Kind) (M : Meaning X) (m : Machine) (s : List ℕ) (E : Engine X M
 
     -- ---- go on, from an accepted engine
 
-    on_stops : (t : ℕ) (w : TimelineOf X) → X.check m s w.engine ≡ Accepted → X.now w.engine ≤ t → t ≤ steps_most
+    on_stops : (t : ℕ) (w : TimelineOf X) → X.check m s w.engine ≡ Ok tt → X.now w.engine ≤ t → t ≤ steps_most
         → (n : ℕ) (w' : TimelineOf X) → go_on O t w ≡ (answered (Full n), w') → Stops t n w.engine w'.engine
     unfolding go_on
     on_stops t w a l h n w' q =
@@ -201,13 +199,13 @@ module _ (X : Kind) (M : Meaning X) (m : Machine) (s : List ℕ) (E : Engine X M
         let k = ap (λ (x : Reply Outcome × TimelineOf X). x.0) q in
         let z : ◌≡◌ {A = ℕ} 0 1 = cc in omega arith
 
-    module _ (t : ℕ) (accepted : X.check m s w.engine ≡ Accepted) (start : w.times.first ≤ t) (top : t ≤ steps_most) where
+    module _ (t : ℕ) (accepted : X.check m s w.engine ≡ Ok tt) (start : w.times.first ≤ t) (top : t ≤ steps_most) where
       abbrev bytes : List ℕ
       bytes = slot_of (X.slot_size m w.engine) (slot_for t w.times) w.store
 
       from_slot_lem : (x : Option X.State) → X.unpack m bytes (slot_step t w.times) w.engine ≡ x → Says t (slot_engine X M m w t) (from_slot P t w x)
-      from_slot_lem none u q = absurd (not_refused _ w q)
-      from_slot_lem (some r) u q =
+      from_slot_lem None u q = absurd (not_refused _ w q)
+      from_slot_lem (Some r) u q =
           let b = E.reads bytes (slot_step t w.times) w.engine r accepted u in
           let l : X.now r ≤ t = omega (arith, b.at_step, back_small w.times t (slot_for t w.times) refl start) in
           subst (λ c. StopsFull (table_of m s) c (M.config m w'.engine) t n (M.NextFull m s w'.engine))
@@ -234,9 +232,9 @@ module _ (X : Kind) (M : Meaning X) (m : Machine) (s : List ℕ) (E : Engine X M
           (λ l q. subst⁻¹ (λ e. Stops t n e w'.engine) (pick_false _ _ _ l)
           (on_stops (X.slot_size m w.engine) t w accepted (ltb-false t (X.now w.engine) l) top n w' q)))
 
-    accepted_call : (c : Checked) (x : Reply Outcome × TimelineOf X) → on_check P c w x ≡ (answered (Full n), w') → (c ≡ Accepted) × (x ≡ (answered (Full n), w'))
-    accepted_call (Refused why) x q = absurd (not_refused why w q)
-    accepted_call Accepted x q = (refl, q)
+    accepted_call : (c : Result ⊤ Refusal) (x : Reply Outcome × TimelineOf X) → on_check P c w x ≡ (answered (Full n), w') → (c ≡ Ok tt) × (x ≡ (answered (Full n), w'))
+    accepted_call (Err why) x q = absurd (not_refused why w q)
+    accepted_call (Ok tt) x q = (refl, q)
 
     pub call_stops : (c : Call) → call_on X m s w c ≡ (answered (Full n), w') → Stops (aim_of X w c) n (went_from X M m w (aim_of X w c)) w'.engine
     unfolding call_on call

@@ -1,5 +1,6 @@
 -- The run-length engine answers every input that document 01 accepts. Assumes nothing.
-use Rattle.std.specs.Prelude.{◌≡◌, List, ℕ, suc, ◌+◌, ◌-◌, ◌≤◌, ◌^◌, ℤ, length}
+use Rattle.symbol.specs.declared.State.{State}
+use Rattle.std.specs.Prelude.{◌≡◌, List, ℕ, suc, ◌+◌, ◌-◌, ◌≤◌, ◌^◌, ℤ, length, Ok, Option}
 use Rattle.std.proofs.Math.Path.{ap}
 use Rattle.std.proofs.Math.Bool.{true}
 use Rattle.std.proofs.Common.{arith}
@@ -11,20 +12,13 @@ use Rattle.symbol.specs.Model.{raised_of}
 use Rattle.symbol.specs.declared.Symbol.{Symbol}
 use Rattle.outcome.specs.declared.Outcome.{Outcome}
 use Rattle.machine.specs.declared.Machine.{Machine}
-use Rattle.machine.specs.declared.Checked.TheVariants.{Accepted}
 use Rattle.table_laws.specs.WellFormed.{WellFormed}
 use Rattle.table_laws.proofs.Facts.CheckExact.{table_check_accepts}
 use Rattle.tape.specs.declared.Span.{Span}
-use Rattle.run_rules.specs.declared.questions.Got.TheVariants as Got
-use Rattle.run_rules.specs.declared.questions.Extent.TheVariants as Extent
-use Rattle.run_rules.specs.declared.questions.Counted.TheVariants as Counted
-use Rattle.run_rules.specs.declared.StopRule.{StopRule}
-use Rattle.run_rules.specs.declared.Answer.TheVariants as Ans
 use Rattle.run_rules.specs.Model.Task.{task}
 use Rattle.table_machine.specs.TableMachine.{start_tape}
 use Rattle.rle_stack.specs.Model.{Side, side, places_of}
 use Rattle.rle.specs.declared.ChainSim.{ChainSim}
-use Rattle.rle.specs.declared.Fresh.TheVariants as New
 use Rattle.rle.specs.Model.Engine.{Conf, End, run_of}
 use Rattle.rle.specs.Fits.{places_fit, engine_check, run_check}
 use Rattle.rle.specs.Model.Operations.{given, run_on, run_answer, word_of, runs_of, fresh_sizes, fresh_check, fresh_sim, made, made_with, fresh_on, new_answer}
@@ -49,11 +43,11 @@ module _ (m : Machine) (s w ls ll rs rl : List ℕ) (t : WellFormed m s) (o : Wo
       let h : height f.right ≡ runs_of w (length w - 1) 0 0 = word_height m.symbols w empty f.right f.stacked in
       both_true (le-leb _ _ f.lefts) (both_true (le-leb _ _ f.rights) (le-leb (runs_of w (length w - 1) 0 0) (places_of rs rl) (omega (arith, h, f.room))))
 
-  fresh_passes : fresh_check m s w (places_of ls ll) (places_of rs rl) ≡ Accepted
+  fresh_passes : fresh_check m s w (places_of ls ll) (places_of rs rl) ≡ Ok tt
   unfolding fresh_check pick
   fresh_passes = rw (table_check_accepts m s t, eq-eqb m.tapes 1 f.single, word-passes m w o, sizes_pass)
 
-  pub chain_new_answers : (v : ChainSim) × (rs' : List ℕ) × (rl' : List ℕ) × (new_answer m s w ls ll rs rl ≡ made (New.Made v) rs' rl')
+  pub chain_new_answers : (v : ChainSim) × (rs' : List ℕ) × (rl' : List ℕ) × (new_answer m s w ls ll rs rl ≡ made (Ok v) rs' rl')
   unfolding new_answer
   chain_new_answers =
       let x : Side = word_of w (side rs rl 0) in
@@ -61,7 +55,7 @@ module _ (m : Machine) (s w ls ll rs rl : List ℕ) (t : WellFormed m s) (o : Wo
 
 -- ---- an engine value
 
-pub run-accepts : (m : Machine) (s : List ℕ) (fuel : ℕ) (σ : Conf) → Passed m s σ → σ.sim.steps + fuel ≤ 2 ^ 62 → run_check m s fuel σ ≡ Accepted
+pub run-accepts : (m : Machine) (s : List ℕ) (fuel : ℕ) (σ : Conf) → Passed m s σ → σ.sim.steps + fuel ≤ 2 ^ 62 → run_check m s fuel σ ≡ Ok tt
 unfolding run_check pick
 run-accepts m s fuel σ p limit = rw (engine_passes m s σ p, fuel_passes σ.sim.steps fuel limit)
 
@@ -75,22 +69,22 @@ module _ (m : Machine) (s : List ℕ) (σ : Conf) (t : ChainTaken m s σ) where
     fits = t.value;
   }
 
-  pub chain_asked : engine_check m s σ ≡ Accepted
+  pub chain_asked : engine_check m s σ ≡ Ok tt
   chain_asked = engine_passes m s σ taken
 
-  pub chain_get_answers : (z : ℤ) → (x : Symbol) × (get_answer m s z σ ≡ Got.Found x)
+  pub chain_get_answers : (z : ℤ) → (x : Symbol) × (get_answer m s z σ ≡ Ok x)
   unfolding get_answer
   chain_get_answers z = (symbol_of (raised_cell σ (raised_of z)), rw chain_asked)
 
-  pub chain_span_answers : (x : Span) × (extent_answer m s σ ≡ Extent.Found x)
+  pub chain_span_answers : (x : Option Span) × (extent_answer m s σ ≡ Ok x)
   unfolding extent_answer
   chain_span_answers = (span_of σ, rw chain_asked)
 
-  pub chain_count_answers : (n : ℕ) × (count_answer m s σ ≡ Counted.Found n)
+  pub chain_count_answers : (n : ℕ) × (count_answer m s σ ≡ Ok n)
   unfolding count_answer
   chain_count_answers = (count_of σ, rw chain_asked)
 
-  pub chain_run_answers : (rule : StopRule) (fuel : ℕ) → σ.sim.steps + fuel ≤ 2 ^ 62 → (τ : Conf) × (o : Outcome) × (run_answer m s rule fuel σ ≡ given τ (Ans.Done o))
+  pub chain_run_answers : (rule : Option State) (fuel : ℕ) → σ.sim.steps + fuel ≤ 2 ^ 62 → (τ : Conf) × (o : Outcome) × (run_answer m s rule fuel σ ≡ given τ (Ok o))
   unfolding run_answer
   chain_run_answers rule fuel limit =
       let e : End = run_of (task m s true rule) fuel σ in

@@ -1,5 +1,5 @@
 -- The run-length engine's count is the number of the non-blank cells, in the plain engine's sense (Counts). Assumes nothing.
-use Rattle.std.specs.Prelude.{◌≡◌, Bool, List, eqb, ℤ}
+use Rattle.std.specs.Prelude.{◌≡◌, Bool, List, eqb, ℤ, Ok}
 use Rattle.std.proofs.Common.{sym, ap, ◌∙◌, arith}
 use Prim.Native.Nat.{ℕ, ◌+◌, ◌-◌, ◌<◌, ◌^◌}
 use Rattle.std.proofs.Math.Decide.{dec_lt}
@@ -8,7 +8,6 @@ use Rattle.notation.specs.Position.{◌⊖◌, up, dn}
 use Rattle.notation.proofs.Facts.Position.{ints, diff-⊖}
 use Rattle.notation.specs.ScanDown.{count_fails}
 use Rattle.machine.specs.declared.Machine.{Machine}
-use Rattle.run_rules.specs.declared.questions.Counted.TheVariants as Counted
 use Rattle.sim_refines.specs.Counts.{Among, Counts}
 use Rattle.sim_refines.proofs.Facts.Counts.{Fails, fails_of}
 use Rattle.rle.specs.Model.Engine.{Conf}
@@ -51,5 +50,5 @@ pub count_is : (m : Machine) (σ : Conf) → ChainFits m σ → Counts (tape_of 
 count_is m σ f = counts_of_holds (tape_of σ).cell _ _ (count_of σ) (count_within m σ f)
 
 -- for the answer of the question
-pub chain_counts : (m : Machine) (s : List ℕ) (σ : Conf) (n : ℕ) → count_answer m s σ ≡ Counted.Found n → Counts (tape_of σ).cell n
+pub chain_counts : (m : Machine) (s : List ℕ) (σ : Conf) (n : ℕ) → count_answer m s σ ≡ Ok n → Counts (tape_of σ).cell n
 chain_counts m s σ n e = counts_of_holds (tape_of σ).cell _ _ n (counted_is m s σ n e)

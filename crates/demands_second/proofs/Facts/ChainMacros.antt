@@ -1,5 +1,7 @@
 -- The macro steps of a run: an accepted run adds one for each, and their number is unique. Assumes nothing.
-use Rattle.std.specs.Prelude.{◌≡◌, true, List}
+use Rattle.symbol.specs.declared.State.{State}
+use Rattle.outcome.specs.declared.Refusal.{Refusal}
+use Rattle.std.specs.Prelude.{◌≡◌, true, List, Err, None, Ok, Option, Result, Some, ⊤}
 use Rattle.std.proofs.Math.Path.{refl, ap, subst}
 use Rattle.std.proofs.Common.{sym}
 use Prim.Native.Nat.{ℕ, zero, suc, ◌+◌, ◌-◌, ◌≤◌, ◌<◌}
@@ -9,13 +11,7 @@ use Rattle.outcome.specs.declared.NonHaltProof.{NonHaltProof}
 use Rattle.outcome.specs.declared.Outcome.TheVariants.{NeverHalts}
 use Rattle.machine.specs.declared.Machine.{Machine}
 use Rattle.machine.specs.declared.Action.{Action}
-use Rattle.machine.specs.declared.Entry.{Entry}
-use Rattle.machine.specs.declared.Entry.TheVariants.{Undefined, Defined}
-use Rattle.machine.specs.declared.Checked.{Checked}
-use Rattle.machine.specs.declared.Checked.TheVariants.{Accepted, Refused}
 use Rattle.table_laws.specs.WellFormed.{Bytes}
-use Rattle.run_rules.specs.declared.StopRule.{StopRule}
-use Rattle.run_rules.specs.declared.Answer.TheVariants as Ans
 use Rattle.table_machine.specs.TableMachine.{Table, Config, entry, step, run, Halted, Verdict}
 use Rattle.table_machine.specs.Tables.{table_of}
 use Rattle.table_machine.proofs.Facts.Run.{not_defined, step_halted, step_steps, dec_halted}
@@ -48,7 +44,7 @@ own_stacks m σ f = record {
 
 -- ---- a run's macro steps
 
-module _ (m : Machine) (s : List ℕ) (bytes : Bytes s) (rule : StopRule) where
+module _ (m : Machine) (s : List ℕ) (bytes : Bytes s) (rule : Option State) where
   abbrev k : Task
   k = task m s true rule
 
@@ -57,11 +53,11 @@ module _ (m : Machine) (s : List ℕ) (bytes : Bytes s) (rule : StopRule) where
   Counted fuel σ τ = (n : ℕ) × (τ.sim.macros ≡ σ.sim.macros + n) × Macros m (table_of m s) fuel (config_of σ) n (config_of τ)
 
   -- after a macro step, the rest of the run is accepted
-  module _ (fuel : ℕ) (σ : Conf) (accepted : run_check m s fuel σ ≡ Accepted) (j : Macro) (x : MacroStep k fuel σ j) where
+  module _ (fuel : ℕ) (σ : Conf) (accepted : run_check m s fuel σ ≡ Ok tt) (j : Macro) (x : MacroStep k fuel σ j) where
     abbrev next : Conf
     next = macro_of j σ
 
-    onward : run_check m s (fuel - j.repeats) next ≡ Accepted
+    onward : run_check m s (fuel - j.repeats) next ≡ Ok tt
     unfolding places_fit
     onward =
         let p = run_says m s σ fuel accepted in
@@ -77,9 +73,9 @@ module _ (m : Machine) (s : List ℕ) (bytes : Bytes s) (rule : StopRule) where
     unfolding run
     one_more_lem τ r = by (entry (table_of m s) (config_of σ)) refl
       where
-        by : (e : Entry) → entry (table_of m s) (config_of σ) ≡ e → Counted fuel σ τ
-        by Undefined h = absurd (x.went.running 0 x.some h)
-        by (Defined a) h = (
+        by : (e : Option Action) → entry (table_of m s) (config_of σ) ≡ e → Counted fuel σ τ
+        by None h = absurd (x.went.running 0 x.some h)
+        by (Some a) h = (
           suc r.0,
           omega (arith, r.1, x.counted),
           more {fuel = fuel} a (stack_of (left_of σ)) (stack_of (right_of σ)) j.repeats (omega (arith, x.some, x.within)) h
@@ -88,24 +84,24 @@ module _ (m : Machine) (s : List ℕ) (bytes : Bytes s) (rule : StopRule) where
         )
 
   -- any number above the fuel bounds the macro steps
-  counted_run : (most fuel : ℕ) (σ : Conf) → fuel < most → run_check m s fuel σ ≡ Accepted → Counted fuel σ (run_of k fuel σ).at
+  counted_run : (most fuel : ℕ) (σ : Conf) → fuel < most → run_check m s fuel σ ≡ Ok tt → Counted fuel σ (run_of k fuel σ).at
   counted_run zero fuel σ l accepted = absurd (omega arith)
   counted_run (suc most) fuel σ l accepted = by (plan_of k fuel σ) refl (λ f τ. counted_run most f τ)
     where
-      by : (p : Plan) → plan_of k fuel σ ≡ p → ((f : ℕ) (τ : Conf) → f < most → run_check m s f τ ≡ Accepted → Counted f τ (run_of k f τ).at) → Counted fuel σ (run_of k fuel σ).at
+      by : (p : Plan) → plan_of k fuel σ ≡ p → ((f : ℕ) (τ : Conf) → f < most → run_check m s f τ ≡ Ok tt → Counted f τ (run_of k f τ).at) → Counted fuel σ (run_of k fuel σ).at
       by (Stop o) q on = subst (λ (e : End). Counted fuel σ e.at) (run_ends k fuel σ o q) (0, omega arith, none)
       by (Go j) q on =
           let x : MacroStep k fuel σ j = macro_step m s bytes fuel σ accepted true rule j q in
           subst (λ (e : End). Counted fuel σ e.at) (run_goes k fuel σ j q)
           (one_more_lem fuel σ accepted j x (run_of k (fuel - j.repeats) (macro_of j σ)).at (on (fuel - j.repeats) (macro_of j σ) (omega (arith, x.some, x.within)) (onward fuel σ accepted j x)))
 
-  accepted-run : (c : Checked) (σ : Conf) (e : End) (τ : Conf) (o : Outcome) → run_on c σ e ≡ given τ (Ans.Done o) → (c ≡ Accepted) × (e.at ≡ τ)
-  accepted-run (Refused why) σ e τ o h =
+  accepted-run : (c : Result ⊤ Refusal) (σ : Conf) (e : End) (τ : Conf) (o : Outcome) → run_on c σ e ≡ given τ (Ok o) → (c ≡ Ok tt) × (e.at ≡ τ)
+  accepted-run (Err why) σ e τ o h =
       let q = ap (λ (g : Given). g.answer) h in
       let z : ◌≡◌ {A = ℕ} 0 1 = cc in absurd (omega arith)
-  accepted-run Accepted σ e τ o h = (refl, ap (λ (g : Given). g.at) h)
+  accepted-run (Ok tt) σ e τ o h = (refl, ap (λ (g : Given). g.at) h)
 
-  pub run_macros : (fuel : ℕ) (σ τ : Conf) (o : Outcome) → run_answer m s rule fuel σ ≡ given τ (Ans.Done o) → Counted fuel σ τ
+  pub run_macros : (fuel : ℕ) (σ τ : Conf) (o : Outcome) → run_answer m s rule fuel σ ≡ given τ (Ok o) → Counted fuel σ τ
   unfolding run_answer
   run_macros fuel σ τ o e =
       let p = accepted-run (run_check m s fuel σ) σ (run_of k fuel σ) τ o e in
@@ -146,7 +142,7 @@ module _ (m : Machine) (d : Table) where
       by (yes h) g = omega (arith, g, ap (λ (x : Config). x.steps) (step_halted d c h))
       by (no h) g = omega (arith, g, step_steps d c h)
 
-  run_more : (n : ℕ) (c : Config) (a : Action) → 1 ≤ n → entry d c ≡ Defined a → c.steps < (run d n c).steps
+  run_more : (n : ℕ) (c : Config) (a : Action) → 1 ≤ n → entry d c ≡ Some a → c.steps < (run d n c).steps
   unfolding run
   run_more zero c a l h = absurd (omega arith)
   run_more (suc n) c a l h = omega (arith, run_grows n (step d c), step_steps d c (λ z. not_defined _ a z h))
@@ -155,7 +151,7 @@ module _ (m : Machine) (d : Table) where
   macros_grow none = omega arith
   macros_grow {c = c} (more a l r j f h st x rest) = omega (arith, run_grows j c, macros_grow rest)
 
-  module _ {fuel n : ℕ} {c e : Config} (a : Action) (l r : Stack) (j : ℕ) (f : 0 < fuel) (h : entry d c ≡ Defined a) (st : Stacked m.symbols c.tape0 l r)
+  module _ {fuel n : ℕ} {c e : Config} (a : Action) (l r : Stack) (j : ℕ) (f : 0 < fuel) (h : entry d c ≡ Some a) (st : Stacked m.symbols c.tape0 l r)
       (x : Lasts m d fuel c a l r j) (rest : Macros m d (fuel - j) (run d j c) n e) where
     more_grows : c.steps < e.steps
     more_grows = omega (arith, run_more j c a (lasts_some f x) h, macros_grow rest)

@@ -1,5 +1,6 @@
 -- The runs of a side as records: the lent slice after `left` and `right`. Assumes nothing.
-use Rattle.std.specs.Prelude.{◌≡◌, leb, length, get_or}
+use Rattle.outcome.specs.declared.Refusal.{Refusal}
+use Rattle.std.specs.Prelude.{◌≡◌, leb, length, get_or, Err, Ok, Result, ⊤}
 use Rattle.std.proofs.Math.Path.{refl, sym, ap}
 use Rattle.std.proofs.Common.{◌∙◌, arith, le-leb, leb-true, length-append, drop-cons}
 use mathlib.Core.List.{List, [], ◌∷◌, ◌++◌, append_assoc}
@@ -9,12 +10,8 @@ use Rattle.std.proofs.Math.Seq.{set-append_seam}
 use Rattle.notation.proofs.Facts.Tests.{by_test, pick_true, pick_false}
 use Rattle.outcome.specs.declared.Refusal.TheVariants as Why
 use Rattle.machine.specs.declared.Machine.{Machine}
-use Rattle.machine.specs.declared.Checked.{Checked}
-use Rattle.machine.specs.declared.Checked.TheVariants.{Accepted, Refused}
 use Rattle.rle_stack.specs.Model.{Side}
 use Rattle.rle_records.specs.declared.Run.{Run}
-use Rattle.rle_records.specs.declared.Listed.{Listed}
-use Rattle.rle_records.specs.declared.Listed.TheVariants.{Filled, Refused as NotFilled}
 use Rattle.rle_records.specs.Model.{run_at, lay, records_of, room_for}
 use Rattle.rle.specs.Model.Engine.{Conf, left_of, right_of}
 use Rattle.rle.specs.Fits.{engine_check}
@@ -46,18 +43,18 @@ module _ (ss ls : List ℕ) where
 
 -- ---- the answer
 
-room_says : (count room n : ℕ) → room_for count room ≡ Filled n → (count ≡ n) × (count ≤ room)
+room_says : (count room n : ℕ) → room_for count room ≡ Ok n → (count ≡ n) × (count ≤ room)
 unfolding room_for
 room_says count room n e = by_test (leb count room)
-    (λ t. let q = sym (pick_true (leb count room) (Filled count) (NotFilled Why.OutputSize) t) ∙ e in (cc, leb-true count room t))
-    (λ t. let q = sym (pick_false (leb count room) (Filled count) (NotFilled Why.OutputSize) t) ∙ e in let z : ◌≡◌ {A = ℕ} 0 1 = cc in absurd (omega arith))
+    (λ t. let q = sym (pick_true (leb count room) (Ok count) (Err Why.OutputSize) t) ∙ e in (cc, leb-true count room t))
+    (λ t. let q = sym (pick_false (leb count room) (Ok count) (Err Why.OutputSize) t) ∙ e in let z : ◌≡◌ {A = ℕ} 0 1 = cc in absurd (omega arith))
 
-listed_says : (c : Checked) (x : Listed) (n : ℕ) → listed_on c x ≡ Filled n → (c ≡ Accepted) × (x ≡ Filled n)
-listed_says (Refused why) x n e = let z : ◌≡◌ {A = ℕ} 0 1 = cc in absurd (omega arith)
-listed_says Accepted x n e = (refl, e)
+listed_says : (c : Result ⊤ Refusal) (x : Result ℕ Refusal) (n : ℕ) → listed_on c x ≡ Ok n → (c ≡ Ok tt) × (x ≡ Ok n)
+listed_says (Err why) x n e = let z : ◌≡◌ {A = ℕ} 0 1 = cc in absurd (omega arith)
+listed_says (Ok tt) x n e = (refl, e)
 
 module _ (m : Machine) (s : List ℕ) (σ : Conf) (x : Side) (out : List Run) where
-  side_lists : (n : ℕ) → side_answer m s x.count (length out) σ ≡ Filled n
+  side_lists : (n : ℕ) → side_answer m s x.count (length out) σ ≡ Ok n
       → Lists (stack_of x) n out (side_into (side_answer m s x.count (length out) σ) x out)
   unfolding side_answer records_of
   side_lists n e =
@@ -67,21 +64,21 @@ module _ (m : Machine) (s : List ℕ) (σ : Conf) (x : Side) (out : List Run) wh
         places = laid_is x.symbols x.lengths x.count out p.1 ∙ ap (λ i. topmost_last (stack_of x) ++ drop i out) p.0;
       })
 
-  side_answers : engine_check m s σ ≡ Accepted → height (stack_of x) ≤ length out → side_answer m s x.count (length out) σ ≡ Filled (height (stack_of x))
+  side_answers : engine_check m s σ ≡ Ok tt → height (stack_of x) ≤ length out → side_answer m s x.count (length out) σ ≡ Ok (height (stack_of x))
   unfolding side_answer room_for
   side_answers c h =
       let q : height (stack_of x) ≡ x.count = height_upto x.symbols x.lengths x.count in
-      ap (λ y. listed_on y (room_for x.count (length out))) c ∙ pick_true _ _ _ (le-leb x.count (length out) (omega (arith, q))) ∙ ap Filled (sym q)
+      ap (λ y. listed_on y (room_for x.count (length out))) c ∙ pick_true _ _ _ (le-leb x.count (length out) (omega (arith, q))) ∙ ap Ok (sym q)
 
 module _ (m : Machine) (s : List ℕ) (σ : Conf) (out : List Run) where
-  pub left_lists : (n : ℕ) → left_answer m s (length out) σ ≡ Filled n → Lists (stack_of (left_of σ)) n out (left_into m s σ out)
+  pub left_lists : (n : ℕ) → left_answer m s (length out) σ ≡ Ok n → Lists (stack_of (left_of σ)) n out (left_into m s σ out)
   left_lists n e = side_lists m s σ (left_of σ) out n e
 
-  pub right_lists : (n : ℕ) → right_answer m s (length out) σ ≡ Filled n → Lists (stack_of (right_of σ)) n out (right_into m s σ out)
+  pub right_lists : (n : ℕ) → right_answer m s (length out) σ ≡ Ok n → Lists (stack_of (right_of σ)) n out (right_into m s σ out)
   right_lists n e = side_lists m s σ (right_of σ) out n e
 
-  pub left_answers : engine_check m s σ ≡ Accepted → height (stack_of (left_of σ)) ≤ length out → left_answer m s (length out) σ ≡ Filled (height (stack_of (left_of σ)))
+  pub left_answers : engine_check m s σ ≡ Ok tt → height (stack_of (left_of σ)) ≤ length out → left_answer m s (length out) σ ≡ Ok (height (stack_of (left_of σ)))
   left_answers c h = side_answers m s σ (left_of σ) out c h
 
-  pub right_answers : engine_check m s σ ≡ Accepted → height (stack_of (right_of σ)) ≤ length out → right_answer m s (length out) σ ≡ Filled (height (stack_of (right_of σ)))
+  pub right_answers : engine_check m s σ ≡ Ok tt → height (stack_of (right_of σ)) ≤ length out → right_answer m s (length out) σ ≡ Ok (height (stack_of (right_of σ)))
   right_answers c h = side_answers m s σ (right_of σ) out c h

@@ -1,5 +1,8 @@
 -- The claims of SecondChain about a run of the run-length engine, from rle_refines. Assumes nothing.
-use Rattle.std.specs.Prelude.{◌≡◌, ◌↔◌, Bool, List, ℕ, zero, suc, ◌+◌, ◌≤◌, ◌<◌, ◌^◌, min, eqb}
+use Rattle.rle_macro.specs.declared.inner.macro_step.Step.{Step}
+use Rattle.std.specs.declared.ops.ControlFlow.{ControlFlow}
+use Rattle.symbol.specs.declared.State.{State}
+use Rattle.std.specs.Prelude.{◌≡◌, ◌↔◌, Bool, List, ℕ, zero, suc, ◌+◌, ◌≤◌, ◌<◌, ◌^◌, min, eqb, None, Ok, Option, Some}
 use Rattle.std.proofs.Math.Path.{refl, sym, ap}
 use Rattle.std.proofs.Common.{◌∙◌, subst, arith}
 use Rattle.std.proofs.Math.Bool.{true, false}
@@ -12,12 +15,7 @@ use Rattle.outcome.specs.declared.Outcome.{Outcome}
 use Rattle.outcome.specs.declared.Outcome.TheVariants.{OutOfFuel, Full}
 use Rattle.machine.specs.declared.Machine.{Machine}
 use Rattle.machine.specs.declared.Action.{Action}
-use Rattle.machine.specs.declared.Entry.TheVariants.{Defined}
-use Rattle.machine.specs.declared.Checked.TheVariants.{Accepted}
 use Rattle.table_laws.specs.WellFormed.{Bytes}
-use Rattle.run_rules.specs.declared.StopRule.{StopRule}
-use Rattle.run_rules.specs.declared.StopRule.TheVariants.{Never}
-use Rattle.run_rules.specs.declared.Answer.TheVariants as Ans
 use Rattle.table_machine.specs.TableMachine.{Table, Config, read_t, entry, Sideways, Verdict, halts, stays, walks, goes}
 use Rattle.table_machine.specs.Tables.{table_of, TableOf}
 use Rattle.table_machine.proofs.Facts.Table.{accepted_table}
@@ -25,7 +23,6 @@ use Rattle.table_machine.proofs.Facts.Run.{not_defined}
 use Rattle.table_machine.proofs.Facts.Verdict.{verdict_unique}
 use Rattle.sim.specs.Model.Engine.{Task, task, entry_of, matches}
 use Rattle.rle_stack.specs.Model.{Side, ahead_of}
-use Rattle.rle.specs.declared.inner.Turn.{Turn}
 use Rattle.rle.specs.Model.Engine.{Conf, left_of, right_of, chain_for, loops_of, step_of, fueled_of, proved_of, turn_on, turn_of, times_of, macro_by, plan_by, plan_of, macro_of, End, end, run_of, Macro, Plan, Stop, Go}
 use Rattle.rle.proofs.Facts.Run.{run_ends, run_goes}
 use Rattle.rle.specs.Fits.{run_check}
@@ -71,24 +68,24 @@ module _ (a : Action) (fuel : ℕ) (σ : Conf) (j : Macro) where
   times b = times_of (step_of b a σ.sim.state) fuel σ
 
   -- a turn that goes on has n repeats
-  abbrev SoOften : ℕ → Turn → Type 0
+  abbrev SoOften : ℕ → ControlFlow Outcome Step → Type 0
   SoOften n t = plan_by t fuel σ ≡ Go j → j.repeats ≡ n
 
   not_stop : (o : Outcome) (n : ℕ) → Stop o ≡ Go j → j.repeats ≡ n
   not_stop o n e = let z : ◌≡◌ {A = ℕ} 0 1 = cc in absurd (omega arith)
 
-  fuel_goes : (b : Bool) (rule : StopRule) → SoOften (times b) (fueled_of b rule a fuel σ.sim)
+  fuel_goes : (b : Bool) (rule : Option State) → SoOften (times b) (fueled_of b rule a fuel σ.sim)
   unfolding fueled_of
   fuel_goes b rule = pick_cases _ _ _ (SoOften (times b)) (λ _ e. not_stop _ _ e)
       (λ _. pick_cases _ _ _ (SoOften (times b)) (λ _ e. not_stop _ _ e)
       (λ _. pick_cases _ _ _ (λ x. x ≡ Go j → j.repeats ≡ times b) (λ _ e. not_stop _ _ e)
       (λ _ e. let q : macro_by (step_of b a σ.sim.state) (times b) ≡ j = cc in ap (λ (i : Macro). i.repeats) (sym q))))
 
-  proved_goes : (proves b : Bool) (rule : StopRule) → SoOften (times b) (proved_of proves b rule a fuel σ.sim)
+  proved_goes : (proves b : Bool) (rule : Option State) → SoOften (times b) (proved_of proves b rule a fuel σ.sim)
   unfolding proved_of
   proved_goes proves b rule = pick_cases _ _ _ (SoOften (times b)) (λ _ e. not_stop _ _ e) (λ _. fuel_goes b rule)
 
-module _ (m : Machine) (s : List ℕ) (bytes : Bytes s) (fuel : ℕ) (σ : Conf) (accepted : run_check m s fuel σ ≡ Accepted) where
+module _ (m : Machine) (s : List ℕ) (bytes : Bytes s) (fuel : ℕ) (σ : Conf) (accepted : run_check m s fuel σ ≡ Ok tt) where
   passed : Passed m s σ × (σ.sim.steps + fuel ≤ 2 ^ 62)
   passed = run_says m s σ fuel accepted
 
@@ -97,7 +94,7 @@ module _ (m : Machine) (s : List ℕ) (bytes : Bytes s) (fuel : ℕ) (σ : Conf)
 
   -- ---- a macro step
 
-  module _ (proves : Bool) (rule : StopRule) (j : Macro) (planned : plan_of (task m s proves rule) fuel σ ≡ Go j) where
+  module _ (proves : Bool) (rule : Option State) (j : Macro) (planned : plan_of (task m s proves rule) fuel σ ≡ Go j) where
     abbrev k : Task
     k = task m s proves rule
 
@@ -108,14 +105,14 @@ module _ (m : Machine) (s : List ℕ) (bytes : Bytes s) (fuel : ℕ) (σ : Conf)
     went_so : Went k j.repeats σ (macro_of j σ) × (1 ≤ j.repeats) × (j.repeats ≤ fuel)
     went_so = by_plan j (subst (Plans k fuel σ) planned (plan_right k table passed.0.single fuel σ passed.0.fits))
 
-    module _ (a : Action) (has : entry (table_of m s) (config_of σ) ≡ Defined a) where
+    module _ (a : Action) (has : entry (table_of m s) (config_of σ) ≡ Some a) where
       abbrev loops : Bool
       loops = loops_of σ.sim.state a σ.sim.tape.cur σ.sim.tape.left σ.sim.tape.right
 
       so_often : j.repeats ≡ times a fuel σ j loops
       unfolding plan_of turn_of turn_on table_of entry_of
       so_often =
-          let q : entry_of m s σ.sim.state σ.sim.tape.cur 0 0 ≡ Defined a = sym (entry_at_lem (table_of m s) σ) ∙ has in
+          let q : entry_of m s σ.sim.state σ.sim.tape.cur 0 0 ≡ Some a = sym (entry_at_lem (table_of m s) σ) ∙ has in
           proved_goes a fuel σ j proves loops rule (ap (λ x. plan_by (turn_on x proves rule fuel σ.sim) fuel σ) (sym q) ∙ planned)
 
       abbrev LastsHere : ℕ → Type 0
@@ -154,7 +151,7 @@ module _ (m : Machine) (s : List ℕ) (bytes : Bytes s) (fuel : ℕ) (σ : Conf)
 
   -- ---- the next step is full
 
-  module _ (rule : StopRule) (more : 0 < fuel) (unproved : GoesOn m (table_of m s) (config_of σ)) (unruled : matches rule σ.sim.state ≡ false) where
+  module _ (rule : Option State) (more : 0 < fuel) (unproved : GoesOn m (table_of m s) (config_of σ)) (unruled : matches rule σ.sim.state ≡ false) where
     full_ends : ChainFull m s σ → run_of (task m s true rule) fuel σ ≡ end σ (Full σ.sim.steps)
     full_ends g = by refl (plan_right (task m s true rule) table passed.0.single fuel σ passed.0.fits)
       where
@@ -166,19 +163,19 @@ module _ (m : Machine) (s : List ℕ) (bytes : Bytes s) (fuel : ℕ) (σ : Conf)
         by q (P.lacks_place a e u l r h) = sym (run_ends (task m s true rule) fuel σ _ q)
         by q (P.macro_steps a n e u r h x) = absurd (not_full m (table_of m s) σ passed.0.fits a e h g)
 
-    pub full_stays : ChainFull m s σ → run_answer m s rule fuel σ ≡ given σ (Ans.Done (Full σ.sim.steps))
+    pub full_stays : ChainFull m s σ → run_answer m s rule fuel σ ≡ given σ (Ok (Full σ.sim.steps))
     unfolding run_answer
-    full_stays g = ap (λ c. run_on c σ (run_of (task m s true rule) fuel σ)) accepted ∙ ap (λ (e : End). given e.at (Ans.Done e.outcome)) (full_ends g)
+    full_stays g = ap (λ c. run_on c σ (run_of (task m s true rule) fuel σ)) accepted ∙ ap (λ (e : End). given e.at (Ok e.outcome)) (full_ends g)
 
   -- ---- without the never test and a stop rule
 
-  pub space_exact : ((n : ℕ) × ((run_of (task m s false Never) fuel σ).outcome ≡ Full n)) ↔ FullWithin (task m s false Never) fuel σ
+  pub space_exact : ((n : ℕ) × ((run_of (task m s false None) fuel σ).outcome ≡ Full n)) ↔ FullWithin (task m s false None) fuel σ
   unfolding matches
-  space_exact = full_iff (task m s false Never) refl (λ q. refl) fuel σ table passed.0.single passed.0.fits passed.1
+  space_exact = full_iff (task m s false None) refl (λ q. refl) fuel σ table passed.0.single passed.0.fits passed.1
 
 -- ---- a run that ends full is at a full step
 
-module _ (m : Machine) (s : List ℕ) (bytes : Bytes s) (rule : StopRule) (fuel : ℕ) (σ τ : Conf) (n : ℕ) (done : run_answer m s rule fuel σ ≡ given τ (Ans.Done (Full n))) where
+module _ (m : Machine) (s : List ℕ) (bytes : Bytes s) (rule : Option State) (fuel : ℕ) (σ τ : Conf) (n : ℕ) (done : run_answer m s rule fuel σ ≡ given τ (Ok (Full n))) where
   abbrev ran : Refines (task m s true rule) fuel σ (end τ (Full n))
   ran = (run_holds m s bytes rule fuel σ τ (Full n) done).refines
 
@@ -198,9 +195,9 @@ all_made : {k : Task} {fuel made n : ℕ} {e : Conf} → Answers k fuel made e (
 all_made (verdict _ t v g) = g _ refl
 all_made (spent t h q) = q
 
-module _ (m : Machine) (s : List ℕ) (bytes : Bytes s) (rule : StopRule) (a b : ℕ) (σ τ υ ω : Conf) (n : ℕ) (o p : Outcome)
-    (first : run_answer m s rule a σ ≡ given τ (Ans.Done (OutOfFuel n))) (second : run_answer m s rule b τ ≡ given υ (Ans.Done o))
-    (once : run_answer m s rule (a + b) σ ≡ given ω (Ans.Done p)) where
+module _ (m : Machine) (s : List ℕ) (bytes : Bytes s) (rule : Option State) (a b : ℕ) (σ τ υ ω : Conf) (n : ℕ) (o p : Outcome)
+    (first : run_answer m s rule a σ ≡ given τ (Ok (OutOfFuel n))) (second : run_answer m s rule b τ ≡ given υ (Ok o))
+    (once : run_answer m s rule (a + b) σ ≡ given ω (Ok p)) where
   began : Refines (task m s true rule) a σ (end τ (OutOfFuel n))
   began = (run_holds m s bytes rule a σ τ (OutOfFuel n) first).refines
 

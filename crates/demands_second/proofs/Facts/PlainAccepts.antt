@@ -1,5 +1,6 @@
 -- The plain engine and the packing of a table answer every input that document 01 accepts. Assumes nothing.
-use Rattle.std.specs.Prelude.{◌≡◌, refl, Bool, List, ℕ, ◌+◌, ◌*◌, ◌≤◌, ◌<◌, ◌^◌, ℤ}
+use Rattle.symbol.specs.declared.State.{State}
+use Rattle.std.specs.Prelude.{◌≡◌, refl, Bool, List, ℕ, ◌+◌, ◌*◌, ◌≤◌, ◌<◌, ◌^◌, ℤ, Ok, Option}
 use Rattle.std.proofs.Math.Path.{sym, ap}
 use Rattle.std.proofs.Common.{◌∙◌}
 use Rattle.std.proofs.Math.Bool.{true}
@@ -18,7 +19,6 @@ use Rattle.outcome.specs.declared.Outcome.{Outcome}
 use Rattle.outcome.specs.declared.Status.{Status}
 use Rattle.outcome.specs.declared.Refusal.TheVariants as Why
 use Rattle.machine.specs.declared.Machine.{Machine}
-use Rattle.machine.specs.declared.Checked.TheVariants.{Accepted}
 use Rattle.machine.specs.Model.Check.{within, answer_at, table_check}
 use Rattle.machine.proofs.Facts.CheckCases.{stride_one}
 use Rattle.machine.specs.Layout.{entry_count}
@@ -29,20 +29,11 @@ use Rattle.table_laws.proofs.Facts.CheckExact.{table_check_accepts}
 use Rattle.table_laws.proofs.Facts.Reading.{entry_read}
 use Rattle.table_laws.proofs.Facts.PackedTable.{packed_table_accepted, packed_table_holds, packed_table_rest}
 use Rattle.tape.specs.declared.Span.{Span}
-use Rattle.tape.specs.declared.Spot.{Spot}
 use Rattle.tape.specs.Model.Moves.{fresh_of}
 use Rattle.tape.specs.Model.Questions.{cell_of, non_blank_of, count_of, find_of}
 use Rattle.run_checks.specs.Model.Sizes.{word_right}
-use Rattle.run_rules.specs.declared.StopRule.{StopRule}
-use Rattle.run_rules.specs.declared.Answer.TheVariants as Ans
 use Rattle.run_rules.specs.Model.Task.{task}
-use Rattle.run_rules.specs.declared.questions.Got.TheVariants as Got
-use Rattle.run_rules.specs.declared.questions.Extent.TheVariants as Extent
-use Rattle.run_rules.specs.declared.questions.Counted.TheVariants as Counted
-use Rattle.run_rules.specs.declared.questions.Located.TheVariants as Located
 use Rattle.sim.specs.declared.Simulator.{Simulator}
-use Rattle.sim.specs.declared.StepAnswer.TheVariants as StepAns
-use Rattle.sim.specs.declared.Fresh.TheVariants as New
 use Rattle.sim.specs.Model.Engine.{Conf, run_of, once_of}
 use Rattle.sim.specs.Model.Operations.{has1, has2, if_has, blank_tape, bare_of, sizes_fit, value_check, engine_check, fuel_fits, fuel_check, run_check, words_right, fast_check, Given, given, ran_back, answer_of, run_answer, fast_answer, StepGiven, step_given, step_back, step_on, step_answer, fresh_sim, fresh_sizes, fresh_check, made, made_with, fresh_on, new_answer}
 use Rattle.sim.specs.Model.Questions.{held_at, question_check, get_answer, extent_answer, count_answer, find_answer}
@@ -56,7 +47,7 @@ if_has_lem b test h = pick_cases b test true (λ x. x ≡ true) h (λ _. refl)
 within_holds : (low high x : ℕ) → (low ≤ x) × (x ≤ high) → within low high x ≡ true
 within_holds low high x h = both_true (le-leb low x h.0) (le-leb x high h.1)
 
-pub word-passes : (m : Machine) (w : List ℕ) → WordOf m w → word_check m.symbols w ≡ Accepted
+pub word-passes : (m : Machine) (w : List ℕ) → WordOf m w → word_check m.symbols w ≡ Ok tt
 unfolding word_check symbols_check
 word-passes m w o =
     pick_true _ _ _ (le-leb _ _ o.short)
@@ -110,11 +101,11 @@ module _ (m : Machine) (s w c0 c1 c2 : List ℕ) (t : WellFormed m s) (o : WordO
       (both_true (if_has_lem (has1 m) _ (λ h. within_holds _ _ _ (f.cells1 (ltb-true 1 m.tapes h))))
       (if_has_lem (has2 m) _ (λ h. within_holds _ _ _ (f.cells2 (ltb-true 2 m.tapes h)))))
 
-  fresh_passes : fresh_check m s w (length c0) (length c1) (length c2) ≡ Accepted
+  fresh_passes : fresh_check m s w (length c0) (length c1) (length c2) ≡ Ok tt
   unfolding fresh_check pick
   fresh_passes = rw (table_check_accepts m s t, word-passes m w o, sizes_pass)
 
-  pub plain_new_answers : (v : Simulator) × (d0 : List ℕ) × (d1 : List ℕ) × (d2 : List ℕ) × (new_answer m s w c0 c1 c2 ≡ made (New.Made v) d0 d1 d2)
+  pub plain_new_answers : (v : Simulator) × (d0 : List ℕ) × (d1 : List ℕ) × (d2 : List ℕ) × (new_answer m s w c0 c1 c2 ≡ made (Ok v) d0 d1 d2)
   unfolding new_answer
   plain_new_answers = (
     fresh_sim m (fresh_of w c0) (blank_tape (has1 m) c1) (blank_tape (has2 m) c2),
@@ -127,7 +118,7 @@ module _ (m : Machine) (s w c0 c1 c2 : List ℕ) (t : WellFormed m s) (o : WordO
 -- ---- an engine value
 
 module _ (m : Machine) (s : List ℕ) (σ : Conf) (t : PlainTaken m s σ) where
-  value_passes : value_check m σ ≡ Accepted
+  value_passes : value_check m σ ≡ Ok tt
   unfolding value_check sizes_fit
   value_passes =
       pick_true _ _ _ (both_true (le-leb _ cells_most t.cells0)
@@ -135,21 +126,21 @@ module _ (m : Machine) (s : List ℕ) (σ : Conf) (t : PlainTaken m s σ) where
       (if_has_lem (has2 m) _ (λ h. le-leb _ cells_most (t.cells2 (ltb-true 2 m.tapes h))))))
       ∙ pick_true _ _ _ (fits_bare m σ t.value)
 
-  table_passes : table_check m s ≡ Accepted
+  table_passes : table_check m s ≡ Ok tt
   table_passes = table_check_accepts m s t.table
 
   -- ---- a step, a run, the fast run
 
   module _ (fuel : ℕ) (limit : σ.sim.steps + fuel ≤ 2 ^ 62) where
-    limit_passes : fuel_check m fuel σ ≡ Accepted
+    limit_passes : fuel_check m fuel σ ≡ Ok tt
     unfolding fuel_check pick
     limit_passes = rw (value_passes, fuel_passes σ.sim.steps fuel limit)
 
-    run_passes : run_check m s fuel σ ≡ Accepted
+    run_passes : run_check m s fuel σ ≡ Ok tt
     unfolding run_check
     run_passes = rw (table_passes, limit_passes)
 
-    pub plain_run_answers : (rule : StopRule) → (τ : Conf) × (o : Outcome) × (run_answer m s rule fuel σ ≡ given τ (Ans.Done o))
+    pub plain_run_answers : (rule : Option State) → (τ : Conf) × (o : Outcome) × (run_answer m s rule fuel σ ≡ given τ (Ok o))
     unfolding run_answer
     plain_run_answers rule =
         let e : Given = ran_back m σ (run_of (task m s true rule) fuel (bare_of m σ)) in
@@ -157,17 +148,17 @@ module _ (m : Machine) (s : List ℕ) (σ : Conf) (t : PlainTaken m s σ) where
 
     -- the check accepts the words that document 01 names
     module _ (words : List ℕ) (p : PackedOf m s words) where
-      fast_passes : fast_check m s words fuel σ ≡ Accepted
+      fast_passes : fast_check m s words fuel σ ≡ Ok tt
       unfolding fast_check pick
       fast_passes = rw (table_passes, words_pass m s words t.table p, limit_passes)
 
-      pub plain_fast_answers : (rule : StopRule) → (τ : Conf) × (o : Outcome) × (fast_answer m s words rule fuel σ ≡ given τ (Ans.Done o))
+      pub plain_fast_answers : (rule : Option State) → (τ : Conf) × (o : Outcome) × (fast_answer m s words rule fuel σ ≡ given τ (Ok o))
       unfolding fast_answer
       plain_fast_answers rule =
           let e : Given = ran_back m σ (run_of (task m s true rule) fuel (bare_of m σ)) in
           (e.at, (run_of (task m s true rule) fuel (bare_of m σ)).outcome, ap (λ c. answer_of c m s true rule fuel σ) fast_passes)
 
-  pub plain_step_answers : σ.sim.steps + 1 ≤ 2 ^ 62 → (τ : Conf) × (x : Status) × (step_answer m s σ ≡ step_given τ (StepAns.Done x))
+  pub plain_step_answers : σ.sim.steps + 1 ≤ 2 ^ 62 → (τ : Conf) × (x : Status) × (step_answer m s σ ≡ step_given τ (Ok x))
   unfolding step_answer
   plain_step_answers limit =
       let e : StepGiven = step_back m σ (once_of m s (bare_of m σ)) in
@@ -175,24 +166,24 @@ module _ (m : Machine) (s : List ℕ) (σ : Conf) (t : PlainTaken m s σ) where
 
   -- ---- the questions
 
-  pub plain_asked : (i : ℕ) → i < m.tapes → question_check m s i σ ≡ Accepted
+  pub plain_asked : (i : ℕ) → i < m.tapes → question_check m s i σ ≡ Ok tt
   unfolding question_check engine_check pick
   plain_asked i h = rw (table_passes, value_passes, lt-ltb i m.tapes h)
 
   module _ (i : ℕ) (there : i < m.tapes) where
-    pub plain_get_answers : (z : ℤ) → (x : Symbol) × (get_answer m s i z σ ≡ Got.Found x)
+    pub plain_get_answers : (z : ℤ) → (x : Symbol) × (get_answer m s i z σ ≡ Ok x)
     unfolding get_answer
     plain_get_answers z = (symbol_of (cell_of (held_at i σ) z), rw (plain_asked i there))
 
-    pub plain_span_answers : (x : Span) × (extent_answer m s i σ ≡ Extent.Found x)
+    pub plain_span_answers : (x : Option Span) × (extent_answer m s i σ ≡ Ok x)
     unfolding extent_answer
     plain_span_answers = (non_blank_of (held_at i σ), rw (plain_asked i there))
 
-    pub plain_count_answers : (n : ℕ) × (count_answer m s i σ ≡ Counted.Found n)
+    pub plain_count_answers : (n : ℕ) × (count_answer m s i σ ≡ Ok n)
     unfolding count_answer
     plain_count_answers = (count_of (held_at i σ), rw (plain_asked i there))
 
-    pub plain_find_answers : (z : ℤ) (d : Dir) → (x : Spot) × (find_answer m s i z d σ ≡ Located.Found x)
+    pub plain_find_answers : (z : ℤ) (d : Dir) → (x : Option ℤ) × (find_answer m s i z d σ ≡ Ok x)
     unfolding find_answer
     plain_find_answers z d = (find_of (held_at i σ) z d, rw (plain_asked i there))
 

@@ -1,5 +1,5 @@
 -- "Bytes of the lent buffer past the length are never read": the plain engine's questions answer alike where engines differ there alone. Assumes nothing.
-use Rattle.std.specs.Prelude.{◌≡◌, refl, Bool, true, false, List, ℕ, ◌<◌, eqb, ltb, ℤ}
+use Rattle.std.specs.Prelude.{◌≡◌, refl, Bool, true, false, List, ℕ, ◌<◌, eqb, ltb, ℤ, Err, Ok, Result, ⊤}
 use Rattle.std.proofs.Math.Path.{ap}
 use Rattle.std.proofs.Common.{◌∙◌}
 use Rattle.notation.specs.Choice.{pick}
@@ -8,15 +8,9 @@ use Rattle.symbol.specs.declared.Dir.{Dir}
 use Rattle.outcome.specs.declared.Refusal.{Refusal}
 use Rattle.outcome.specs.declared.Refusal.TheVariants as Why
 use Rattle.machine.specs.declared.Machine.{Machine}
-use Rattle.machine.specs.declared.Checked.{Checked}
-use Rattle.machine.specs.declared.Checked.TheVariants.{Accepted, Refused}
 use Rattle.machine.specs.Model.Check.{demand, checked_on}
 use Rattle.tape.specs.Model.Moves.{Held, held}
 use Rattle.tape.specs.Model.Questions.{cell_of, non_blank_of, count_of, window_of, find_of}
-use Rattle.run_rules.specs.declared.questions.Got.TheVariants as Got
-use Rattle.run_rules.specs.declared.questions.Extent.TheVariants as Extent
-use Rattle.run_rules.specs.declared.questions.Counted.TheVariants as Counted
-use Rattle.run_rules.specs.declared.questions.Located.TheVariants as Located
 use Rattle.sim.specs.Model.Engine.{Conf, tape0, tape1, tape2}
 use Rattle.sim.specs.Model.Questions.{held_at, question_check, asked_on, get_answer, extent_answer, count_answer, window_into, find_answer}
 use Rattle.sim_refines.specs.Lent.{SameFirst, SameLive}
@@ -45,15 +39,15 @@ module _ (m : Machine) (s : List ℕ) (i : ℕ) (σ τ : Conf) (a : SameLive m �
 
   check_same : question_check m s i σ ≡ question_check m s i τ
   unfolding question_check
-  check_same = ap (λ c. checked_on c (demand (ltb i m.tapes) Why.Misfit Accepted)) (engine_check_same m σ τ a s)
+  check_same = ap (λ c. checked_on c (demand (ltb i m.tapes) Why.Misfit (Ok tt))) (engine_check_same m σ τ a s)
 
   asked_same : {A : Type 0} (refused : Refusal → A) (F : Held → A) → ((c : List ℕ) → SameFirst (held_at i τ).tape.len c (held_at i τ).cells → F (held (held_at i τ).tape c) ≡ F (held_at i τ))
       → asked_on (question_check m s i σ) refused (F (held_at i σ)) ≡ asked_on (question_check m s i τ) refused (F (held_at i τ))
   asked_same refused F f = ap (λ c. asked_on c refused (F (held_at i σ))) check_same ∙ by (question_check m s i τ) refl
     where
-      by : (c : Checked) → question_check m s i τ ≡ c → asked_on c refused (F (held_at i σ)) ≡ asked_on c refused (F (held_at i τ))
-      by (Refused why) e = refl
-      by Accepted e =
+      by : (c : Result ⊤ Refusal) → question_check m s i τ ≡ c → asked_on c refused (F (held_at i σ)) ≡ asked_on c refused (F (held_at i τ))
+      by (Err why) e = refl
+      by (Ok tt) e =
           let l : Alike (held_at i σ) (held_at i τ) = held_alike (asked_says m s i τ e).0 in
           alike_reads F (held_at i σ) (held_at i τ) l (f (held_at i σ).cells l.cells)
 
@@ -61,15 +55,15 @@ module _ (m : Machine) (s : List ℕ) (i : ℕ) (σ τ : Conf) (a : SameLive m �
 
   pub get_live : (z : ℤ) → get_answer m s i z σ ≡ get_answer m s i z τ
   unfolding get_answer
-  get_live z = asked_same Got.Refused (λ h. Got.Found (symbol_of (cell_of h z))) (λ c e. ap (λ x. Got.Found (symbol_of x)) (cell_same (held_at i τ).tape c (held_at i τ).cells e z))
+  get_live z = asked_same Err (λ h. Ok (symbol_of (cell_of h z))) (λ c e. ap (λ x. Ok (symbol_of x)) (cell_same (held_at i τ).tape c (held_at i τ).cells e z))
 
   pub span_live : extent_answer m s i σ ≡ extent_answer m s i τ
   unfolding extent_answer
-  span_live = asked_same Extent.Refused (λ h. Extent.Found (non_blank_of h)) (λ c e. ap Extent.Found (non_blank_same _ c _ e))
+  span_live = asked_same Err (λ h. Ok (non_blank_of h)) (λ c e. ap Ok (non_blank_same _ c _ e))
 
   pub count_live : count_answer m s i σ ≡ count_answer m s i τ
   unfolding count_answer
-  count_live = asked_same Counted.Refused (λ h. Counted.Found (count_of h)) (λ c e. ap Counted.Found (counts_same _ c _ e))
+  count_live = asked_same Err (λ h. Ok (count_of h)) (λ c e. ap Ok (counts_same _ c _ e))
 
   pub window_live : (z : ℤ) (out : List ℕ) → window_into m s i z σ out ≡ window_into m s i z τ out
   unfolding window_into
@@ -77,4 +71,4 @@ module _ (m : Machine) (s : List ℕ) (i : ℕ) (σ τ : Conf) (a : SameLive m �
 
   pub find_live : (z : ℤ) (d : Dir) → find_answer m s i z d σ ≡ find_answer m s i z d τ
   unfolding find_answer
-  find_live z d = asked_same Located.Refused (λ h. Located.Found (find_of h z d)) (λ c e. ap Located.Found (find_same _ c _ e z d))
+  find_live z d = asked_same Err (λ h. Ok (find_of h z d)) (λ c e. ap Ok (find_same _ c _ e z d))

@@ -1,5 +1,6 @@
 -- The answers of the plain engine's questions: they read tape i of the configuration that it holds. Assumes nothing.
-use Rattle.std.specs.Prelude.{◌≡◌, refl, Bool, true, false, List, ℕ, ◌≤◌, ◌<◌, ◌^◌, eqb, leb, ℤ, ◌+ℤ◌, get_or}
+use Rattle.outcome.specs.declared.Refusal.{Refusal}
+use Rattle.std.specs.Prelude.{◌≡◌, refl, Bool, true, false, List, ℕ, ◌≤◌, ◌<◌, ◌^◌, eqb, leb, ℤ, ◌+ℤ◌, get_or, Err, Ok, Option, Result, ⊤}
 use Rattle.std.proofs.Math.Path.{sym, ap}
 use Rattle.std.proofs.Common.{◌∙◌, subst, arith}
 use borrow.Author.Tests.{eqb-true, eqb-false, leb-true, ltb-true, lt-ltb}
@@ -12,20 +13,13 @@ use Rattle.notation.specs.Limits.{cells_most}
 use Rattle.symbol.specs.declared.Symbol.{Symbol}
 use Rattle.symbol.specs.declared.Dir.{Dir}
 use Rattle.machine.specs.declared.Machine.{Machine}
-use Rattle.machine.specs.declared.Checked.{Checked}
-use Rattle.machine.specs.declared.Checked.TheVariants.{Accepted, Refused}
 use Rattle.machine.proofs.Facts.Check.{demand_says, on_says}
 use Rattle.tape.specs.declared.Tape.{Tape}
 use Rattle.tape.specs.declared.Span.{Span}
-use Rattle.tape.specs.declared.Spot.{Spot}
 use Rattle.tape.specs.Model.Moves.{held, no_tape}
 use Rattle.tape.specs.Model.Questions.{non_blank_of, count_of, find_of}
 use Rattle.tape.specs.Answers.{Finds, Spans}
 use Rattle.run_checks.specs.Model.Sizes.{sizes_fit}
-use Rattle.run_rules.specs.declared.questions.Got.TheVariants as Got
-use Rattle.run_rules.specs.declared.questions.Extent.TheVariants as Extent
-use Rattle.run_rules.specs.declared.questions.Counted.TheVariants as Counted
-use Rattle.run_rules.specs.declared.questions.Located.TheVariants as Located
 use Rattle.table_machine.specs.TableMachine.{Tape as Cells}
 use Rattle.sim.specs.Model.Engine.{Conf, tape1, tape2}
 use Rattle.sim.specs.Model.Operations.{if_has, bare_sim, bare_of, engine_check}
@@ -39,21 +33,21 @@ use Rattle.demands_second.specs.PlainClaims.{tape_on}
 
 -- ---- an answer that is no refusal was accepted
 
-found_got : (c : Checked) (y x : Symbol) → asked_on c Got.Refused (Got.Found y) ≡ Got.Found x → (c ≡ Accepted) × (y ≡ x)
-found_got (Refused why) y x e = let z : ◌≡◌ {A = ℕ} 0 1 = cc in absurd (omega arith)
-found_got Accepted y x e = (refl, cc)
+found_got : (c : Result ⊤ Refusal) (y x : Symbol) → asked_on c Err (Ok y) ≡ Ok x → (c ≡ Ok tt) × (y ≡ x)
+found_got (Err why) y x e = let z : ◌≡◌ {A = ℕ} 0 1 = cc in absurd (omega arith)
+found_got (Ok tt) y x e = (refl, cc)
 
-found_extent : (c : Checked) (y x : Span) → asked_on c Extent.Refused (Extent.Found y) ≡ Extent.Found x → (c ≡ Accepted) × (y ≡ x)
-found_extent (Refused why) y x e = let z : ◌≡◌ {A = ℕ} 0 1 = cc in absurd (omega arith)
-found_extent Accepted y x e = (refl, cc)
+found_extent : (c : Result ⊤ Refusal) (y x : Option Span) → asked_on c Err (Ok y) ≡ Ok x → (c ≡ Ok tt) × (y ≡ x)
+found_extent (Err why) y x e = let z : ◌≡◌ {A = ℕ} 0 1 = cc in absurd (omega arith)
+found_extent (Ok tt) y x e = (refl, cc)
 
-found_counted : (c : Checked) (y x : ℕ) → asked_on c Counted.Refused (Counted.Found y) ≡ Counted.Found x → (c ≡ Accepted) × (y ≡ x)
-found_counted (Refused why) y x e = let z : ◌≡◌ {A = ℕ} 0 1 = cc in absurd (omega arith)
-found_counted Accepted y x e = (refl, cc)
+found_counted : (c : Result ⊤ Refusal) (y x : ℕ) → asked_on c Err (Ok y) ≡ Ok x → (c ≡ Ok tt) × (y ≡ x)
+found_counted (Err why) y x e = let z : ◌≡◌ {A = ℕ} 0 1 = cc in absurd (omega arith)
+found_counted (Ok tt) y x e = (refl, cc)
 
-found_located : (c : Checked) (y x : Spot) → asked_on c Located.Refused (Located.Found y) ≡ Located.Found x → (c ≡ Accepted) × (y ≡ x)
-found_located (Refused why) y x e = let z : ◌≡◌ {A = ℕ} 0 1 = cc in absurd (omega arith)
-found_located Accepted y x e = (refl, cc)
+found_located : (c : Result ⊤ Refusal) (y x : Option ℤ) → asked_on c Err (Ok y) ≡ Ok x → (c ≡ Ok tt) × (y ≡ x)
+found_located (Err why) y x e = let z : ◌≡◌ {A = ℕ} 0 1 = cc in absurd (omega arith)
+found_located (Ok tt) y x e = (refl, cc)
 
 -- ---- the tape with a given number
 
@@ -83,7 +77,7 @@ most_has false n e f = absurd (clash e refl)
 
 module _ (m : Machine) (s : List ℕ) (i : ℕ) (σ : Conf) where
   -- the machine has the tape with this number, and the engine fits
-  pub asked_says : question_check m s i σ ≡ Accepted → (i < m.tapes) × Passed m s σ
+  pub asked_says : question_check m s i σ ≡ Ok tt → (i < m.tapes) × Passed m s σ
   unfolding question_check
   asked_says c =
       let p = on_says (engine_check m s σ) _ c in
@@ -123,31 +117,31 @@ module _ (m : Machine) (s : List ℕ) (i : ℕ) (σ : Conf) where
 
   -- ---- the five questions
 
-  pub plain_gets : (z : ℤ) (x : Symbol) → get_answer m s i z σ ≡ Got.Found x → x.0 ≡ (tape_on i (config_of m σ)).cell z
+  pub plain_gets : (z : ℤ) (x : Symbol) → get_answer m s i z σ ≡ Ok x → x.0 ≡ (tape_on i (config_of m σ)).cell z
   unfolding get_answer
   plain_gets z x e =
       let p = found_got (question_check m s i σ) _ _ e in
       sym (ap (λ (y : Symbol). y.0) p.1) ∙ ap (λ (t : Cells). t.cell z) (tape_is (asked_says p.0).0)
 
-  pub plain_spans : (x : Span) → extent_answer m s i σ ≡ Extent.Found x → Spans (tape_on i (config_of m σ)).cell x
+  pub plain_spans : (x : Option Span) → extent_answer m s i σ ≡ Ok x → Spans (tape_on i (config_of m σ)).cell x
   unfolding extent_answer
   plain_spans x e =
       let p = found_extent (question_check m s i σ) _ _ e in
       rw (← p.1) (subst (λ (t : Cells). Spans t.cell (non_blank_of (held_at i σ))) (tape_is (asked_says p.0).0) (non_blank_is (held_at i σ)))
 
-  pub plain_counts : (n : ℕ) → count_answer m s i σ ≡ Counted.Found n → Counts (tape_on i (config_of m σ)).cell n
+  pub plain_counts : (n : ℕ) → count_answer m s i σ ≡ Ok n → Counts (tape_on i (config_of m σ)).cell n
   unfolding count_answer
   plain_counts n e =
       let p = found_counted (question_check m s i σ) _ _ e in
       rw (← p.1) (subst (λ (t : Cells). Counts t.cell (count_of (held_at i σ))) (tape_is (asked_says p.0).0) (count_is (held_at i σ)))
 
-  pub plain_finds : (z : ℤ) (d : Dir) (x : Spot) → find_answer m s i z d σ ≡ Located.Found x → Finds (tape_on i (config_of m σ)).cell z d x
+  pub plain_finds : (z : ℤ) (d : Dir) (x : Option ℤ) → find_answer m s i z d σ ≡ Ok x → Finds (tape_on i (config_of m σ)).cell z d x
   unfolding find_answer
   plain_finds z d x e =
       let p = found_located (question_check m s i σ) _ _ e in
       rw (← p.1) (subst (λ (t : Cells). Finds t.cell z d (find_of (held_at i σ) z d)) (tape_is (asked_says p.0).0) (find_is (held_at i σ) z d))
 
-  pub plain_windows : question_check m s i σ ≡ Accepted → (z : ℤ) → dn z ≤ 2 ^ 63 → (out : List ℕ)
+  pub plain_windows : question_check m s i σ ≡ Ok tt → (z : ℤ) → dn z ≤ 2 ^ 63 → (out : List ℕ)
       → (length (window_into m s i z σ out) ≡ length out) × ((j : ℕ) → j < length out → get_or (window_into m s i z σ out) j 0 ≡ (tape_on i (config_of m σ)).cell (z +ℤ pos j))
   unfolding window_into
   plain_windows c z low out =

@@ -1,12 +1,12 @@
 -- The bytes that are read of the input are enough. Assumes nothing.
-use Rattle.std.specs.Prelude.{◌≡◌, List, ℕ, ◌+◌, ◌-◌, ◌≤◌, ◌<◌, eqb, leb, length, get_or, take}
+use Rattle.machine.specs.declared.Machine.{Machine}
+use Rattle.outcome.specs.declared.Refusal.{Refusal}
+use Rattle.std.specs.Prelude.{◌≡◌, List, ℕ, ◌+◌, ◌-◌, ◌≤◌, ◌<◌, eqb, leb, length, get_or, take, Err, Result}
 use Rattle.std.proofs.Common.{sym, ap, ◌∙◌, arith, leb-true, leb-false, length-take-le, take_all, take-take}
 use Rattle.notation.proofs.Facts.Tests.{by_test, pick_cases}
 use Rattle.outcome.specs.declared.Refusal.TheVariants as Why
-use Rattle.table_text_form.specs.declared.Scanned.TheVariants.{Malformed}
 use Rattle.table_text_form.specs.Form.{form_of}
 use Rattle.table_text_form.proofs.Facts.Long.{malformed_alike}
-use Rattle.table_text_reader.specs.declared.Read.{Read}
 use Rattle.table_text_reader.specs.Reading.{read_into}
 use Rattle.table_text_reader.proofs.Facts.ReadCases.{answer_malformed}
 use Rattle.line_to_listing.specs.Output.{line_length, line_in, refused_text, answer_for, blank_table, answer_to}
@@ -23,9 +23,9 @@ line_is s = length-take-le (line_length s) s (length_in s).1
 start_is : (s : List ℕ) → 776 ≤ length s → take 775 (line_in s) ≡ take 775 s
 start_is s h = take-take 775 (line_length s) s (omega (arith, (length_in s).0))
 
-malformed_answer : (s : List ℕ) (i : ℕ) → form_of (line_in s) ≡ Malformed i → answer_to s ≡ refused_text (Why.MalformedLine i)
+malformed_answer : (s : List ℕ) (i : ℕ) → form_of (line_in s) ≡ Err i → answer_to s ≡ refused_text (Why.MalformedLine i)
 unfolding answer_to
-malformed_answer s i e = ap (λ (r : Read). answer_for r (read_into (line_in s) blank_table)) (answer_malformed (line_in s) 2080 i e)
+malformed_answer s i e = ap (λ (r : Result Machine Refusal). answer_for r (read_into (line_in s) blank_table)) (answer_malformed (line_in s) 2080 i e)
 
 -- the first 65,536 bytes of an input have the same answer as the whole input
 pub answer_first : (input : List ℕ) → answer_to (take 65536 input) ≡ answer_to input

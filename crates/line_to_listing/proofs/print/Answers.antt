@@ -4,11 +4,11 @@ use Rattle.line_to_listing.proofs.print.Goals as goal
 
 pub listing-requires : goal.listing-requires
 listing-requires c =
-    let f = table_fits _ _ c.line_length-n.ensures.0 _ _ c.read_line-read.ensures _ c.in-Table.is in
+    let f = table_fits _ _ c.line_length-n.ensures.0 _ _ c.read_line-read.ensures _ c.in-Ok.is in
     (search rules, f.0, f.1)
 
-pub returns-in-Table : goal.returns-in-Table
-returns-in-Table c = table_printed _ _ c.line_length-n.ensures.0 _ _ c.read_line-read.ensures _ c.in-Table.is c.listing.ensures
+pub returns-in-Ok : goal.returns-in-Ok
+returns-in-Ok c = table_printed _ _ c.line_length-n.ensures.0 _ _ c.read_line-read.ensures _ c.in-Ok.is c.listing.ensures
 
-pub returns-in-Refused : goal.returns-in-Refused
-returns-in-Refused c = refused_printed _ _ c.line_length-n.ensures.0 _ _ c.read_line-read.ensures _ c.in-Refused.is c.refused.ensures
+pub returns-in-Err : goal.returns-in-Err
+returns-in-Err c = refused_printed _ _ c.line_length-n.ensures.0 _ _ c.read_line-read.ensures _ c.in-Err.is c.refused.ensures

@@ -1,5 +1,5 @@
 -- A listing without a bad line is answered by rows: neither the fresh engine nor the timeline is refused. Assumes nothing.
-use Rattle.std.specs.Prelude.{◌≡◌, refl, false, ℕ, ◌+◌, ◌/◌, ◌≤◌, length, replicate}
+use Rattle.std.specs.Prelude.{◌≡◌, refl, false, ℕ, ◌+◌, ◌/◌, ◌≤◌, length, replicate, Ok}
 use Rattle.std.proofs.Math.Path.{ap}
 use Rattle.std.proofs.Common.{◌∙◌, arith, le-leb, le-ltb}
 use Rattle.std.proofs.Math.Bool.{true}
@@ -9,7 +9,6 @@ use Rattle.notation.specs.Choice.{pick, both}
 use Rattle.notation.proofs.Facts.Tests.{both_true, pick_false}
 use Rattle.outcome.specs.declared.Refusal.TheVariants as Why
 use Rattle.machine.specs.declared.Machine.{Machine}
-use Rattle.machine.specs.declared.Checked.TheVariants.{Accepted}
 use Rattle.machine.specs.Model.Check.{demand, checked_on, table_check}
 use Rattle.machine.specs.Model.Word.{word_check}
 use Rattle.tape.specs.Model.Moves.{fresh_of}
@@ -43,7 +42,7 @@ store_long = length-replicate {A = ℕ} 38016 0
 
 -- ---- the fresh engine of a machine of one tape
 
-module _ (m : Machine) (s w : List ℕ) (one : m.tapes ≡ 1) (short : length w ≤ 40) (good : table_check m s ≡ Accepted) (word : word_check m.symbols w ≡ Accepted) where
+module _ (m : Machine) (s w : List ℕ) (one : m.tapes ≡ 1) (short : length w ≤ 40) (good : table_check m s ≡ Ok tt) (word : word_check m.symbols w ≡ Ok tt) where
   lacks1 : has1 m ≡ false
   lacks1 = le-ltb 1 m.tapes (omega (arith, one))
 
@@ -54,9 +53,9 @@ module _ (m : Machine) (s w : List ℕ) (one : m.tapes ≡ 1) (short : length w 
   unfolding fresh_sizes
   sizes = both_true (both_true (le-leb (length w + 32) 4096 (omega arith)) refl) (both_true (pick_false (has1 m) _ true lacks1) (pick_false (has2 m) _ true lacks2))
 
-  passes : fresh_check m s w (length cells) 0 0 ≡ Accepted
+  passes : fresh_check m s w (length cells) 0 0 ≡ Ok tt
   unfolding fresh_check pick
-  passes = ap (λ n. fresh_check m s w n 0 0) cells_long ∙ (λ i. checked_on (good i) (checked_on (word i) (demand (sizes i) Why.BufferSize Accepted)))
+  passes = ap (λ n. fresh_check m s w n 0 0) cells_long ∙ (λ i. checked_on (good i) (checked_on (word i) (demand (sizes i) Why.BufferSize (Ok tt))))
 
   abbrev engine : Conf
   engine = conf (fresh_sim m (fresh_of w cells) (blank_tape (has1 m) []) (blank_tape (has2 m) [])) (fresh_of w cells).cells (blank_tape (has1 m) []).cells (blank_tape (has2 m) []).cells
@@ -69,7 +68,7 @@ module _ (m : Machine) (s w : List ℕ) (one : m.tapes ≡ 1) (short : length w 
   unfolding blank_cells
   created = ap made_on made_is
 
-  fits : engine_check m s engine ≡ Accepted
+  fits : engine_check m s engine ≡ Ok tt
   fits = check_holds m s engine (fresh_passed m s w cells [] [] _ _ _ _ made_is)
 
   sized : slot_size m engine ≡ 4224
@@ -82,7 +81,7 @@ module _ (m : Machine) (s w : List ℕ) (one : m.tapes ≡ 1) (short : length w 
 
   -- ---- its timeline
 
-  accepts : new_check (ops_for plain_kind m s engine) 8 16 engine blank_store ≡ Accepted
+  accepts : new_check (ops_for plain_kind m s engine) 8 16 engine blank_store ≡ Ok tt
   unfolding new_check new_ok both pick
   accepts = λ i. checked_on (fits i) (first_check 8 16 (slots i))
 

@@ -5,7 +5,7 @@ use Rattle.std.proofs.Math.Path.{subst}
 use Rattle.machine.specs.declared.Machine.{Machine}
 use Rattle.tape.specs.Model.Moves.{held}
 use Rattle.sim_refines.proofs.Facts.Questions.{count_is}
-use Rattle.timeline_rule.specs.Model.Timeline.{Call}
+use Rattle.timeline_rule.specs.declared.Call.{Call}
 use Rattle.timeline_rule.specs.Model.Kind.{TimelineOf, call_on}
 use Rattle.sim_slots.specs.Model.Kind.{plain_kind}
 use Rattle.timeline_laws.specs.Statement.{after_on}

@@ -1,5 +1,6 @@
 -- The table that entry lines fill contains only bytes. Assumes nothing.
-use Rattle.std.specs.Prelude.{ℕ, zero, suc, ◌+◌, ◌*◌, ◌/◌, ◌%◌, ◌≤◌, ◌<◌, ◌≡◌, ltb, get_or}
+use Rattle.machine.specs.declared.Action.{Action}
+use Rattle.std.specs.Prelude.{ℕ, zero, suc, ◌+◌, ◌*◌, ◌/◌, ◌%◌, ◌≤◌, ◌<◌, ◌≡◌, ltb, get_or, None, Option, Some}
 use Rattle.std.proofs.Common.{sym, ap, ◌∙◌, subst, arith, length-take, get_or-take, ltb-true, ltb-false}
 use Rattle.std.proofs.Math.ListN.{get_or-eq_default}
 use Rattle.notation.proofs.Facts.Tests.{by_test}
@@ -7,8 +8,6 @@ use Rattle.symbol.specs.declared.Dir.{Dir}
 use Rattle.symbol.specs.declared.Dir.TheVariants.{L, R, N}
 use Rattle.symbol.specs.Kinds.{dir_number}
 use Rattle.machine.specs.declared.Machine.{Machine}
-use Rattle.machine.specs.declared.Entry.{Entry}
-use Rattle.machine.specs.declared.Entry.TheVariants.{Undefined, Defined}
 use Rattle.table_laws.specs.WellFormed.{Bytes, entry_bytes, EntryOf, LaidOut}
 use Rattle.listing_reader.specs.Listing.{Sofar, table_in}
 use Rattle.listing_reader.proofs.Facts.Accepted.{Kept}
@@ -19,25 +18,25 @@ small_dir R = omega arith
 small_dir N = omega arith
 
 -- the eight numbers of an entry of the machine are bytes
-entry_small : (m : Machine) → m.symbols ≤ 256 → m.states ≤ 65536 → (e : Entry) → EntryOf m e → (j : ℕ) → j < 8 → get_or (entry_bytes e) j 0 < 256
-entry_small m k n Undefined o zero h = omega arith
-entry_small m k n Undefined o (suc zero) h = omega arith
-entry_small m k n Undefined o (suc (suc zero)) h = omega arith
-entry_small m k n Undefined o (suc (suc (suc zero))) h = omega arith
-entry_small m k n Undefined o (suc (suc (suc (suc zero)))) h = omega arith
-entry_small m k n Undefined o (suc (suc (suc (suc (suc zero))))) h = omega arith
-entry_small m k n Undefined o (suc (suc (suc (suc (suc (suc zero)))))) h = omega arith
-entry_small m k n Undefined o (suc (suc (suc (suc (suc (suc (suc zero))))))) h = omega arith
-entry_small m k n Undefined o (suc (suc (suc (suc (suc (suc (suc (suc j)))))))) h = absurd (omega arith)
-entry_small m k n (Defined a) o zero h = omega arith
-entry_small m k n (Defined a) o (suc zero) h = omega arith
-entry_small m k n (Defined a) o (suc (suc zero)) h = omega (arith, o.next_in)
-entry_small m k n (Defined a) o (suc (suc (suc zero))) h = omega (arith, o.write0_in)
-entry_small m k n (Defined a) o (suc (suc (suc (suc zero)))) h = omega (arith, o.write1_in)
-entry_small m k n (Defined a) o (suc (suc (suc (suc (suc zero))))) h = omega (arith, o.write2_in)
-entry_small m k n (Defined a) o (suc (suc (suc (suc (suc (suc zero)))))) h = omega (arith, small_dir a.dir0, small_dir a.dir1, small_dir a.dir2)
-entry_small m k n (Defined a) o (suc (suc (suc (suc (suc (suc (suc zero))))))) h = omega arith
-entry_small m k n (Defined a) o (suc (suc (suc (suc (suc (suc (suc (suc j)))))))) h = absurd (omega arith)
+entry_small : (m : Machine) → m.symbols ≤ 256 → m.states ≤ 65536 → (e : Option Action) → EntryOf m e → (j : ℕ) → j < 8 → get_or (entry_bytes e) j 0 < 256
+entry_small m k n None o zero h = omega arith
+entry_small m k n None o (suc zero) h = omega arith
+entry_small m k n None o (suc (suc zero)) h = omega arith
+entry_small m k n None o (suc (suc (suc zero))) h = omega arith
+entry_small m k n None o (suc (suc (suc (suc zero)))) h = omega arith
+entry_small m k n None o (suc (suc (suc (suc (suc zero))))) h = omega arith
+entry_small m k n None o (suc (suc (suc (suc (suc (suc zero)))))) h = omega arith
+entry_small m k n None o (suc (suc (suc (suc (suc (suc (suc zero))))))) h = omega arith
+entry_small m k n None o (suc (suc (suc (suc (suc (suc (suc (suc j)))))))) h = absurd (omega arith)
+entry_small m k n (Some a) o zero h = omega arith
+entry_small m k n (Some a) o (suc zero) h = omega arith
+entry_small m k n (Some a) o (suc (suc zero)) h = omega (arith, o.next_in)
+entry_small m k n (Some a) o (suc (suc (suc zero))) h = omega (arith, o.write0_in)
+entry_small m k n (Some a) o (suc (suc (suc (suc zero)))) h = omega (arith, o.write1_in)
+entry_small m k n (Some a) o (suc (suc (suc (suc (suc zero))))) h = omega (arith, o.write2_in)
+entry_small m k n (Some a) o (suc (suc (suc (suc (suc (suc zero)))))) h = omega (arith, small_dir a.dir0, small_dir a.dir1, small_dir a.dir2)
+entry_small m k n (Some a) o (suc (suc (suc (suc (suc (suc (suc zero))))))) h = omega arith
+entry_small m k n (Some a) o (suc (suc (suc (suc (suc (suc (suc (suc j)))))))) h = absurd (omega arith)
 
 module _ (x : Sofar) (k : Kept x) (j : ℕ) where
   abbrev n : ℕ

@@ -1,9 +1,9 @@
 -- THE TABLE OF AN ACCEPTED LISTING: each entry line defines its entry, and no other entry is defined. Assumes nothing.
-use Rattle.std.specs.Prelude.{ℕ, ◌+◌, ◌*◌, ◌/◌, ◌%◌, ◌^◌, ◌<◌, ◌≡◌, true, false, leb, ltb, length, get_or}
+use Rattle.machine.specs.declared.Action.{Action}
+use Rattle.std.specs.Prelude.{ℕ, ◌+◌, ◌*◌, ◌/◌, ◌%◌, ◌^◌, ◌<◌, ◌≡◌, true, false, leb, ltb, length, get_or, None, Option, Some}
 use Rattle.std.proofs.Math.Path.{refl, ap, subst}
 use Rattle.std.proofs.Common.{sym, ◌∙◌, arith, pow-suc, length-take-le}
 use mathlib.Core.List.{List, [], ◌∷◌, ◌++◌}
-use Rattle.std.proofs.Math.Option.{Option, none, some}
 use Rattle.std.proofs.Math.Nat.{pow-zero}
 use Rattle.std.proofs.Math.Arith.{digits_lt, digits_div, digits_mod}
 use Rattle.std.proofs.lemmas.List.{get_or-replicate}
@@ -14,9 +14,7 @@ use Rattle.notation.proofs.Facts.Tests.{by_test, pick_cases}
 use Rattle.symbol.specs.declared.Dir.{Dir}
 use Rattle.symbol.specs.Kinds.{symbol_of, state_of}
 use Rattle.machine.specs.declared.Machine.{Machine}
-use Rattle.machine.specs.declared.Entry.{Entry}
-use Rattle.machine.specs.declared.Entry.TheVariants.{Undefined, Defined}
-use Rattle.machine.specs.Layout.{stride_of, entry_number, byte_at, dir_of, single_of, entry_at}
+use Rattle.machine.specs.Layout.{stride_of, entry_number, byte_at, single_of, entry_at}
 use Rattle.table_laws.specs.WellFormed.{entry_bytes}
 use Rattle.table_laws.proofs.Facts.Reading.{entry_read}
 use Rattle.table_machine.specs.Tables.{table_of}
@@ -121,15 +119,15 @@ module _ (y : Sofar) where
     line_word t = simp t
 
     module _ (t : same_list l word_line ≡ false) where
-      line-none : entry_line x.machine l ≡ none → line Entries x l ≡ bad
+      line-none : entry_line x.machine l ≡ None → line Entries x l ≡ bad
       unfolding line pick on_some
       line-none e = simp (t, e)
 
-      line_twice : (e : Rule) → entry_line x.machine l ≡ some e → given x.machine x.table e ≡ true → line Entries x l ≡ bad
+      line_twice : (e : Rule) → entry_line x.machine l ≡ Some e → given x.machine x.table e ≡ true → line Entries x l ≡ bad
       unfolding line pick on_some
       line_twice e p q = simp (t, p, q)
 
-      line_once : (e : Rule) → entry_line x.machine l ≡ some e → given x.machine x.table e ≡ false → line Entries x l ≡ on Entries (more x e)
+      line_once : (e : Rule) → entry_line x.machine l ≡ Some e → given x.machine x.table e ≡ false → line Entries x l ≡ on Entries (more x e)
       unfolding line pick on_some
       line_once e p q = simp (t, p, q)
 
@@ -156,8 +154,8 @@ module _ (y : Sofar) where
               }
 
           at_entry : same_list l word_line ≡ false → (o : Option Rule) → entry_line x.machine l ≡ o → Entered x (l ∷ ls)
-          at_entry t none e = absurd (no_asked (goes bad (line-none x l t e)))
-          at_entry t (some r) e =
+          at_entry t None e = absurd (no_asked (goes bad (line-none x l t e)))
+          at_entry t (Some r) e =
               by_test (given x.machine x.table r)
               (λ q. absurd (no_asked (goes bad (line_twice x l t r e q))))
               (λ q.
@@ -186,15 +184,15 @@ module _ (y : Sofar) where
   with m x = record { machine = m; table = x.table; word = x.word; calls = x.calls }
 
   numbers : (n : ℕ) (x : Sofar) (ls : List (List ℕ)) → read_from n Numbers x ls ≡ asked y
-      → (l : List ℕ) × (m : Machine) × (rest : List (List ℕ)) × (ls ≡ l ∷ rest) × (machine_line l ≡ some m) × (read_from (n + 1) Columns (with m x) rest ≡ asked y)
+      → (l : List ℕ) × (m : Machine) × (rest : List (List ℕ)) × (ls ≡ l ∷ rest) × (machine_line l ≡ Some m) × (read_from (n + 1) Columns (with m x) rest ≡ asked y)
   unfolding read_from at_end on_next line on_some
   numbers n x [] p = absurd (no_asked p)
   numbers n x (l ∷ ls) p = by (machine_line l) refl
     where
       by : (o : Option Machine) → machine_line l ≡ o
-          → (l' : List ℕ) × (m : Machine) × (rest : List (List ℕ)) × (l ∷ ls ≡ l' ∷ rest) × (machine_line l' ≡ some m) × (read_from (n + 1) Columns (with m x) rest ≡ asked y)
-      by none e = absurd (no_asked (leads n Numbers x l ls p bad (simp e)))
-      by (some m) e = (l, m, ls, refl, e, leads n Numbers x l ls p (on Columns (with m x)) (simp e))
+          → (l' : List ℕ) × (m : Machine) × (rest : List (List ℕ)) × (l ∷ ls ≡ l' ∷ rest) × (machine_line l' ≡ Some m) × (read_from (n + 1) Columns (with m x) rest ≡ asked y)
+      by None e = absurd (no_asked (leads n Numbers x l ls p bad (simp e)))
+      by (Some m) e = (l, m, ls, refl, e, leads n Numbers x l ls p (on Columns (with m x)) (simp e))
 
 -- ---- an entry of the table, by its bytes
 
@@ -215,7 +213,7 @@ module _ (x : Sofar) (k : Kept x) (q a : ℕ) (h : q < x.machine.states) (g : a 
       let stride : stride_of x.machine ≡ x.machine.symbols = ap (λ (t : ℕ). x.machine.symbols ^ t) k.good.one ∙ one in
       ap (λ (s : ℕ). q * s + a + x.machine.symbols * 0 + x.machine.symbols * x.machine.symbols * 0) stride ∙ omega arith
 
-  pub table_at : (e : Entry) → ((j : ℕ) → j < 8 → byte_at x.table at j ≡ get_or (entry_bytes e) j 0) → table_of x.machine (table_in x) q a 0 0 ≡ e
+  pub table_at : (e : Option Action) → ((j : ℕ) → j < 8 → byte_at x.table at j ≡ get_or (entry_bytes e) j 0) → table_of x.machine (table_in x) q a 0 0 ≡ e
   unfolding table_of
   table_at e written =
       ap (entry_at (table_in x)) number_at
@@ -223,7 +221,7 @@ module _ (x : Sofar) (k : Kept x) (q a : ℕ) (h : q < x.machine.states) (g : a 
       (λ j l. get_or-take (8 * (x.machine.states * x.machine.symbols)) x.table (8 * at + j) 0 (omega (arith, inside)) ∙ written j l)
 
 -- before the first line no entry is defined
-blank_at_lem : (p j : ℕ) → p < 4096 → j < 8 → get_or nothing.table p 0 ≡ get_or (entry_bytes Undefined) j 0
+blank_at_lem : (p j : ℕ) → p < 4096 → j < 8 → get_or nothing.table p 0 ≡ get_or (entry_bytes None) j 0
 unfolding nothing
 blank_at_lem p j h b = get_or-replicate 4096 p 0 0 h ∙ sym (get_or-replicate 8 j 0 0 b)
 
@@ -237,7 +235,7 @@ module _ (s : List ℕ) (x : Sofar) (e : listing s ≡ asked x) where
   unfolding listing line at_end
   first = fixed x Names Numbers first_line (λ y l. refl) (λ n y. refl) 1 nothing (lines s) e
 
-  second : (l : List ℕ) × (m : Machine) × (rest : List (List ℕ)) × (first.0 ≡ l ∷ rest) × (machine_line l ≡ some m) × (read_from (1 + 1 + 1) Columns (with x m nothing) rest ≡ asked x)
+  second : (l : List ℕ) × (m : Machine) × (rest : List (List ℕ)) × (first.0 ≡ l ∷ rest) × (machine_line l ≡ Some m) × (read_from (1 + 1 + 1) Columns (with x m nothing) rest ≡ asked x)
   second = numbers x (1 + 1) nothing first.0 first.2
 
   third : (rest : List (List ℕ)) × (second.2 ≡ columns_line ∷ rest) × (read_from (1 + 1 + 1 + 1) Entries (with x second.1 nothing) rest ≡ asked x)
@@ -258,39 +256,39 @@ module _ (s : List ℕ) (x : Sofar) (e : listing s ≡ asked x) where
   blank_long = length-replicate {A = ℕ} 4096 0
 
   line_of_holds : (i : ℕ) → i < length es
-      → (r : Rule) × (entry_line x.machine (get_or es i []) ≡ some r) × ((j : ℕ) → j < 8 → byte_at x.table (number_in x.machine r) j ≡ get_or (entry_bytes (Defined (action_of r))) j 0)
+      → (r : Rule) × (entry_line x.machine (get_or es i []) ≡ Some r) × ((j : ℕ) → j < 8 → byte_at x.table (number_in x.machine r) j ≡ get_or (entry_bytes (Some (action_of r))) j 0)
   line_of_holds i h = made x.machine k.good es nothing.table x.table blank_long filled_table i h
 
-  gives : (l : List ℕ) (r : Rule) → entry_line x.machine l ≡ some r → Gives x.machine l r.state r.read r.write (dir_of r.dir) r.next
+  gives : (l : List ℕ) (r : Rule) → entry_line x.machine l ≡ Some r → Gives x.machine l r.state r.read r.write r.dir r.next
   gives l r p =
       let o : RuleOk x.machine r = rule_ok x.machine l r p in
       record { state_in_holds = o.state_ok; read_in = o.read_ok; write_in = o.write_ok; next_in = o.next_ok; text = entry_text_lem x.machine l r p }
 
   made_by : (i q a w : ℕ) (d : Dir) (r : ℕ) → i < length es → Gives x.machine (get_or es i []) q a w d r
-      → table_of x.machine (table_in x) q a 0 0 ≡ Defined (single_of (symbol_of w) d (state_of r))
+      → table_of x.machine (table_in x) q a 0 0 ≡ Some (single_of (symbol_of w) d (state_of r))
   made_by i q a w d r h t =
       let f = line_of_holds i h in
       let n : number_in x.machine f.0 ≡ q * x.machine.symbols + a = number_is x.machine k.good (get_or es i []) f.0 f.1 q a w d r t in
       let c : action_of f.0 ≡ single_of (symbol_of w) d (state_of r) = action_is x.machine k.good (get_or es i []) f.0 f.1 q a w d r t in
-      table_at x k q a t.state_in_holds t.read_in (Defined (action_of f.0)) (λ j b. ap (λ (p : ℕ). byte_at x.table p j) (sym n) ∙ f.2 j b) ∙ ap Defined c
+      table_at x k q a t.state_in_holds t.read_in (Some (action_of f.0)) (λ j b. ap (λ (p : ℕ). byte_at x.table p j) (sym n) ∙ f.2 j b) ∙ ap Some c
 
   not_made : (q a : ℕ) → q < x.machine.states → a < x.machine.symbols
-      → ((i w : ℕ) (d : Dir) (r : ℕ) → i < length es → ¬ Gives x.machine (get_or es i []) q a w d r) → table_of x.machine (table_in x) q a 0 0 ≡ Undefined
+      → ((i w : ℕ) (d : Dir) (r : ℕ) → i < length es → ¬ Gives x.machine (get_or es i []) q a w d r) → table_of x.machine (table_in x) q a 0 0 ≡ None
   not_made q a h g none-gives =
-      table_at x k q a h g Undefined
+      table_at x k q a h g None
       (λ j b. left x.machine k.good es nothing.table x.table blank_long filled_table (q * x.machine.symbols + a) other j b ∙ blank j b)
     where
-      blank : (j : ℕ) → j < 8 → byte_at nothing.table (q * x.machine.symbols + a) j ≡ get_or (entry_bytes Undefined) j 0
+      blank : (j : ℕ) → j < 8 → byte_at nothing.table (q * x.machine.symbols + a) j ≡ get_or (entry_bytes None) j 0
       blank j b = blank_at_lem (8 * (q * x.machine.symbols + a) + j) j (omega (arith, inside x k q a h g, k.good.few)) b
 
-      other : (i : ℕ) (r : Rule) → i < length es → entry_line x.machine (get_or es i []) ≡ some r → ¬ (q * x.machine.symbols + a ≡ number_in x.machine r)
+      other : (i : ℕ) (r : Rule) → i < length es → entry_line x.machine (get_or es i []) ≡ Some r → ¬ (q * x.machine.symbols + a ≡ number_in x.machine r)
       other i r b p z =
           let o : RuleOk x.machine r = rule_ok x.machine (get_or es i []) r p in
           let n : q ≡ r.state = sym (digits_div q g) ∙ ap (λ (v : ℕ). v / x.machine.symbols) z ∙ digits_div r.state o.read_ok in
           let c : a ≡ r.read = sym (digits_mod q g) ∙ ap (λ (v : ℕ). v % x.machine.symbols) z ∙ digits_mod r.state o.read_ok in
-          let t : Gives x.machine (get_or es i []) q a r.write (dir_of r.dir) r.next =
+          let t : Gives x.machine (get_or es i []) q a r.write r.dir r.next =
           rw (n, c) (gives (get_or es i []) r p) in
-          none-gives i r.write (dir_of r.dir) r.next b t
+          none-gives i r.write r.dir r.next b t
 
   pub listing_gives : GivesTable s x.machine (table_in x)
   listing_gives = record {
@@ -300,7 +298,7 @@ module _ (s : List ℕ) (x : Sofar) (e : listing s ≡ asked x) where
         first.1
         ∙ ap (λ (u : List (List ℕ)). first_line ∷ u) second.3
         ∙ (λ i. first_line ∷ (machine_text_lem second.0 second.1 second.4 ∙ ap machine_text (sym given_lines.same)) i ∷ (third.1 ∙ ap (λ (u : List (List ℕ)). columns_line ∷ u) given_lines.split) i);
-    each = λ i h. let f = line_of_holds i h in (f.0.state, f.0.read, f.0.write, dir_of f.0.dir, f.0.next, gives (get_or es i []) f.0 f.1);
+    each = λ i h. let f = line_of_holds i h in (f.0.state, f.0.read, f.0.write, f.0.dir, f.0.next, gives (get_or es i []) f.0 f.1);
     given = made_by;
     ungiven = not_made;
   }

@@ -1,5 +1,5 @@
 -- Text read and text printed: each number, letter and line has exactly one text. Assumes nothing.
-use Rattle.std.specs.Prelude.{ℕ, zero, suc, ◌+◌, ◌*◌, ◌-◌, ◌/◌, ◌%◌, ◌^◌, ◌≤◌, ◌<◌, ◌≡◌, refl, Bool, true, false, List, [], ◌∷◌, ◌++◌, eqb, ltb, length}
+use Rattle.std.specs.Prelude.{ℕ, zero, suc, ◌+◌, ◌*◌, ◌-◌, ◌/◌, ◌%◌, ◌^◌, ◌≤◌, ◌<◌, ◌≡◌, refl, Bool, true, false, List, [], ◌∷◌, ◌++◌, eqb, ltb, length, None, Some}
 use Rattle.std.proofs.Common.{sym, ap, ◌∙◌, append-nil, arith, pow-suc, ltb-true, ltb-false, leb-true, eqb-true, lt-ltb, le-ltb, ne_eqb}
 use Rattle.std.proofs.Math.Nat.{pow-zero}
 use Rattle.std.proofs.lemmas.Bool.{eqb-false}
@@ -7,34 +7,33 @@ use Rattle.notation.specs.Choice.{pick}
 use Rattle.notation.proofs.Facts.Tests.{clash, both_split, by_test, pick_true, pick_false, pick_cases}
 use Rattle.symbol.specs.declared.Dir.{Dir}
 use Rattle.symbol.specs.declared.Dir.TheVariants.{L, R, N}
-use Rattle.machine.specs.Layout.{dir_of}
 use Rattle.listing_text.specs.Text.{bytes}
 use Rattle.listing_text.specs.Pieces.{onto, pieces, fields, same_list}
 use Rattle.listing_text.specs.Numbers.{is_digit, digits, number}
 use Rattle.listing_text.specs.Show.{show, show_on}
 use Rattle.listing_text.proofs.Facts.PieceCases.{some_field}
 use Rattle.listing_text.proofs.Facts.Chain.{no_value, pick_inv}
-use Rattle.listing_text.specs.declared.Num.TheVariants.{Value, Bad}
 use Rattle.listing_lines.specs.Forms.{move}
+use Rattle.listing_lines.proofs.Facts.Forms.{no_some}
 use Rattle.listing_laws.specs.EntryLines.{joined, letter_of}
 
 -- ---- numbers
 
-digit_is : (u b : ℕ) (s : List ℕ) (v : ℕ) → digits u (b ∷ s) ≡ Value v → (48 ≤ b) × (b ≤ 57) × (digits (u * 10 + (b - 48)) s ≡ Value v)
+digit_is : (u b : ℕ) (s : List ℕ) (v : ℕ) → digits u (b ∷ s) ≡ Some v → (48 ≤ b) × (b ≤ 57) × (digits (u * 10 + (b - 48)) s ≡ Some v)
 unfolding digits
 digit_is u b s v p =
     let q = pick_inv (is_digit b) _ no_value p in
     let r = both_split q.0 in
     (leb-true 48 b r.0, leb-true b 57 r.1, q.1)
 
-last_is : (u v : ℕ) → digits u [] ≡ Value v → (u ≡ v) × (v < 2 ^ 64)
+last_is : (u v : ℕ) → digits u [] ≡ Some v → (u ≡ v) × (v < 2 ^ 64)
 unfolding digits
 last_is u v p =
-    let q = pick_inv (ltb u (2 ^ 64)) (Value u) no_value p in
+    let q = pick_inv (ltb u (2 ^ 64)) (Some u) no_value p in
     let e : u ≡ v = cc in
     (e, rw (← e) (ltb-true u (2 ^ 64) q.0))
 
-value_ok : (s : List ℕ) (u v : ℕ) → digits u s ≡ Value v → (u ≤ v) × (v < 2 ^ 64)
+value_ok : (s : List ℕ) (u v : ℕ) → digits u s ≡ Some v → (u ≤ v) × (v < 2 ^ 64)
 value_ok [] u v p = let q = last_is u v p in (omega (arith, q.0), q.1)
 value_ok (b ∷ s) u v p =
     let q = digit_is u b s v p in
@@ -52,7 +51,7 @@ digit_off f u b after h g k =
     ∙ (λ i. show_on f (x i) (y i ∷ after))
 
 -- the digits after u, split off one by one
-spelled : (s : List ℕ) (u v f : ℕ) (after : List ℕ) → 0 < u → digits u s ≡ Value v → show_on (f + length s) v after ≡ show_on f u (s ++ after)
+spelled : (s : List ℕ) (u v f : ℕ) (after : List ℕ) → 0 < u → digits u s ≡ Some v → show_on (f + length s) v after ≡ show_on f u (s ++ after)
 spelled [] u v f after h p =
     let q = last_is u v p in
     let z : f + 0 ≡ f = omega arith in
@@ -86,7 +85,7 @@ show_digit v after h =
     pick_true (ltb v 10) ((48 + v % 10) ∷ after) (show_on 19 (v / 10) ((48 + v % 10) ∷ after)) (lt-ltb v 10 h) ∙ ap (λ (b : ℕ). b ∷ after) z
 
 -- a number has one text
-pub show_of : (f : List ℕ) (v : ℕ) → number f ≡ Value v → f ≡ show v
+pub show_of : (f : List ℕ) (v : ℕ) → number f ≡ Some v → f ≡ show v
 unfolding number show
 show_of [] v p = absurd (no_value p)
 show_of (b ∷ []) v p =
@@ -95,9 +94,9 @@ show_of (b ∷ []) v p =
     let z : b ≡ 48 + v = omega (arith, q.0, q.1, e.0) in
     ap (λ n. n ∷ []) z ∙ sym (show_digit v [] (omega (arith, q.0, q.1, e.0)))
 show_of (b ∷ c ∷ s) v p =
-    let t : eqb b 48 ≡ false = by_test (eqb b 48) (λ t. absurd (no_value (sym (pick_true (eqb b 48) Bad _ t) ∙ p))) (λ t. t) in
+    let t : eqb b 48 ≡ false = by_test (eqb b 48) (λ t. absurd (no_value (sym (pick_true (eqb b 48) None _ t) ∙ p))) (λ t. t) in
     let n : b ≡ 48 → ⊥ = eqb-false b 48 t in
-    let q = digit_is 0 b (c ∷ s) v (sym (pick_false (eqb b 48) Bad (digits 0 (b ∷ c ∷ s)) t) ∙ p) in
+    let q = digit_is 0 b (c ∷ s) v (sym (pick_false (eqb b 48) None (digits 0 (b ∷ c ∷ s)) t) ∙ p) in
     let u : ℕ = 0 * 10 + (b - 48) in
     let h : 0 < u = omega (arith, q.0, n) in
     let o = value_ok (c ∷ s) u v q.2 in
@@ -122,16 +121,16 @@ same_is (x ∷ xs) (y ∷ ys) p =
     let r : xs ≡ ys = same_is xs ys q.1 in
     λ i. e i ∷ r i
 
-pub letter_of_lem : (f : List ℕ) (v : ℕ) → move f ≡ Value v → f ≡ letter_of (dir_of v)
+pub letter_of_lem : (f : List ℕ) (v : Dir) → move f ≡ Some v → f ≡ letter_of v
 unfolding move pick
 letter_of_lem f v p = go (same_list f (bytes "L")) refl (same_list f (bytes "R")) refl (same_list f (bytes "N")) refl p
   where
     go : (a : Bool) → same_list f (bytes "L") ≡ a → (b : Bool) → same_list f (bytes "R") ≡ b → (c : Bool) → same_list f (bytes "N") ≡ c
-        → pick a (Value 0) (pick b (Value 1) (pick c (Value 2) Bad)) ≡ Value v → f ≡ letter_of (dir_of v)
-    go true x b y c z p = let k : 0 ≡ v = cc in rw (← k) (same_is f (bytes "L") x)
-    go false x true y c z p = let k : 1 ≡ v = cc in rw (← k) (same_is f (bytes "R") y)
-    go false x false y true z p = let k : 2 ≡ v = cc in rw (← k) (same_is f (bytes "N") z)
-    go false x false y false z p = absurd (no_value p)
+        → pick a (Some L) (pick b (Some R) (pick c (Some N) None)) ≡ Some v → f ≡ letter_of v
+    go true x b y c z p = let k : L ≡ v = cc in rw (← k) (same_is f (bytes "L") x)
+    go false x true y c z p = let k : R ≡ v = cc in rw (← k) (same_is f (bytes "R") y)
+    go false x false y true z p = let k : N ≡ v = cc in rw (← k) (same_is f (bytes "N") z)
+    go false x false y false z p = absurd (no_some p)
 
 -- ---- a line is its fields, with a space between them
 

@@ -1,59 +1,49 @@
 -- The ranges of the numbers in a form that was read. Assumes nothing.
-use Rattle.std.specs.Prelude.{ℕ, ◌*◌, ◌≤◌, ◌<◌, ◌≡◌, Bool, true, false, List, eqb, ltb, length}
-use Rattle.std.proofs.Math.Option.{none, some}
+use Rattle.std.specs.Prelude.{ℕ, ◌*◌, ◌≤◌, ◌<◌, ◌≡◌, refl, true, List, eqb, ltb, length, None, Option, Some}
 use Rattle.std.proofs.Common.{arith, ltb-true, leb-true, eqb-true}
 use Rattle.std.proofs.Math.Arith.{digits_lt}
-use Rattle.notation.specs.Choice.{pick}
 use Rattle.notation.proofs.Facts.Tests.{both_split}
 use Rattle.machine.specs.declared.Machine.{Machine}
-use Rattle.listing_text.specs.Text.{bytes}
-use Rattle.listing_text.specs.Pieces.{fields, field, same_list}
+use Rattle.listing_text.specs.Pieces.{fields, field}
 use Rattle.listing_text.specs.Numbers.{number, below}
 use Rattle.listing_text.proofs.Facts.Chain.{no_value, pick_inv, num_inv}
-use Rattle.listing_text.specs.declared.Num.TheVariants.{Value, Bad}
 use Rattle.listing_lines.specs.declared.Rule.{Rule}
-use Rattle.listing_lines.specs.Forms.{machine_ok, machine_line, move, entry_line, number_in}
+use Rattle.listing_lines.specs.Forms.{on_some, machine_ok, machine_line, entry_line, number_in}
 use Rattle.listing_lines.specs.Model.{Small, RuleOk}
 
-pub no_some : {A : Type 0} {a : A} → none ≡ some a → ⊥
+pub no_some : {A : Type 0} {a : A} → None ≡ Some a → ⊥
 no_some p = let z : ◌≡◌ {A = ℕ} 0 1 = cc in omega arith
 
-pub below_lt : (top : ℕ) (f : List ℕ) (v : ℕ) → below top f ≡ Value v → v < top
+pub below_lt : (top : ℕ) (f : List ℕ) (v : ℕ) → below top f ≡ Some v → v < top
 unfolding below
 below_lt top f v p =
     let i = num_inv (number f) _ no_value p in
-    let q = pick_inv (ltb i.0 top) (Value i.0) no_value i.2 in
+    let q = pick_inv (ltb i.0 top) (Some i.0) no_value i.2 in
     let e : i.0 ≡ v = cc in
     rw (← e) (ltb-true i.0 top q.0)
 
-move_lt : (f : List ℕ) (v : ℕ) → move f ≡ Value v → v < 3
-unfolding move pick
-move_lt f v p = go (same_list f (bytes "L")) (same_list f (bytes "R")) (same_list f (bytes "N")) p
-  where
-    go : (a b c : Bool) → pick a (Value 0) (pick b (Value 1) (pick c (Value 2) Bad)) ≡ Value v → v < 3
-    go true b c p = let k : 0 ≡ v = cc in omega arith
-    go false true c p = let k : 1 ≡ v = cc in omega arith
-    go false false true p = let k : 2 ≡ v = cc in omega arith
-    go false false false p = absurd (no_value p)
+-- the converse of `on_some`: from its result to its parts
+pub some_inv : {A B : Type 0} {o x : A} (n : Option B) (go : B → A) → (o ≡ x → ⊥) → on_some n o go ≡ x → (v : B) × (n ≡ Some v) × (go v ≡ x)
+unfolding on_some
+some_inv (Some v) go h p = (v, refl, p)
+some_inv None go h p = absurd (h p)
 
-pub rule_ok : (m : Machine) (l : List ℕ) (e : Rule) → entry_line m l ≡ some e → RuleOk m e
+pub rule_ok : (m : Machine) (l : List ℕ) (e : Rule) → entry_line m l ≡ Some e → RuleOk m e
 unfolding entry_line
 rule_ok m l e p =
     let i0 = num_inv _ _ no_some (pick_inv (eqb (length (fields l)) 5) _ no_some p).1 in
     let i1 = num_inv _ _ no_some i0.2 in
     let i2 = num_inv _ _ no_some i1.2 in
-    let i3 = num_inv _ _ no_some i2.2 in
+    let i3 = some_inv _ _ no_some i2.2 in
     let i4 = num_inv _ _ no_some i3.2 in
     let x0 : i0.0 ≡ e.state = cc in
     let x1 : i1.0 ≡ e.read = cc in
     let x2 : i2.0 ≡ e.write = cc in
-    let x3 : i3.0 ≡ e.dir = cc in
     let x4 : i4.0 ≡ e.next = cc in
     record {
       state_ok = rw (← x0) (below_lt m.states (field l 0) i0.0 i0.1);
       read_ok = rw (← x1) (below_lt m.symbols (field l 1) i1.0 i1.1);
       write_ok = rw (← x2) (below_lt m.symbols (field l 2) i2.0 i2.1);
-      dir_ok = rw (← x3) (move_lt (field l 3) i3.0 i3.1);
       next_ok = rw (← x4) (below_lt m.states (field l 4) i4.0 i4.1);
     }
 
@@ -88,7 +78,7 @@ good_of m e =
       few = leb-true (m.states * m.symbols) 512 p6.1;
     }
 
-pub machine_good : (l : List ℕ) (m : Machine) → machine_line l ≡ some m → Good m
+pub machine_good : (l : List ℕ) (m : Machine) → machine_line l ≡ Some m → Good m
 unfolding machine_line
 machine_good l m p =
     let i0 = num_inv _ _ no_some (pick_inv (eqb (length (fields l)) 4) _ no_some p).1 in

@@ -1,11 +1,9 @@
 -- The table and the word of an accepted listing pass the checks of every operation that takes them. Assumes nothing.
-use Rattle.std.specs.Prelude.{ℕ, suc, zero, ◌+◌, ◌*◌, ◌-◌, ◌^◌, ◌≤◌, ◌<◌, List, [], ◌∷◌, ◌++◌, leb, ltb, length, get_or, replicate}
+use Rattle.std.specs.Prelude.{ℕ, suc, zero, ◌+◌, ◌*◌, ◌-◌, ◌^◌, ◌≤◌, ◌<◌, List, [], ◌∷◌, leb, ltb, length, get_or, replicate, Err, None, Ok, Option, Some}
 use Rattle.std.proofs.Math.Path.{◌≡◌, refl, ap}
 use Rattle.std.proofs.Common.{sym, ◌∙◌, subst, arith, pow-suc, length-append, get_or-take, length-take-le}
-use Rattle.std.proofs.Math.Option.{Option, none, some}
 use Rattle.std.proofs.Math.Nat.{pow-zero}
 use Rattle.std.proofs.lemmas.List.{length-replicate}
-use Rattle.std.proofs.Math.ListN.{length-take}
 use Rattle.std.proofs.Math.Seq.{take-append_seam}
 use borrow.Author.Tests.{leb-true, ltb-true, lt-ltb, le-leb}
 use Rattle.notation.proofs.Facts.Tests.{pick_true, pick_cases}
@@ -13,26 +11,22 @@ use Rattle.notation.proofs.Facts.Scan.{clean_none}
 use Rattle.notation.specs.Limits.{word_most}
 use Rattle.outcome.specs.declared.Refusal.TheVariants as Why
 use Rattle.machine.specs.declared.Machine.{Machine}
-use Rattle.machine.specs.declared.Checked.TheVariants.{Accepted}
 use Rattle.machine.specs.Layout.{entry_count}
 use Rattle.machine.specs.Model.Check.{answer_at, table_check}
 use Rattle.machine.specs.Model.Word.{symbol_in, symbols_check, word_check}
 use Rattle.table_laws.specs.WellFormed.{LaidOut, WellFormed}
 use Rattle.table_laws.proofs.Facts.CheckExact.{table_check_accepts}
-use Rattle.timeline_rule.specs.Model.Timeline.{Call, seek, forward, back, call_for}
+use Rattle.timeline_rule.specs.declared.Call.TheVariants.{Seek}
 use Rattle.listing_text.specs.Pieces.{same_list, lines}
 use Rattle.listing_text.proofs.Facts.Chain.{pick_inv}
 use Rattle.listing_lines.specs.Forms.{first_line, columns_line, word_line, heading_line, on_some, machine_line, entry_line, word_of, call_line, given}
-use Rattle.listing_lines.specs.Model.{calls_of}
 use Rattle.listing_lines.proofs.Facts.Forms.{Good, good_small, machine_good, rule_ok}
-use Rattle.listing_lines.proofs.Facts.FormCases.{length-calls_of}
 use Rattle.listing_reader.specs.declared.Due.{Due}
 use Rattle.listing_reader.specs.declared.Due.TheVariants.{Names, Numbers, Columns, Entries, Word, Heading, Calls}
 use Rattle.listing_reader.specs.declared.Reader.{Reader}
 use Rattle.listing_reader.specs.declared.Contents.{Contents}
-use Rattle.listing_reader.specs.declared.Parsed.TheVariants as P
 use Rattle.listing_reader.specs.Listing.{Sofar, table_in, nothing, Next, on, bad, line, Listing, refused, asked, at_end, on_next, read_from, listing}
-use Rattle.listing_reader.specs.Contents.{broken_off, read_up_to, last_read, filled, kind_of, size_of, numbers_of, places_of, reader_of, parsed_of, contents_of}
+use Rattle.listing_reader.specs.Contents.{broken_off, read_up_to, last_read, filled, places_of, reader_of, parsed_of, contents_of}
 use Rattle.listing_reader.specs.Invariants.{sofar, ReaderOk}
 use Rattle.listing_reader.proofs.Facts.Word.{AllBelow, word_good}
 use Rattle.listing_reader.proofs.Facts.Table.{Laid, laid_blank, define_length, laid_define}
@@ -60,10 +54,10 @@ abbrev pub ReadyNext : Next → Type 0
 ReadyNext (on d x) = Ready d x
 ReadyNext bad = Unit {0}
 
-pub some_cases : {A B : Type 0} (o : Option B) (out : A) (go : B → A) (P : A → Type 0) → P out → ((b : B) → o ≡ some b → P (go b)) → P (on_some o out go)
+pub some_cases : {A B : Type 0} (o : Option B) (out : A) (go : B → A) (P : A → Type 0) → P out → ((b : B) → o ≡ Some b → P (go b)) → P (on_some o out go)
 unfolding on_some
-some_cases (some b) out go P p f = f b refl
-some_cases none out go P p f = p
+some_cases (Some b) out go P p f = f b refl
+some_cases None out go P p f = p
 
 first_kept : (m : Machine) → Good m → Kept (record { machine = m; table = nothing.table; word = nothing.word; calls = nothing.calls })
 unfolding nothing
@@ -177,10 +171,10 @@ module _ (x : Sofar) (k : Kept x) where
   kept_formed (suc (suc (suc (suc (suc (suc (suc n))))))) = tt
 
 module _ (s : List ℕ) (x : Sofar) (e : listing s ≡ asked x) where
-  pub asked_good : table_check x.machine (table_in x) ≡ Accepted
+  pub asked_good : table_check x.machine (table_in x) ≡ Ok tt
   asked_good = table_check_accepts x.machine (table_in x) (kept_formed x (asked_kept s x e))
 
-  pub asked_word : word_check x.machine.symbols x.word ≡ Accepted
+  pub asked_word : word_check x.machine.symbols x.word ≡ Ok tt
   unfolding word_check symbols_check
   asked_word =
       let k : Kept x = asked_kept s x e in
@@ -216,25 +210,6 @@ up_to_end n d x (l ∷ ls) y p =
     by rest (on d' x') e = rest d' x' e
     by rest bad e = absurd (no_asked e)
 
-call-first : (n a b : ℕ) (xs : List ℕ) → calls_of (suc n) (a ∷ b ∷ xs) ≡ call_for a b ∷ calls_of n xs
-unfolding calls_of
-call-first zero a b xs = refl
-call-first (suc n) a b xs =
-    let z : 2 * suc n ≡ suc (suc (2 * n)) = omega arith in
-    let y : 2 * suc n + 1 ≡ suc (suc (2 * n + 1)) = omega arith in
-    let r : calls_of (suc n) (a ∷ b ∷ xs) ≡ call_for a b ∷ calls_of n xs = call-first n a b xs in
-    λ i. r i ++ (call_for (get_or (a ∷ b ∷ xs) (z i) 0) (get_or (a ∷ b ∷ xs) (y i) 0) ∷ [])
-
-call_back : (c : Call) → call_for (kind_of c) (size_of c) ≡ c
-call_back (seek n) = refl
-call_back (forward n) = refl
-call_back (back n) = refl
-
-calls_back : (cs : List Call) (zs : List ℕ) → calls_of (length cs) (numbers_of cs ++ zs) ≡ cs
-unfolding calls_of numbers_of
-calls_back [] zs = refl
-calls_back (c ∷ cs) zs = call-first (length cs) (kind_of c) (size_of c) (numbers_of cs ++ zs) ∙ (λ i. call_back c i ∷ calls_back cs zs i)
-
 -- the arrays contain what the input asks for
 asked_back : (x : Sofar) → sofar (reader_of x) (places_of x).0 (places_of x).1 (places_of x).2 ≡ x
 unfolding sofar places_of filled
@@ -242,7 +217,7 @@ asked_back x = λ i. record {
   machine = x.machine;
   table = x.table;
   word = take-append_seam x.word (replicate (81 - length x.word) 0) i;
-  calls = calls_back x.calls (replicate (128 - length (numbers_of x.calls)) 0) i;
+  calls = take-append_seam x.calls (replicate (64 - length x.calls) (Seek 0)) i;
 }
 
 module _ (s : List ℕ) (r : Contents) (e : r ≡ contents_of s) where
@@ -250,33 +225,33 @@ module _ (s : List ℕ) (r : Contents) (e : r ≡ contents_of s) where
   unfolding contents_of
   parsed_is = ap (λ (g : Contents). g.parsed) e
 
-  pub contents_bad : (n : ℕ) → r.parsed ≡ P.Refused n → listing s ≡ refused n
+  pub contents_bad : (n : ℕ) → r.parsed ≡ Err n → listing s ≡ refused n
   unfolding parsed_of
   contents_bad n z = by (listing s) (sym parsed_is ∙ z)
     where
-      by : (l : Listing) → parsed_of l ≡ P.Refused n → l ≡ refused n
+      by : (l : Listing) → parsed_of l ≡ Err n → l ≡ refused n
       by (refused k) p = cc
       by (asked x) p = let y : ◌≡◌ {A = ℕ} 0 1 = cc in absurd (omega arith)
 
-  pub contents_asked : (x : Reader) → r.parsed ≡ P.Asked x → listing s ≡ asked (sofar x r.table r.word r.calls)
-  unfolding contents_of last_read listing parsed_of
-  contents_asked x z = by (listing s) refl (sym parsed_is ∙ z)
+  asked_of : (x : Reader) → r.parsed ≡ Ok x → (y : Sofar) × (listing s ≡ asked y) × (reader_of y ≡ x)
+  unfolding parsed_of
+  asked_of x z = by (listing s) refl (sym parsed_is ∙ z)
     where
-      by : (l : Listing) → listing s ≡ l → parsed_of l ≡ P.Asked x → listing s ≡ asked (sofar x r.table r.word r.calls)
+      by : (l : Listing) → listing s ≡ l → parsed_of l ≡ Ok x → (y : Sofar) × (listing s ≡ asked y) × (reader_of y ≡ x)
       by (refused n) q p = let y : ◌≡◌ {A = ℕ} 0 1 = cc in absurd (omega arith)
-      by (asked y) q p =
-          let k : reader_of y ≡ x = cc in
-          let u : last_read s ≡ y = up_to_end 1 Names nothing (lines s) y q in
-          q ∙ ap asked (sym (asked_back y))
-          ∙ (λ i. asked (sofar (k i) (places_of (sym u i)).0 (places_of (sym u i)).1 (places_of (sym u i)).2))
-          ∙ (λ i. asked (sofar x (sym e i).table (sym e i).word (sym e i).calls))
+      by (asked y) q p = (y, q, cc)
 
-  pub contents_ok : (x : Reader) → r.parsed ≡ P.Asked x → length r.word ≡ 81 → ReaderOk x
-  unfolding sofar
-  contents_ok x z h =
-      let k : Kept (sofar x r.table r.word r.calls) = asked_kept s _ (contents_asked x z) in
-      record {
-        small = good_small k.good;
-        word_ok = omega (arith, k.short, length-take x.word r.word);
-        calls_ok = omega (arith, k.few_calls, length-calls_of x.calls r.calls);
-      }
+  pub contents_asked : (x : Reader) → r.parsed ≡ Ok x → listing s ≡ asked (sofar x r.table r.word r.calls)
+  unfolding contents_of last_read listing
+  contents_asked x z =
+      let a = asked_of x z in
+      let u : last_read s ≡ a.0 = up_to_end 1 Names nothing (lines s) a.0 a.1 in
+      a.1 ∙ ap asked (sym (asked_back a.0))
+      ∙ (λ i. asked (sofar (a.2 i) (places_of (sym u i)).0 (places_of (sym u i)).1 (places_of (sym u i)).2))
+      ∙ (λ i. asked (sofar x (sym e i).table (sym e i).word (sym e i).calls))
+
+  pub contents_ok : (x : Reader) → r.parsed ≡ Ok x → ReaderOk x
+  contents_ok x z =
+      let a = asked_of x z in
+      let k : Kept a.0 = asked_kept s a.0 a.1 in
+      subst ReaderOk a.2 (record { small = good_small k.good; word_ok = omega (arith, k.short); calls_ok = k.few_calls })

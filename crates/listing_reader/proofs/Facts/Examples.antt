@@ -1,7 +1,8 @@
 -- Document 01's listing, and inputs that differ from it in one place: what each asks for, or its first bad line, computed. Assumes nothing.
 use Rattle.std.specs.Prelude.{ℕ, zero, suc, ◌≡◌, refl, List, [], ◌∷◌, ◌++◌, take}
 use Rattle.notation.specs.Choice.{pick, both}
-use Rattle.timeline_rule.specs.Model.Timeline.{Call, seek, forward, back}
+use Rattle.timeline_rule.specs.declared.Call.{Call}
+use Rattle.timeline_rule.specs.declared.Call.TheVariants.{Seek, Forward, Back}
 use Rattle.listing_text.specs.Text.{bytes}
 use Rattle.listing_text.specs.Pieces.{onto, pieces, same_list}
 use Rattle.listing_text.specs.Numbers.{digits, number, on_num, below}
@@ -50,14 +51,14 @@ pub record Examples : Type 0 where
   pub whole_table : entries (listing (up_to10 ++ bytes "seek 3\nforward 100\nback 2\nseek 0\n"))
       ≡ 1 ∷ 1 ∷ 0 ∷ 1 ∷ 0 ∷ 0 ∷ 25 ∷ 0 ∷ 1 ∷ 1 ∷ 0 ∷ 1 ∷ 0 ∷ 0 ∷ 24 ∷ 0 ∷ 1 ∷ 0 ∷ 0 ∷ 1 ∷ 0 ∷ 0 ∷ 24 ∷ 0 ∷ 1 ∷ 2 ∷ 0 ∷ 1 ∷ 0 ∷ 0 ∷ 25 ∷ 0
       ∷ 0 ∷ 0 ∷ 0 ∷ 0 ∷ 0 ∷ 0 ∷ 0 ∷ 0 ∷ 0 ∷ 0 ∷ 0 ∷ 0 ∷ 0 ∷ 0 ∷ 0 ∷ 0 ∷ []
-  pub whole_calls : calls (listing (up_to10 ++ bytes "seek 3\nforward 100\nback 2\nseek 0\n")) ≡ seek 3 ∷ forward 100 ∷ back 2 ∷ seek 0 ∷ []
+  pub whole_calls : calls (listing (up_to10 ++ bytes "seek 3\nforward 100\nback 2\nseek 0\n")) ≡ Seek 3 ∷ Forward 100 ∷ Back 2 ∷ Seek 0 ∷ []
   -- "Entry lines come in any order; there may be none"
   pub any_order : entries (listing (up_to3 ++ bytes "1 1 1 R 2\n0 1 1 L 1\n1 0 1 L 0\n0 0 1 R 1\nword\n\ncall number\n")) ≡ entries (listing up_to10)
   pub no_entries : bad_line (listing (up_to3 ++ bytes "word\n\ncall number\n")) ≡ 0
   -- "the last newline may be missing"; "no call lines"; a call's number of 64 bits; a word
-  pub unended : calls (listing (up_to10 ++ bytes "seek 3")) ≡ seek 3 ∷ []
+  pub unended : calls (listing (up_to10 ++ bytes "seek 3")) ≡ Seek 3 ∷ []
   pub no_calls : bad_line (listing up_to10) ≡ 0
-  pub largest : calls (listing (up_to10 ++ bytes "seek 18446744073709551615\n")) ≡ seek 18446744073709551615 ∷ []
+  pub largest : calls (listing (up_to10 ++ bytes "seek 18446744073709551615\n")) ≡ Seek 18446744073709551615 ∷ []
   pub some_word : word (listing (up_to7 ++ bytes "word\n1 0 1\ncall number\n")) ≡ 1 ∷ 0 ∷ 1 ∷ []
   pub calls_64 : bad_line (listing (up_to10 ++ times 64 (bytes "back 2\n"))) ≡ 0
   -- bad lines

@@ -1,5 +1,5 @@
 -- The reader's loop over the lines, one fact for each path through it. Assumes nothing.
-use Rattle.std.specs.Prelude.{ℕ, suc, ◌+◌, ◌-◌, ◌≤◌, ◌<◌, min, ◌≡◌, refl, List, [], ◌∷◌, take, drop, replicate}
+use Rattle.std.specs.Prelude.{ℕ, suc, ◌+◌, ◌-◌, ◌≤◌, ◌<◌, min, ◌≡◌, refl, List, [], ◌∷◌, take, drop, replicate, Err, None, Ok, Option, Result, Some}
 use Rattle.std.proofs.Math.Path.{sym, ap}
 use Rattle.std.proofs.Common.{◌∙◌, arith, drop_of_length-le, drop-drop, length-take-le}
 use Rattle.std.proofs.Math.Decide.{dec_lt}
@@ -10,17 +10,13 @@ use Rattle.notation.specs.Choice.{pick}
 use Rattle.listing_text.specs.Pieces.{lines, pieces}
 use Rattle.listing_text.specs.Model.{up_to}
 use Rattle.listing_text.proofs.Facts.PieceCases.{up_to_le, pieces_cut, lines_last}
-use Rattle.listing_lines.specs.Model.{calls_of}
-use Rattle.listing_lines.proofs.Facts.FormCases.{length-calls_of}
+use Rattle.timeline_rule.specs.declared.Call.{Call}
+use Rattle.timeline_rule.specs.declared.Call.TheVariants.{Seek}
 use Rattle.listing_reader.specs.declared.Due.{Due}
 use Rattle.listing_reader.specs.declared.Due.TheVariants.{Names, Calls}
 use Rattle.listing_reader.specs.declared.Reader.{Reader}
-use Rattle.listing_reader.specs.declared.Turn.{Turn}
-use Rattle.listing_reader.specs.declared.Turn.TheVariants as T
-use Rattle.listing_reader.specs.declared.Parsed.{Parsed}
-use Rattle.listing_reader.specs.declared.Parsed.TheVariants as P
 use Rattle.listing_reader.specs.Listing.{Sofar, Next, on, line, Listing, refused, at_end, on_next, read_from, nothing, listing}
-use Rattle.listing_reader.specs.Contents.{broken_off, read_up_to, last_read, filled, numbers_of, places_of, parsed_of, contents_of}
+use Rattle.listing_reader.specs.Contents.{broken_off, read_up_to, last_read, filled, places_of, parsed_of, contents_of}
 use Rattle.listing_reader.specs.Invariants.{sofar, next_of, Leaves, ReaderOk, TurnOk, LentOk}
 use Rattle.listing_reader.proofs.Facts.Arrays.{Unheard, Placed, placed_next, placed_bad, placed_end}
 
@@ -65,11 +61,11 @@ module _ (s : List ℕ) (at e : ℕ) (f : e ≡ at + up_to 10 (drop at s)) (h : 
     unfolding read_from pick
     parse_long g = simp (len, lt-leb (e - at) 80 g) at (turn (min (e + 1) (length s)) refl)
 
-    parse_bad : (r : Turn) (t w c : List ℕ) → next_of r t w c ≡ line d x (take (e - at) (drop at s)) → r ≡ T.Bad → e - at ≤ 80 → refused n ≡ y
+    parse_bad : (r : Option Reader) (t w : List ℕ) (c : List Call) → next_of r t w c ≡ line d x (take (e - at) (drop at s)) → r ≡ None → e - at ≤ 80 → refused n ≡ y
     unfolding read_from pick next_of on_next
     parse_bad r t w c q z g = simp (len, le-leb (e - at) 80 g, ← q, z) at (turn (min (e + 1) (length s)) refl)
 
-    parse_next : (r : Turn) (t w c : List ℕ) (v : Reader) (a : ℕ) → next_of r t w c ≡ line d x (take (e - at) (drop at s)) → r ≡ T.On v → e - at ≤ 80
+    parse_next : (r : Option Reader) (t w : List ℕ) (c : List Call) (v : Reader) (a : ℕ) → next_of r t w c ≡ line d x (take (e - at) (drop at s)) → r ≡ Some v → e - at ≤ 80
         → a ≡ min (e + 1) (length s) → read_at (n + 1) v.due (sofar v t w c) s a ≡ y
     unfolding read_from read_at pick next_of on_next
     parse_next r t w c v a q z g k = simp (len, le-leb (e - at) 80 g, ← q, z) at (turn a k)
@@ -84,11 +80,11 @@ module _ (s : List ℕ) (at e : ℕ) (f : e ≡ at + up_to 10 (drop at s)) (h : 
     unfolding read_up_to pick
     read_long g = simp (len, lt-leb (e - at) 80 g) at (turn_on_holds (min (e + 1) (length s)) refl)
 
-    read_bad : (r : Turn) (t w c : List ℕ) → next_of r t w c ≡ line d x (take (e - at) (drop at s)) → r ≡ T.Bad → e - at ≤ 80 → broken_off d x (take (e - at) (drop at s)) ≡ y
+    read_bad : (r : Option Reader) (t w : List ℕ) (c : List Call) → next_of r t w c ≡ line d x (take (e - at) (drop at s)) → r ≡ None → e - at ≤ 80 → broken_off d x (take (e - at) (drop at s)) ≡ y
     unfolding read_up_to pick next_of on_next
     read_bad r t w c q z g = simp (len, le-leb (e - at) 80 g, ← q, z) at (turn_on_holds (min (e + 1) (length s)) refl)
 
-    read_next : (r : Turn) (t w c : List ℕ) (v : Reader) (a : ℕ) → next_of r t w c ≡ line d x (take (e - at) (drop at s)) → r ≡ T.On v → e - at ≤ 80
+    read_next : (r : Option Reader) (t w : List ℕ) (c : List Call) (v : Reader) (a : ℕ) → next_of r t w c ≡ line d x (take (e - at) (drop at s)) → r ≡ Some v → e - at ≤ 80
         → a ≡ min (e + 1) (length s) → read_on v.due (sofar v t w c) s a ≡ y
     unfolding read_up_to read_on pick next_of on_next
     read_next r t w c v a q z g k = simp (len, le-leb (e - at) 80 g, ← q, z) at (turn_on_holds a k)
@@ -105,28 +101,28 @@ read_end s at d x y h p = simp (drop_of_length-le s {i = at} h) at p
 pub at-due : (d d' : Due) (x : Sofar) (l : List ℕ) (m : Next) → d ≡ d' → m ≡ line d' x l → m ≡ line d x l
 at-due d d' x l m e p = rw e p
 
-pub leaves_at : (d d' : Due) (r : Turn) (x : Reader) (l t w c t' w' c' : List ℕ) → d ≡ d' → Leaves d' r x l t w c t' w' c' → Leaves d r x l t w c t' w' c'
+pub leaves_at : (d d' : Due) (r : Option Reader) (x : Reader) (l t w : List ℕ) (c : List Call) (t' w' : List ℕ) (c' : List Call) → d ≡ d' → Leaves d' r x l t w c t' w' c' → Leaves d r x l t w c t' w' c'
 leaves_at d d' r x l t w c t' w' c' e p = rw e p
 
-module _ (n : ℕ) (x : Reader) (t w c : List ℕ) where
-  pub end_due : (d : Due) (y : Parsed) → x.due ≡ d → y ≡ parsed_of (at_end n d (sofar x t w c)) → y ≡ parsed_of (at_end n x.due (sofar x t w c))
+module _ (n : ℕ) (x : Reader) (t w : List ℕ) (c : List Call) where
+  pub end_due : (d : Due) (y : Result Reader ℕ) → x.due ≡ d → y ≡ parsed_of (at_end n d (sofar x t w c)) → y ≡ parsed_of (at_end n x.due (sofar x t w c))
   unfolding sofar
   end_due d y e p = rw e p
 
   -- only the call lines are due
-  pub end_asked : x.due ≡ Calls → x.word ≤ length w → P.Asked x ≡ parsed_of (at_end n Calls (sofar x t w c))
+  pub end_asked : x.due ≡ Calls → x.word ≤ length w → x.calls ≤ length c → Ok x ≡ parsed_of (at_end n Calls (sofar x t w c))
   unfolding parsed_of at_end sofar
-  end_asked e h =
+  end_asked e h g =
       let k : x.word ≡ length (take x.word w) = sym (length-take-le x.word w h) in
-      let m : x.calls ≡ length (calls_of x.calls c) = sym (length-calls_of x.calls c) in
-      λ i. P.Asked (record { due = e i; machine = x.machine; word = k i; calls = m i })
+      let m : x.calls ≡ length (take x.calls c) = sym (length-take-le x.calls c g) in
+      λ i. Ok (record { due = e i; machine = x.machine; word = k i; calls = m i })
 
 -- ---- the loop's invariant
 
-on_ok : (r : Turn) (y : Reader) → r ≡ T.On y → TurnOk r → ReaderOk y
+on_ok : (r : Option Reader) (y : Reader) → r ≡ Some y → TurnOk r → ReaderOk y
 on_ok r y e o = rw e at o
 
-pub record ParseInv (s t₀ w₀ c₀ t w c : List ℕ) (x : Reader) (at n : ℕ) : Type 0 where
+pub record ParseInv (s t₀ w₀ : List ℕ) (c₀ : List Call) (t w : List ℕ) (c : List Call) (x : Reader) (at n : ℕ) : Type 0 where
   pub at_in : at ≤ length s
   pub n_small : n ≤ at + 1
   pub ok : ReaderOk x
@@ -142,8 +138,8 @@ pub record ParseInv (s t₀ w₀ c₀ t w c : List ℕ) (x : Reader) (at n : ℕ
 abbrev pub start : Reader
 start = record { due = Names; machine = record { tapes = 0; symbols = 0; states = 0; start = 0 }; word = 0; calls = 0 }
 
-pub inv_start : (s t w c : List ℕ) → t ≡ replicate 4096 0 → w ≡ replicate 81 0 → c ≡ replicate 128 0 → LentOk (length t) (length w) (length c) → ParseInv s t w c t w c start 0 1
-unfolding read_at read_on listing last_read nothing sofar calls_of filled numbers_of
+pub inv_start : (s t w : List ℕ) (c : List Call) → t ≡ replicate 4096 0 → w ≡ replicate 81 0 → c ≡ replicate 64 (Seek 0) → LentOk (length t) (length w) (length c) → ParseInv s t w c t w c start 0 1
+unfolding read_at read_on listing last_read nothing sofar filled
 inv_start s t w c e g f l =
     record {
       at_in = omega arith;
@@ -160,37 +156,40 @@ inv_start s t w c e g f l =
     }
 
 -- what the code answers, and the lent slices afterwards
-abbrev pub Stopped : (s : List ℕ) → Parsed → (t w c : List ℕ) → Type 0
+abbrev pub Stopped : (s : List ℕ) → Result Reader ℕ → (t w : List ℕ) (c : List Call) → Type 0
 Stopped s r t w c = (r ≡ parsed_of (listing s)) × ((t, w, c) ≡ places_of (last_read s))
 
-module _ (s t₀ w₀ c₀ t w c : List ℕ) (x : Reader) (at n : ℕ) (i : ParseInv s t₀ w₀ c₀ t w c x at n) where
+module _ (s t₀ w₀ : List ℕ) (c₀ : List Call) (t w : List ℕ) (c : List Call) (x : Reader) (at n : ℕ) (i : ParseInv s t₀ w₀ c₀ t w c x at n) where
+  calls_in : x.calls ≤ length c
+  calls_in = omega (arith, i.ok.calls_ok, i.lent.calls_long)
+
   module _ (e : ℕ) (f : e ≡ at + up_to 10 (drop at s)) (h : at < length s) where
-    pub long_parsed : 80 < e - at → P.Refused n ≡ parsed_of (listing s)
+    pub long_parsed : 80 < e - at → Err n ≡ parsed_of (listing s)
     unfolding parsed_of
     long_parsed g = ap parsed_of (parse_long s at e f h n x.due (sofar x t w c) (listing s) i.same g)
 
     pub long_places : 80 < e - at → (t, w, c) ≡ places_of (last_read s)
     long_places g = placed_end x t w c i.placed ∙ ap places_of (read_long s at e f h x.due (sofar x t w c) (last_read s) i.read g)
 
-    module _ (r : Turn) (t' w' c' : List ℕ) (q : next_of r t' w' c' ≡ line x.due (sofar x t w c) (take (e - at) (drop at s)))
+    module _ (r : Option Reader) (t' w' : List ℕ) (c' : List Call) (q : next_of r t' w' c' ≡ line x.due (sofar x t w c) (take (e - at) (drop at s)))
         (z : Leaves x.due r x (take (e - at) (drop at s)) t w c t' w' c') (g : e - at ≤ 80) where
-      pub bad_parsed : r ≡ T.Bad → P.Refused n ≡ parsed_of (listing s)
+      pub bad_parsed : r ≡ None → Err n ≡ parsed_of (listing s)
       unfolding parsed_of
       bad_parsed b = ap parsed_of (parse_bad s at e f h n x.due (sofar x t w c) (listing s) i.same r t' w' c' q b g)
 
-      pub bad_places : r ≡ T.Bad → (t', w', c') ≡ places_of (last_read s)
+      pub bad_places : r ≡ None → (t', w', c') ≡ places_of (last_read s)
       bad_places b =
-          let k : Leaves x.due T.Bad x (take (e - at) (drop at s)) t w c t' w' c' = rw b at z in
-          placed_bad x t w c (take (e - at) (drop at s)) t' w' c' i.placed x.due i.unheard k
+          let k : Leaves x.due None x (take (e - at) (drop at s)) t w c t' w' c' = rw b at z in
+          placed_bad x t w c (take (e - at) (drop at s)) t' w' c' i.placed calls_in x.due i.unheard k
           ∙ ap places_of (read_bad s at e f h x.due (sofar x t w c) (last_read s) i.read r t' w' c' q b g)
 
-      pub inv_next : (v : Reader) (a : ℕ) → TurnOk r → r ≡ T.On v → a ≡ min (e + 1) (length s)
+      pub inv_next : (v : Reader) (a : ℕ) → TurnOk r → r ≡ Some v → a ≡ min (e + 1) (length s)
           → length t' ≡ length t → length w' ≡ length w → length c' ≡ length c → ParseInv s t₀ w₀ c₀ t' w' c' v a (n + 1)
       unfolding next_of
       inv_next v a o b k lt lw lc =
-          let m : Leaves x.due (T.On v) x (take (e - at) (drop at s)) t w c t' w' c' = rw b at z in
+          let m : Leaves x.due (Some v) x (take (e - at) (drop at s)) t w c t' w' c' = rw b at z in
           let j : on v.due (sofar v t' w' c') ≡ line x.due (sofar x t w c) (take (e - at) (drop at s)) = rw b at q in
-          let u = placed_next x t w c (take (e - at) (drop at s)) t' w' c' i.placed v i.unheard m v.due (sofar v t' w' c') j in
+          let u = placed_next x t w c (take (e - at) (drop at s)) t' w' c' i.placed calls_in v i.unheard m v.due (sofar v t' w' c') j in
           record {
             at_in = omega arith;
             n_small = omega (arith, i.n_small);
@@ -205,12 +204,12 @@ module _ (s t₀ w₀ c₀ t w c : List ℕ) (x : Reader) (at n : ℕ) (i : Pars
             unheard = u.1;
           }
 
-  pub stop_end : length s ≤ at → (r : Parsed) → ((t w k : List ℕ) → x.word ≤ length w → r ≡ parsed_of (at_end n x.due (sofar x t w k))) → Stopped s r t w c
+  pub stop_end : length s ≤ at → (r : Result Reader ℕ) → ((t w : List ℕ) (k : List Call) → x.word ≤ length w → x.calls ≤ length k → r ≡ parsed_of (at_end n x.due (sofar x t w k))) → Stopped s r t w c
   stop_end h r q = (
-    q t w c (omega (arith, i.ok.word_ok, i.lent.word_long)) ∙ ap parsed_of (parse_end s at n x.due (sofar x t w c) (listing s) h i.same),
+    q t w c (omega (arith, i.ok.word_ok, i.lent.word_long)) calls_in ∙ ap parsed_of (parse_end s at n x.due (sofar x t w c) (listing s) h i.same),
     placed_end x t w c i.placed ∙ ap places_of (read_end s at x.due (sofar x t w c) (last_read s) h i.read),
   )
 
-pub read_all : (s : List ℕ) (r : Parsed) (t w c : List ℕ) → Stopped s r t w c → record { parsed = r; table = t; word = w; calls = c } ≡ contents_of s
+pub read_all : (s : List ℕ) (r : Result Reader ℕ) (t w : List ℕ) (c : List Call) → Stopped s r t w c → record { parsed = r; table = t; word = w; calls = c } ≡ contents_of s
 unfolding contents_of
 read_all s r t w c p = λ i. record { parsed = p.0 i; table = (p.1 i).0; word = (p.1 i).1; calls = (p.1 i).2 }

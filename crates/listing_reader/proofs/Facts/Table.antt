@@ -1,5 +1,5 @@
 -- A table filled by entry lines: each of its places holds an entry of the machine. Assumes nothing.
-use Rattle.std.specs.Prelude.{ℕ, ◌+◌, ◌*◌, ◌/◌, ◌<◌, ◌≡◌, refl, List, length, get_or, drop, replicate}
+use Rattle.std.specs.Prelude.{ℕ, ◌+◌, ◌*◌, ◌/◌, ◌<◌, ◌≡◌, refl, List, length, get_or, drop, replicate, None, Some}
 use Rattle.std.proofs.Common.{sym, ◌∙◌, get_or-take, get_or-drop}
 use Rattle.std.proofs.Math.Path.{ap}
 use Rattle.std.proofs.Math.Decide.{ℕ_discrete}
@@ -9,7 +9,6 @@ use Rattle.std.proofs.Math.Seq.{paste}
 use Rattle.store_bytes.specs.Model.{slot_of, put_slot}
 use Rattle.store_bytes.proofs.Facts.Slots.{put_length, put_same, put_other}
 use Rattle.machine.specs.declared.Machine.{Machine}
-use Rattle.machine.specs.declared.Entry.TheVariants.{Undefined, Defined}
 use Rattle.machine.specs.Layout.{byte_at}
 use Rattle.table_laws.specs.WellFormed.{entry_bytes, ActionOf, LaidOut}
 use Rattle.listing_lines.specs.declared.Rule.{Rule}
@@ -30,7 +29,7 @@ byte_slot t i j h =
 pub laid_blank : (m : Machine) → Good m → Laid m (replicate 4096 0)
 laid_blank m g i h =
     record {
-      entry = Undefined;
+      entry = None;
       of_machine = tt;
       written = λ j l. get_or-replicate 4096 (8 * i + j) 0 0 (omega arith) ∙ sym (get_or-replicate 8 j 0 0 l);
     }
@@ -42,24 +41,24 @@ module _ (m : Machine) (t : List ℕ) (e : Rule) (g : Good m) (o : RuleOk m e) (
   inside : number < length t / 8
   inside = omega (arith, number_ok m e (good_small g) o)
 
-  define_slot : define m t e ≡ put_slot 8 number (entry_bytes (Defined (action_of e))) t
+  define_slot : define m t e ≡ put_slot 8 number (entry_bytes (Some (action_of e))) t
   unfolding define place put_slot
   define_slot =
       let q : 8 * number ≡ number * 8 = omega arith in
-      ap (λ at. paste t at (entry_bytes (Defined (action_of e))) 8) q
+      ap (λ at. paste t at (entry_bytes (Some (action_of e))) 8) q
 
   pub define_length : length (define m t e) ≡ 4096
-  define_length = ap length define_slot ∙ put_length 8 number (entry_bytes (Defined (action_of e))) t inside refl ∙ long
+  define_length = ap length define_slot ∙ put_length 8 number (entry_bytes (Some (action_of e))) t inside refl ∙ long
 
-  byte : (i j : ℕ) → j < 8 → byte_at (define m t e) i j ≡ get_or (slot_of 8 i (put_slot 8 number (entry_bytes (Defined (action_of e))) t)) j 0
+  byte : (i j : ℕ) → j < 8 → byte_at (define m t e) i j ≡ get_or (slot_of 8 i (put_slot 8 number (entry_bytes (Some (action_of e))) t)) j 0
   byte i j q = byte_slot (define m t e) i j q ∙ ap (λ s. get_or (slot_of 8 i s) j 0) define_slot
 
-  pub define_same : (j : ℕ) → j < 8 → byte_at (define m t e) number j ≡ get_or (entry_bytes (Defined (action_of e))) j 0
-  define_same j q = byte number j q ∙ ap (λ s. get_or s j 0) (put_same 8 number (entry_bytes (Defined (action_of e))) t inside refl)
+  pub define_same : (j : ℕ) → j < 8 → byte_at (define m t e) number j ≡ get_or (entry_bytes (Some (action_of e))) j 0
+  define_same j q = byte number j q ∙ ap (λ s. get_or s j 0) (put_same 8 number (entry_bytes (Some (action_of e))) t inside refl)
 
   pub define_other : (i : ℕ) → ¬ (i ≡ number) → (j : ℕ) → j < 8 → byte_at (define m t e) i j ≡ byte_at t i j
   define_other i z j q =
-      byte i j q ∙ ap (λ s. get_or s j 0) (put_other 8 number (entry_bytes (Defined (action_of e))) t inside refl i z) ∙ sym (byte_slot t i j q)
+      byte i j q ∙ ap (λ s. get_or s j 0) (put_other 8 number (entry_bytes (Some (action_of e))) t inside refl i z) ∙ sym (byte_slot t i j q)
 
   action_ok : ActionOf m (action_of e)
   action_ok =
@@ -78,7 +77,7 @@ module _ (m : Machine) (t : List ℕ) (e : Rule) (g : Good m) (o : RuleOk m e) (
       by : Dec (i ≡ number) → LaidOut m (define m t e) i
       by (yes z) =
           record {
-            entry = Defined (action_of e);
+            entry = Some (action_of e);
             of_machine = action_ok;
             written = λ j q. ap (λ n. byte_at (define m t e) n j) z ∙ define_same j q;
           }

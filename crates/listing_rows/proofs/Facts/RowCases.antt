@@ -1,25 +1,23 @@
 -- Facts for the code that prints rows: one row, and the rows of calls one after another. Assumes nothing.
-use Rattle.std.specs.Prelude.{ℕ, zero, suc, ◌+◌, ◌*◌, ◌≤◌, ◌<◌, ◌≡◌, refl, ltb, length, get_or}
+use Rattle.std.specs.Prelude.{ℕ, ◌+◌, ◌*◌, ◌≤◌, ◌<◌, ◌≡◌, refl, length, get_or, Err, Ok, Result}
 use Rattle.std.proofs.Math.Path.{sym, ap}
-use Rattle.std.proofs.Common.{◌∙◌, arith, add-one, ltb-true, ltb-false, drop-cons}
+use Rattle.std.proofs.Common.{◌∙◌, arith, add-one, drop-cons, get_or-take, length-take-le}
 use mathlib.Core.List.{List, [], ◌∷◌, ◌++◌, append_assoc, append-nil}
-use Rattle.std.proofs.Math.ListN.{drop, drop_of_length-le, get_or-append}
-use Rattle.std.proofs.Math.Seq.{paste, paste-zero, get_or-append_seam}
+use Rattle.std.proofs.Math.ListN.{take, drop, drop_of_length-le}
+use Rattle.std.proofs.Math.Seq.{paste, paste-zero}
 use Rattle.notation.specs.Position.{◌⊖◌}
-use Rattle.notation.proofs.Facts.Tests.{by_test}
 use Rattle.outcome.specs.declared.Outcome.{Outcome}
 use Rattle.outcome.specs.declared.Refusal.{Refusal}
 use Rattle.outcome.specs.Numbers.{refusal_number}
 use Rattle.machine.specs.declared.Machine.{Machine}
-use Rattle.machine.specs.declared.Checked.TheVariants.{Accepted}
 use Rattle.tape.specs.Model.Moves.{held}
 use Rattle.tape.specs.Model.Questions.{count_of}
 use Rattle.tape.specs.Fits.{TapeOk}
 use Rattle.sim.specs.declared.Simulator.{Simulator}
-use Rattle.run_rules.specs.declared.Answer.{Answer}
-use Rattle.run_rules.specs.declared.Answer.TheVariants as Ans
 use Rattle.sim.specs.Model.Operations.{engine_check}
-use Rattle.timeline_rule.specs.Model.Timeline.{Reply, answered, seek}
+use Rattle.timeline_rule.specs.declared.Call.{Call}
+use Rattle.timeline_rule.specs.declared.Call.TheVariants.{Seek}
+use Rattle.timeline_rule.specs.Model.Timeline.{Reply, answered}
 use Rattle.timeline_rule.specs.Model.Kind.{TimelineOf, call_on}
 use Rattle.sim_slots.specs.Model.Kind.{plain_kind}
 use Rattle.sim_timeline.specs.Model.{replied}
@@ -27,28 +25,13 @@ use Rattle.listing_text.specs.Text.{bytes}
 use Rattle.listing_text.specs.Show.{show, show_ℤ}
 use Rattle.listing_text.specs.Model.{Wrote}
 use Rattle.listing_text.proofs.Facts.PrintCases.{wrote_long, wrote_then, wrote-put}
-use Rattle.listing_lines.specs.Model.{call_at, calls_of}
-use Rattle.listing_lines.proofs.Facts.FormCases.{length-calls_of}
 use Rattle.listing_rows.specs.Rows.{Row, row_of, rows_of, rows_on, lent_in, said, refused_line, row_line, row_lines, reply_of, row_most}
 use Rattle.listing_rows.proofs.Facts.Call.{call_kept, tape_ok_holds}
 
 -- ---- the calls from call i on
 
-call_at_lem : (n i : ℕ) (c : List ℕ) → i < n → get_or (calls_of n c) i (seek 0) ≡ call_at c i
-unfolding calls_of
-call_at_lem zero i c h = absurd (omega arith)
-call_at_lem (suc n) i c h = by_test (ltb i n)
-    (λ q. get_or-append (calls_of n c) _ (seek 0) i (omega (arith, length-calls_of n c, ltb-true i n q)) ∙ call_at_lem n i c (ltb-true i n q))
-    (λ q. last (omega (arith, ltb-false i n q)))
-  where
-    last : i ≡ n → get_or (calls_of n c ++ (call_at c n ∷ [])) i (seek 0) ≡ call_at c i
-    last z =
-        let e : i ≡ length (calls_of n c) = z ∙ sym (length-calls_of n c) in
-        ap (λ (j : ℕ). get_or (calls_of n c ++ (call_at c n ∷ [])) j (seek 0)) e
-        ∙ get_or-append_seam (calls_of n c) _ [] (seek 0) ∙ ap (call_at c) (sym z)
-
-calls_next : (n i : ℕ) (c : List ℕ) → i < n → drop i (calls_of n c) ≡ call_at c i ∷ drop (i + 1) (calls_of n c)
-calls_next n i c h = rw (add-one i, ← call_at_lem n i c h) (drop-cons (calls_of n c) i (seek 0) (omega (arith, length-calls_of n c)))
+calls_next : (n i : ℕ) (c : List Call) → i < n → n ≤ length c → drop i (take n c) ≡ get_or c i (Seek 0) ∷ drop (i + 1) (take n c)
+calls_next n i c h g = rw (add-one i, ← get_or-take n c i (Seek 0) h) (drop-cons (take n c) i (Seek 0) (omega (arith, length-take-le n c g)))
 
 -- ---- a row
 
@@ -88,13 +71,13 @@ refused_done o at n o₁ o₂ o₃ r₁ r₂ r₃ p1 p2 p3 h k = (
   omega (arith, p1.0, p2.1, p3.0),
 )
 
-module _ (o : List ℕ) (at : ℕ) (o' : List ℕ) (r : ℕ) (a : Answer) (v : Simulator) (cells : List ℕ) where
-  pub row_turned : (why : Refusal) (n : ℕ) → a ≡ Ans.Refused why → n ≡ refusal_number why → Wrote o at (refused_line n) o' r × (r ≤ at + 29)
+module _ (o : List ℕ) (at : ℕ) (o' : List ℕ) (r : ℕ) (a : Result Outcome Refusal) (v : Simulator) (cells : List ℕ) where
+  pub row_turned : (why : Refusal) (n : ℕ) → a ≡ Err why → n ≡ refusal_number why → Wrote o at (refused_line n) o' r × (r ≤ at + 29)
       → Wrote o at (row_line (row_of (reply_of a) v cells)) o' r × (r ≤ at + row_most)
   unfolding row_line row_of
   row_turned why n e q w = rw (e, ← q) (w.0, omega (arith, w.1))
 
-  pub row_answered : (d : Outcome) → a ≡ Ans.Done d → Wrote o at (row_line (row_of (answered d) v cells)) o' r × (r ≤ at + row_most)
+  pub row_answered : (d : Outcome) → a ≡ Ok d → Wrote o at (row_line (row_of (answered d) v cells)) o' r × (r ≤ at + row_most)
       → Wrote o at (row_line (row_of (reply_of a) v cells)) o' r × (r ≤ at + row_most)
   row_answered d e w = rw e w
 
@@ -127,41 +110,42 @@ printing_end {all = all} p = wrote-same all p.wrote (sym (append-nil p.done) ∙
 -- ---- the loop over the calls: i of n are made, from w₀ on, and the timeline is at w
 
 -- the calls from call i on: their rows, and the timeline after the last
-abbrev rows_from : Machine → (s calls : List ℕ) (n i : ℕ) → TimelineOf plain_kind → List Row × TimelineOf plain_kind
-rows_from m s calls n i w = rows_on m s w (drop i (calls_of n calls))
+abbrev rows_from : Machine → (s : List ℕ) (calls : List Call) (n i : ℕ) → TimelineOf plain_kind → List Row × TimelineOf plain_kind
+rows_from m s calls n i w = rows_on m s w (drop i (take n calls))
 
-pub record RowsInv (m : Machine) (s calls : List ℕ) (n : ℕ) (o : List ℕ) (at : ℕ) (w₀ w : TimelineOf plain_kind) (o' : List ℕ) (r i : ℕ) : Type 0 where
+pub record RowsInv (m : Machine) (s : List ℕ) (calls : List Call) (n : ℕ) (o : List ℕ) (at : ℕ) (w₀ w : TimelineOf plain_kind) (o' : List ℕ) (r i : ℕ) : Type 0 where
   pub inside : i ≤ n
+  pub given : n ≤ length calls
   pub room : r ≤ at + row_most * i
   pub long : length o' ≡ length o
-  pub fits : engine_check m s w.engine ≡ Accepted
-  pub printing : Printing o at (row_lines (rows_of m s w₀ (calls_of n calls))) (row_lines (rows_from m s calls n i w).0) o' r
-  pub last : (rows_from m s calls n i w).1 ≡ (rows_on m s w₀ (calls_of n calls)).1
+  pub fits : engine_check m s w.engine ≡ Ok tt
+  pub printing : Printing o at (row_lines (rows_of m s w₀ (take n calls))) (row_lines (rows_from m s calls n i w).0) o' r
+  pub last : (rows_from m s calls n i w).1 ≡ (rows_on m s w₀ (take n calls)).1
 
-replied_is : (a : Answer) (w : TimelineOf plain_kind) (g : Reply Outcome × TimelineOf plain_kind) → replied a w ≡ g → (reply_of a ≡ g.0) × (w ≡ g.1)
-replied_is (Ans.Done o) w g e = (ap (λ y. y.0) e, ap (λ y. y.1) e)
-replied_is (Ans.Refused why) w g e = (ap (λ y. y.0) e, ap (λ y. y.1) e)
+replied_is : (a : Result Outcome Refusal) (w : TimelineOf plain_kind) (g : Reply Outcome × TimelineOf plain_kind) → replied a w ≡ g → (reply_of a ≡ g.0) × (w ≡ g.1)
+replied_is (Ok o) w g e = (ap (λ y. y.0) e, ap (λ y. y.1) e)
+replied_is (Err why) w g e = (ap (λ y. y.0) e, ap (λ y. y.1) e)
 
-module _ (m : Machine) (s calls : List ℕ) (n : ℕ) (o : List ℕ) (at : ℕ) (w₀ : TimelineOf plain_kind) where
-  pub rows_start : at + row_most * n ≤ length o → engine_check m s w₀.engine ≡ Accepted → RowsInv m s calls n o at w₀ w₀ o at 0
-  rows_start h a = record { inside = omega arith; room = omega arith; long = refl; fits = a; printing = printing_start o at _ (omega arith); last = refl }
+module _ (m : Machine) (s : List ℕ) (calls : List Call) (n : ℕ) (o : List ℕ) (at : ℕ) (w₀ : TimelineOf plain_kind) where
+  pub rows_start : at + row_most * n ≤ length o → n ≤ length calls → engine_check m s w₀.engine ≡ Ok tt → RowsInv m s calls n o at w₀ w₀ o at 0
+  rows_start h g a = record { inside = omega arith; given = g; room = omega arith; long = refl; fits = a; printing = printing_start o at _ (omega arith); last = refl }
 
-  module _ (w v : TimelineOf plain_kind) (i : ℕ) (a : Answer) (made : replied a v ≡ call_on plain_kind m s w (call_at calls i)) where
-    rows_step : i < n
+  module _ (w v : TimelineOf plain_kind) (i : ℕ) (a : Result Outcome Refusal) (made : replied a v ≡ call_on plain_kind m s w (get_or calls i (Seek 0))) where
+    rows_step : i < n → n ≤ length calls
         → rows_from m s calls n i w ≡ (row_of (reply_of a) v.engine.sim v.engine.c0 ∷ (rows_from m s calls n (i + 1) v).0, (rows_from m s calls n (i + 1) v).1)
     unfolding rows_on
-    rows_step h =
+    rows_step h g =
         let p = replied_is a v _ made in
-        ap (rows_on m s w) (calls_next n i calls h)
+        ap (rows_on m s w) (calls_next n i calls h g)
         ∙ sym (λ j. (row_of (p.0 j) (p.1 j).engine.sim (p.1 j).engine.c0 ∷ (rows_from m s calls n (i + 1) (p.1 j)).0, (rows_from m s calls n (i + 1) (p.1 j)).1))
 
-    lines_next : i < n
+    lines_next : i < n → n ≤ length calls
         → row_lines (rows_from m s calls n i w).0 ≡ row_line (row_of (reply_of a) v.engine.sim v.engine.c0) ++ row_lines (rows_from m s calls n (i + 1) v).0
     unfolding row_lines
-    lines_next h = ap (λ (r : List Row × TimelineOf plain_kind). row_lines r.0) (rows_step h)
+    lines_next h g = ap (λ (r : List Row × TimelineOf plain_kind). row_lines r.0) (rows_step h g)
 
-    kept : engine_check m s w.engine ≡ Accepted → engine_check m s v.engine ≡ Accepted
-    kept f = rw (replied_is a v _ made).1 (call_kept m s w (call_at calls i) f)
+    kept : engine_check m s w.engine ≡ Ok tt → engine_check m s v.engine ≡ Ok tt
+    kept f = rw (replied_is a v _ made).1 (call_kept m s w (get_or calls i (Seek 0)) f)
 
     module _ (o₁ : List ℕ) (r₁ : ℕ) (inv : RowsInv m s calls n o at w₀ w o₁ r₁ i) (h : i < n) where
       pub row_ready : at + row_most * n ≤ length o → (r₁ + row_most ≤ length o₁) × TapeOk v.engine.sim.t0 v.engine.c0
@@ -171,16 +155,17 @@ module _ (m : Machine) (s calls : List ℕ) (n : ℕ) (o : List ℕ) (at : ℕ) 
           → RowsInv m s calls n o at w₀ v o₂ r₂ (i + 1)
       rows_next o₂ r₂ p = record {
         inside = omega arith;
+        given = inv.given;
         room = omega (arith, inv.room, p.1);
         long = wrote_long p.0 ∙ inv.long;
         fits = kept inv.fits;
-        printing = printing_next (rw (lines_next h) at inv.printing) p.0;
-        last = sym (ap (λ (r : List Row × TimelineOf plain_kind). r.1) (rows_step h)) ∙ inv.last;
+        printing = printing_next (rw (lines_next h inv.given) at inv.printing) p.0;
+        last = sym (ap (λ (r : List Row × TimelineOf plain_kind). r.1) (rows_step h inv.given)) ∙ inv.last;
       }
 
   pub rows_end : (w : TimelineOf plain_kind) (o₁ : List ℕ) (r i : ℕ) → RowsInv m s calls n o at w₀ w o₁ r i → n ≤ i
-      → Wrote o at (row_lines (rows_of m s w₀ (calls_of n calls))) o₁ r × (r ≤ at + row_most * n) × (lent_in w ≡ lent_in (rows_on m s w₀ (calls_of n calls)).1)
+      → Wrote o at (row_lines (rows_of m s w₀ (take n calls))) o₁ r × (r ≤ at + row_most * n) × (lent_in w ≡ lent_in (rows_on m s w₀ (take n calls)).1)
   unfolding rows_on row_lines
   rows_end w o₁ r i inv h =
-      let k : drop i (calls_of n calls) ≡ [] = drop_of_length-le (calls_of n calls) {i = i} (omega (arith, length-calls_of n calls)) in
+      let k : drop i (take n calls) ≡ [] = drop_of_length-le (take n calls) {i = i} (omega (arith, length-take-le n calls inv.given)) in
       (printing_end (rw k at inv.printing), omega (arith, inv.room, inv.inside), ap lent_in (rw k at inv.last))

@@ -1,19 +1,17 @@
 -- Rules for `search` on a chain of reads, each with its own early return. Assumes nothing.
-use Rattle.std.specs.Prelude.{ℕ, ◌≡◌, refl, Bool, true, false, eqb}
+use Rattle.std.specs.Prelude.{ℕ, ◌≡◌, refl, Bool, true, false, eqb, None, Option, Some}
 use Rattle.std.proofs.Common.{arith}
 use borrow.Author.Tests.{eq-eqb, ne_eqb}
 use Rattle.notation.specs.Choice.{pick}
 use Rattle.notation.proofs.Facts.Tests.{tests, via}
 use Rattle.listing_text.specs.Numbers.{on_num}
-use Rattle.listing_text.specs.declared.Num.{Num}
-use Rattle.listing_text.specs.declared.Num.TheVariants.{Value, Bad}
 
 module _ {A : Type 0} (x out : A) where
-  pub num_out : (r n : Num) (go : ℕ → A) → r ≡ n → r ≡ Bad → x ≡ out → x ≡ on_num n out go
+  pub num_out : (r n : Option ℕ) (go : ℕ → A) → r ≡ n → r ≡ None → x ≡ out → x ≡ on_num n out go
   unfolding on_num
   num_out r n go e q p = simp (← e, q) p
 
-  pub num_go : (r n : Num) (go : ℕ → A) (v : ℕ) → r ≡ n → r ≡ Value v → x ≡ go v → x ≡ on_num n out go
+  pub num_go : (r n : Option ℕ) (go : ℕ → A) (v : ℕ) → r ≡ n → r ≡ Some v → x ≡ go v → x ≡ on_num n out go
   unfolding on_num
   num_go r n go v e q p = simp (← e, q) p
 
@@ -30,7 +28,7 @@ pub ruleset chain = (num_out, num_go, count_ne, count_eq, tests, via)
 
 -- ---- the converse: from the result of a chain to its parts
 
-pub no_value : {v : ℕ} → ◌≡◌ {A = Num} Bad (Value v) → ⊥
+pub no_value : {v : ℕ} → ◌≡◌ {A = Option ℕ} None (Some v) → ⊥
 no_value p = let z : ◌≡◌ {A = ℕ} 0 1 = cc in omega arith
 
 -- a choice whose other side is not x
@@ -39,7 +37,7 @@ unfolding pick
 pick_inv true a h p = (refl, p)
 pick_inv false a h p = absurd (h p)
 
-pub num_inv : {A : Type 0} {o x : A} (n : Num) (go : ℕ → A) → (o ≡ x → ⊥) → on_num n o go ≡ x → (v : ℕ) × (n ≡ Value v) × (go v ≡ x)
+pub num_inv : {A : Type 0} {o x : A} (n : Option ℕ) (go : ℕ → A) → (o ≡ x → ⊥) → on_num n o go ≡ x → (v : ℕ) × (n ≡ Some v) × (go v ≡ x)
 unfolding on_num
-num_inv (Value v) go h p = (v, refl, p)
-num_inv Bad go h p = absurd (h p)
+num_inv (Some v) go h p = (v, refl, p)
+num_inv None go h p = absurd (h p)

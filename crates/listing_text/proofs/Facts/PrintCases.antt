@@ -1,10 +1,9 @@
--- Facts for the code that prints: text written after text, and the digits of a number. Assumes nothing.
-use Rattle.std.specs.Prelude.{ℕ, zero, suc, ◌+◌, ◌-◌, ◌/◌, ◌%◌, ◌≤◌, ◌<◌, ◌≡◌, refl, List, [], ◌∷◌, ◌++◌, length, take, drop, set, ltb}
-use Rattle.std.proofs.Common.{sym, ap, ◌∙◌, append_assoc, arith, lt-ltb, le-ltb, drop_of_length-le, length-drop, length-append, take_all, drop-drop}
+-- Facts for the code that prints: text written after text, a number and a position. Assumes nothing.
+use Rattle.std.specs.Prelude.{ℕ, zero, suc, ◌+◌, ◌-◌, ◌/◌, ◌%◌, ◌≤◌, ◌<◌, ◌≡◌, refl, List, [], ◌∷◌, ◌++◌, length, take, drop, ltb}
+use Rattle.std.proofs.Common.{sym, ap, ◌∙◌, append_assoc, arith, lt-ltb, le-ltb, length-append, drop-drop}
 use Rattle.std.proofs.Math.Seq.{paste, take-length}
 use Rattle.std.proofs.lemmas.List.Edits.{take-paste, drop-paste, length-paste}
 use Rattle.std.proofs.Math.IntN.{sub_ℕ}
-use Rattle.notation.specs.Choice.{pick}
 use Rattle.notation.proofs.Facts.Tests.{pick_cases}
 use Rattle.listing_text.specs.Show.{show, show_on, show_ℤ}
 use Rattle.listing_text.specs.Model.{Wrote}
@@ -28,38 +27,7 @@ wrote_then {o} {at} {a} {o₁} {r₁} {b} {o₂} {r₂} p q =
       text = q.text ∙ rw (t, d, take-length b, take-length (a ++ b)) (simp append_assoc);
     }
 
--- ---- digits, from the last to the first
-unfoldable pub shown : List ℕ → ℕ → ℕ → List ℕ
-shown b p m = show_on p m (drop p b)
-
-set-drop : (b : List ℕ) (p v : ℕ) → p < length b → drop p (set b p v) ≡ v ∷ drop (suc p) b
-set-drop (x ∷ b) zero v h = refl
-set-drop (x ∷ b) (suc p) v h = set-drop b p v (omega arith)
-set-drop [] p v h = absurd (omega arith)
-
-pub shown_last : (b : List ℕ) (p m d : ℕ) (x : List ℕ) → d ≡ 48 + m % 10 → 0 < p → p ≤ 20 → length b ≡ 20 → m < 10 → shown b p m ≡ x → drop (p - 1) (set b (p - 1) d) ≡ x
-unfolding shown show_on pick
-shown_last b zero m d x e h g g' l y = absurd (omega arith)
-shown_last b (suc k) m d x e h g g' l y =
-    let z : suc k - 1 ≡ k = omega arith in
-    rw (z, set-drop b k d (omega arith), e) (simp (lt-ltb m 10 l) at y)
-
-pub shown_next : (b : List ℕ) (p m d : ℕ) (x : List ℕ) → d ≡ 48 + m % 10 → 0 < p → p ≤ 20 → length b ≡ 20 → 10 ≤ m → shown b p m ≡ x → shown (set b (p - 1) d) (p - 1) (m / 10) ≡ x
-unfolding shown show_on pick
-shown_next b zero m d x e h g g' l y = absurd (omega arith)
-shown_next b (suc k) m d x e h g g' l y =
-    let z : suc k - 1 ≡ k = omega arith in
-    rw (z, set-drop b k d (omega arith), e) (simp (le-ltb m 10 l) at y)
-
-pub shown_out : (b : List ℕ) (p m : ℕ) (x : List ℕ) → p ≤ 0 → shown b p m ≡ x → drop p b ≡ x
-unfolding shown show_on
-shown_out b zero m x h y = y
-shown_out b (suc p) m x h y = absurd (omega arith)
-
-pub shown-start : (b : List ℕ) (m : ℕ) → length b ≡ 20 → shown b 20 m ≡ show m
-unfolding shown show
-shown-start b m h = rw (drop_of_length-le b {i = 20} (omega arith))
-
+-- ---- a whole number and a position
 show_on_long : (f n : ℕ) (after : List ℕ) → length (show_on f n after) ≤ f + length after
 unfolding show_on
 show_on_long zero n after = omega arith
@@ -71,7 +39,6 @@ pub show_long : (n : ℕ) → length (show n) ≤ 20
 unfolding show
 show_long n = omega (arith, show_on_long 20 n [])
 
--- ---- a whole number and a position
 pub wrote-put : (o : List ℕ) (at : ℕ) (s o' : List ℕ) (r : ℕ) (bs : List ℕ) → s ≡ bs → (r ≡ at + length s) × (o' ≡ paste o at s (length s)) → at + length s ≤ length o → Wrote o at bs o' r
 wrote-put o at s o' r bs e p h = record { ends = rw (← e) p.0; fits = rw (← e) h; text = rw (← e) p.1 }
 
@@ -84,14 +51,6 @@ unfolding show_ℤ
 pos_down i o h =
     let e : o - i ≡ (o - suc i) + 1 = omega arith in
     simp (lt-ltb i o h) (ap (λ (n : ℕ). 45 ∷ show n) e)
-
-pub print_done : (o : List ℕ) (at : ℕ) (o' : List ℕ) (r n : ℕ) (b : List ℕ) (p : ℕ)
-    → (r ≡ at + length (take (20 - p) (drop p b))) × (o' ≡ paste o at (take (20 - p) (drop p b)) (length (take (20 - p) (drop p b))))
-    → (drop p b ≡ show n) × (p ≤ 20) → length b ≡ 20 → at + 20 ≤ length o → Wrote o at (show n) o' r × (r ≤ at + 20)
-print_done o at o' r n b p q d l h =
-    let e : take (20 - p) (drop p b) ≡ show n = take_all (20 - p) (drop p b) (omega (arith, length-drop p b)) ∙ d.0 in
-    let k : length (take (20 - p) (drop p b)) ≡ length (show n) = ap length e in
-    (wrote-put o at (take (20 - p) (drop p b)) o' r (show n) e q (omega (arith, k, show_long n)), omega (arith, q.0, k, show_long n))
 
 pub up_done : (o : List ℕ) (at i g : ℕ) (o' : List ℕ) (r : ℕ) → Wrote o at (show (i - g)) o' r × (r ≤ at + 20) → g ≤ i → Wrote o at (show_ℤ (sub_ℕ i g)) o' r × (r ≤ at + 21)
 up_done o at i g o' r w h = (rw (← pos_up i g h) w.0, omega (arith, w.1))

@@ -1,11 +1,10 @@
 -- A printed number is read back: `number (show n)` is n, for every number of 64 bits. Assumes nothing.
-use Rattle.std.specs.Prelude.{ℕ, zero, suc, ◌+◌, ◌*◌, ◌-◌, ◌/◌, ◌%◌, ◌^◌, ◌≤◌, ◌<◌, ◌≡◌, refl, Bool, true, false, List, [], ◌∷◌, length, get_or, ltb}
+use Rattle.std.specs.Prelude.{ℕ, zero, suc, ◌+◌, ◌*◌, ◌-◌, ◌/◌, ◌%◌, ◌^◌, ◌≤◌, ◌<◌, ◌≡◌, refl, Bool, true, false, List, [], ◌∷◌, length, get_or, ltb, Some}
 use Rattle.std.proofs.Common.{ap, ◌∙◌, arith, pow-suc, ltb-true, ltb-false, lt-ltb, le-leb, ne_eqb}
 use Rattle.std.proofs.Math.Nat.{pow-zero}
 use Rattle.notation.specs.Choice.{pick, both}
 use Rattle.listing_text.specs.Numbers.{digits, number}
 use Rattle.listing_text.specs.Show.{show, show_on}
-use Rattle.listing_text.specs.declared.Num.TheVariants.{Value}
 
 digit_one : (v b : ℕ) (s : List ℕ) → 48 ≤ b → b ≤ 57 → digits v (b ∷ s) ≡ digits (v * 10 + (b - 48)) s
 unfolding digits pick both
@@ -36,7 +35,7 @@ first_digit (suc f) n after h g p =
     go true e ih p = let k : 48 + n % 10 ≡ 48 = p in omega (arith, k, ltb-true n 10 e)
     go false e ih p = ih (omega (arith, ltb-false n 10 e)) p
 
-no_zero : (s : List ℕ) (v : ℕ) → digits 0 s ≡ Value v → (length s ≡ 0 → ⊥) → (get_or s 0 0 ≡ 48 → ⊥) → number s ≡ Value v
+no_zero : (s : List ℕ) (v : ℕ) → digits 0 s ≡ Some v → (length s ≡ 0 → ⊥) → (get_or s 0 0 ≡ 48 → ⊥) → number s ≡ Some v
 unfolding number pick
 no_zero [] v p g h = absurd (g refl)
 no_zero (b ∷ []) v p g h = p
@@ -59,11 +58,11 @@ some_digit f n after p = go f (ltb n 10) (n / 10) ((48 + n % 10) ∷ after) (ome
     go f false m s h p = omega (arith, long f m s h)
 
 -- every number of 64 bits is read back as it was printed
-pub read_back : (n : ℕ) → n < 2 ^ 64 → number (show n) ≡ Value n
+pub read_back : (n : ℕ) → n < 2 ^ 64 → number (show n) ≡ Some n
 unfolding show show_on number both digits pick
 read_back zero h = zero_back
   where
-    zero_back : number (show_on 20 0 []) ≡ Value 0
+    zero_back : number (show_on 20 0 []) ≡ Some 0
     zero_back = refl
 read_back (suc n) h =
     no_zero (show_on 20 (suc n) []) (suc n)

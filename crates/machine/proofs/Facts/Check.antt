@@ -1,7 +1,6 @@
 -- What follows from an accepted check for the machine's numbers, the table and its entries. Assumes nothing.
-use Rattle.std.specs.Prelude.{◌≡◌, refl, Bool, true, false, not, List, ℕ, ◌+◌, ◌*◌, ◌/◌, ◌%◌, ◌≤◌, ◌<◌, ltb, length}
+use Rattle.std.specs.Prelude.{◌≡◌, refl, Bool, true, false, not, List, ℕ, ◌+◌, ◌*◌, ◌/◌, ◌%◌, ◌≤◌, ◌<◌, ltb, length, Err, Ok, Option, Result, ⊤}
 use Rattle.std.proofs.Common.{sym, ◌∙◌, arith}
-use Rattle.std.proofs.Math.Option.{Option}
 use borrow.Author.Tests.{ltb-true, eqb-true, ne_eqb, not-false}
 use Rattle.notation.specs.Choice.{pick}
 use Rattle.notation.specs.Scan.{first_fail}
@@ -11,8 +10,6 @@ use Rattle.symbol.specs.declared.Dir.TheVariants.{N}
 use Rattle.outcome.specs.declared.Refusal.{Refusal}
 use Rattle.outcome.specs.declared.Refusal.TheVariants as Why
 use Rattle.machine.specs.declared.Machine.{Machine}
-use Rattle.machine.specs.declared.Checked.{Checked}
-use Rattle.machine.specs.declared.Checked.TheVariants.{Accepted, Refused}
 use Rattle.machine.specs.Layout.{entry_count, flag_at, byte_at, dir_of}
 use Rattle.machine.specs.Model.Check.{within, demand, checked_on, answer_at, tape_ok, entry_ok, entries_check, size_check, table_check}
 use Rattle.table_bytes.specs.Model.Entries.{defined_for}
@@ -20,23 +17,23 @@ pub use Rattle.table_bytes.proofs.Facts.EntryCases.{within_says}
 
 -- ---- a test, and a scan
 
-pub demand_says : (b : Bool) (why : Refusal) (rest : Checked) → demand b why rest ≡ Accepted → (b ≡ true) × (rest ≡ Accepted)
+pub demand_says : (b : Bool) (why : Refusal) (rest : Result ⊤ Refusal) → demand b why rest ≡ Ok tt → (b ≡ true) × (rest ≡ Ok tt)
 unfolding pick
 demand_says true why rest h = (refl, h)
 demand_says false why rest h = let z : ◌≡◌ {A = ℕ} 0 1 = cc in absurd (omega arith)
 
-pub on_says : (c rest : Checked) → checked_on c rest ≡ Accepted → (c ≡ Accepted) × (rest ≡ Accepted)
-on_says Accepted rest h = (refl, h)
-on_says (Refused why) rest h = let z : ◌≡◌ {A = ℕ} 0 1 = cc in absurd (omega arith)
+pub on_says : (c rest : Result ⊤ Refusal) → checked_on c rest ≡ Ok tt → (c ≡ Ok tt) × (rest ≡ Ok tt)
+on_says (Ok tt) rest h = (refl, h)
+on_says (Err why) rest h = let z : ◌≡◌ {A = ℕ} 0 1 = cc in absurd (omega arith)
 
 -- the same for a Bool that a callee returned and the code has tested
 pub within-passed : (r : Bool) (low high x : ℕ) → r ≡ within low high x → not r ≡ false → (low ≤ x) × (x ≤ high)
 within-passed r low high x e h = within_says low high x (sym e ∙ not-false r h)
 
-pub scan_says : (why : ℕ → Refusal) (p : ℕ → Bool) (n : ℕ) → answer_at why (first_fail p n 0) ≡ Accepted → Holds p n 0
+pub scan_says : (why : ℕ → Refusal) (p : ℕ → Bool) (n : ℕ) → answer_at why (first_fail p n 0) ≡ Ok tt → Holds p n 0
 scan_says why p n = by _ (scanned p n 0)
   where
-    by : (x : Option ℕ) → Scanned p n 0 x → answer_at why x ≡ Accepted → Holds p n 0
+    by : (x : Option ℕ) → Scanned p n 0 x → answer_at why x ≡ Ok tt → Holds p n 0
     by x (clean f) e = f
     by x (failed j a b z f) e = let y : ◌≡◌ {A = ℕ} 0 1 = cc in absurd (omega arith)
 
@@ -51,9 +48,9 @@ pub record Ranges (m : Machine) (s : List ℕ) : Type 0 where
   pub states_high : m.states ≤ 65536
   pub start_in : m.start < m.states
   pub size : length s ≡ 8 * entry_count m
-  pub entries : entries_check m s (entry_count m) ≡ Accepted
+  pub entries : entries_check m s (entry_count m) ≡ Ok tt
 
-pub ranges : (m : Machine) (s : List ℕ) → table_check m s ≡ Accepted → Ranges m s
+pub ranges : (m : Machine) (s : List ℕ) → table_check m s ≡ Ok tt → Ranges m s
 unfolding table_check size_check
 ranges m s h =
     let t = demand_says _ _ _ h in
@@ -120,7 +117,7 @@ module _ (m : Machine) (s : List ℕ) (i : ℕ) where
         },
       )
 
-  module _ (accepted : table_check m s ≡ Accepted) (inside : i < entry_count m) where
+  module _ (accepted : table_check m s ≡ Ok tt) (inside : i < entry_count m) where
     pub entry_passed : entry_ok m s i ≡ true
     unfolding entries_check
     entry_passed = scan_says Why.Entry (entry_ok m s) (entry_count m) (ranges m s accepted).entries i (omega arith) (omega arith)

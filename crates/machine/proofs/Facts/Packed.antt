@@ -1,5 +1,5 @@
 -- The parts of a packed word, and the entries of a checked table of one tape. Assumes nothing.
-use Rattle.std.specs.Prelude.{◌≡◌, List, ℕ, ◌*◌, ◌/◌, ◌%◌, ◌^◌, ◌≤◌, ◌<◌, eqb, ltb, length}
+use Rattle.std.specs.Prelude.{◌≡◌, List, ℕ, ◌*◌, ◌/◌, ◌%◌, ◌^◌, ◌≤◌, ◌<◌, eqb, ltb, length, None, Ok, Option, Some}
 use native.Mathlib.Omega.{arith}
 use Rattle.std.proofs.Common.{ltb-true, lt-ltb, eqb-true, le-ltb}
 use Rattle.notation.specs.Choice.{both}
@@ -9,9 +9,6 @@ use Rattle.symbol.specs.declared.Dir.{Dir}
 use Rattle.symbol.specs.declared.Dir.TheVariants.{L, R, N}
 use Rattle.machine.specs.declared.Machine.{Machine}
 use Rattle.machine.specs.declared.Action.{Action}
-use Rattle.machine.specs.declared.Entry.{Entry}
-use Rattle.machine.specs.declared.Entry.TheVariants.{Undefined, Defined}
-use Rattle.machine.specs.declared.Checked.TheVariants.{Accepted}
 use Rattle.machine.specs.Layout.{entry_count, flag_at, action_at, entry_at}
 use Rattle.machine.specs.Model.Check.{table_check}
 use Rattle.machine.proofs.Facts.Check.{ranges, PassedEntry, defined_passed}
@@ -57,9 +54,9 @@ pub record OneTape (a : Action) : Type 0 where
   pub still1 : a.dir1 ≡ N
   pub still2 : a.dir2 ≡ N
 
-pub data OneTapeEntry : Entry → Type 0 where
-  nothing : OneTapeEntry Undefined
-  action : (a : Action) → OneTape a → OneTapeEntry (Defined a)
+pub data OneTapeEntry : Option Action → Type 0 where
+  nothing : OneTapeEntry None
+  action : (a : Action) → OneTape a → OneTapeEntry (Some a)
 
 module _ (m : Machine) (s : List ℕ) (i : ℕ) where
   one_tape_holds : m.tapes ≡ 1 → m.symbols ≤ 256 → m.states ≤ 65536 → PassedEntry m s i → OneTape (action_at s i)
@@ -71,11 +68,11 @@ module _ (m : Machine) (s : List ℕ) (i : ℕ) where
     still2 = (p.lacks2 (le-ltb 2 m.tapes (omega arith))).1;
   }
 
-  pub entry_one_tape : table_check m s ≡ Accepted → m.tapes ≡ 1 → i < entry_count m → OneTapeEntry (entry_at s i)
+  pub entry_one_tape : table_check m s ≡ Ok tt → m.tapes ≡ 1 → i < entry_count m → OneTapeEntry (entry_at s i)
   unfolding entry_at
   entry_one_tape checked one h = by_test (both (ltb i (length s / 8)) (eqb (flag_at s i) 1))
       (λ t.
       let r = ranges m s checked in
       let p = defined_passed m s i checked h (eqb-true _ _ (both_split t).1) in
-      rw (pick_true _ (Defined (action_at s i)) Undefined t) (action (action_at s i) (one_tape_holds one r.symbols_high r.states_high p)))
-      (λ t. rw (pick_false _ (Defined (action_at s i)) Undefined t) nothing)
+      rw (pick_true _ (Some (action_at s i)) None t) (action (action_at s i) (one_tape_holds one r.symbols_high r.states_high p)))
+      (λ t. rw (pick_false _ (Some (action_at s i)) None t) nothing)

@@ -2,7 +2,6 @@
 use Rattle.std.specs.Prelude.{◌≡◌, refl, List, ℕ, zero, suc, ◌+◌, ◌-◌, ◌≤◌, ◌<◌, length, get_or, set}
 use Rattle.std.proofs.Common.{sym, ap, ◌∙◌, arith, length-set, get_or-set_same, get_or-set_other}
 use Rattle.std.proofs.Math.Decide.{ℕ_discrete}
-use Rattle.std.proofs.lemmas.List.{set_comm}
 use Rattle.notation.specs.Fill.{fill_from}
 
 -- ---- one turn
@@ -47,11 +46,3 @@ fill_in f (suc n) i out j d a b h = by (ℕ_discrete i j) (fill_in f n (i + 1) (
         → get_or (fill_from f n (i + 1) (set out i (f i))) j d ≡ f j
     by (yes e) r = rw (← e) (fill_before f n (i + 1) (set out i (f i)) i d (omega arith) ∙ get_or-set_same out i (f i) d (omega arith))
     by (no g) r = r (omega arith) (omega arith) (simp length-set h)
-
--- a write below the places that are filled gives the same list before or after the fill
-pub set_fill : (f : ℕ → ℕ) (n i : ℕ) (out : List ℕ) (j w : ℕ) → j < i → set (fill_from f n i out) j w ≡ fill_from f n i (set out j w)
-unfolding fill_from
-set_fill f zero i out j w h = refl
-set_fill f (suc n) i out j w h =
-    set_fill f n (i + 1) (set out i (f i)) j w (omega arith)
-    ∙ ap (fill_from f n (i + 1)) (set_comm out i j (f i) w (λ e. omega arith))

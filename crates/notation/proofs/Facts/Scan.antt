@@ -1,7 +1,6 @@
 -- Scans: one turn of a loop for each scan, where x is the loop's result, and what follows from the scan's answer. Assumes nothing.
-use Rattle.std.specs.Prelude.{◌≡◌, refl, Bool, true, false, ℕ, zero, suc, ◌+◌, ◌-◌, ◌≤◌, ◌<◌}
+use Rattle.std.specs.Prelude.{◌≡◌, refl, Bool, true, false, ℕ, zero, suc, ◌+◌, ◌-◌, ◌≤◌, ◌<◌, None, Option, Some}
 use Rattle.std.proofs.Common.{sym, ap, ◌∙◌, arith}
-use Rattle.std.proofs.Math.Option.{Option, none, some}
 use Rattle.std.proofs.Math.Decide.{ℕ_discrete}
 use Rattle.notation.specs.Choice.{pick, both}
 use Rattle.notation.specs.Scan.{all_in, first_fail}
@@ -29,13 +28,13 @@ all_end p to i x e h =
     let z : to - i ≡ 0 = omega arith in
     simp z at e
 
-first_step : (p : ℕ → Bool) (to i : ℕ) → i < to → first_fail p (to - i) i ≡ pick (p i) (first_fail p (to - (i + 1)) (i + 1)) (some i)
+first_step : (p : ℕ → Bool) (to i : ℕ) → i < to → first_fail p (to - i) i ≡ pick (p i) (first_fail p (to - (i + 1)) (i + 1)) (Some i)
 unfolding first_fail
 first_step p to i h =
     let e : to - i ≡ suc (to - (i + 1)) = omega arith in
     ap (λ (n : ℕ). first_fail p n i) e
 
-pub first_hit : (p : ℕ → Bool) (to i : ℕ) (x : Option ℕ) → first_fail p (to - i) i ≡ x → i < to → p i ≡ false → x ≡ some i
+pub first_hit : (p : ℕ → Bool) (to i : ℕ) (x : Option ℕ) → first_fail p (to - i) i ≡ x → i < to → p i ≡ false → x ≡ Some i
 unfolding pick
 first_hit p to i x e h z = sym e ∙ first_step p to i h ∙ rw z
 
@@ -43,7 +42,7 @@ pub first_next : (p : ℕ → Bool) (to i : ℕ) (x : Option ℕ) → first_fail
 unfolding pick
 first_next p to i x e h z = simp (first_step p to i h, z) at e
 
-pub first-end : (p : ℕ → Bool) (to i : ℕ) (x : Option ℕ) → first_fail p (to - i) i ≡ x → to ≤ i → x ≡ none
+pub first-end : (p : ℕ → Bool) (to i : ℕ) (x : Option ℕ) → first_fail p (to - i) i ≡ x → to ≤ i → x ≡ None
 unfolding first_fail
 first-end p to i x e h =
     let z : to - i ≡ 0 = omega arith in
@@ -74,22 +73,22 @@ all_holds p (suc n) i h = both_true (h i (omega arith) (omega arith)) (all_holds
 
 -- the scan's answer by cases: the test holds for all, or j is the lowest number for which it fails
 pub data Scanned (p : ℕ → Bool) (n i : ℕ) : Option ℕ → Type 0 where
-  clean : Holds p n i → Scanned p n i none
-  failed : (j : ℕ) → i ≤ j → j < i + n → p j ≡ false → ((k : ℕ) → i ≤ k → k < j → p k ≡ true) → Scanned p n i (some j)
+  clean : Holds p n i → Scanned p n i None
+  failed : (j : ℕ) → i ≤ j → j < i + n → p j ≡ false → ((k : ℕ) → i ≤ k → k < j → p k ≡ true) → Scanned p n i (Some j)
 
 pub scanned : (p : ℕ → Bool) (n i : ℕ) → Scanned p n i (first_fail p n i)
 unfolding first_fail
 scanned p zero i = clean (λ j a b. absurd (omega arith))
-scanned p (suc n) i = by_test (p i) (λ h. rw (pick_true (p i) (first_fail p n (i + 1)) (some i) h) (more h (scanned p n (i + 1))))
-    (λ h. rw (pick_false (p i) (first_fail p n (i + 1)) (some i) h) (failed i (omega arith) (omega arith) h (λ k a b. absurd (omega arith))))
+scanned p (suc n) i = by_test (p i) (λ h. rw (pick_true (p i) (first_fail p n (i + 1)) (Some i) h) (more h (scanned p n (i + 1))))
+    (λ h. rw (pick_false (p i) (first_fail p n (i + 1)) (Some i) h) (failed i (omega arith) (omega arith) h (λ k a b. absurd (omega arith))))
   where
     more : {x : Option ℕ} → p i ≡ true → Scanned p n (i + 1) x → Scanned p (suc n) i x
     more h (clean r) = clean (holds_more p n i h r)
     more h (failed j a b z r) = failed j (omega arith) (omega arith) z (λ k c d. holds_more p (j - (i + 1)) i h (λ l e f. r l e (omega arith)) k c (omega arith))
 
-pub clean_none : (p : ℕ → Bool) (n i : ℕ) → Holds p n i → first_fail p n i ≡ none
+pub clean_none : (p : ℕ → Bool) (n i : ℕ) → Holds p n i → first_fail p n i ≡ None
 clean_none p n i h = by (first_fail p n i) (scanned p n i)
   where
-    by : (x : Option ℕ) → Scanned p n i x → x ≡ none
+    by : (x : Option ℕ) → Scanned p n i x → x ≡ None
     by x (clean r) = refl
     by x (failed j a b z r) = absurd (clash (h j a b) z)

@@ -1,37 +1,11 @@
--- Scans downward and counts: one turn of a loop for each, where x is the loop's result, and what follows from the answer. Assumes nothing.
-use Rattle.std.specs.Prelude.{◌≡◌, Bool, true, false, ℕ, zero, suc, ◌+◌, ◌-◌, ◌≤◌, ◌<◌}
-use Rattle.std.proofs.Common.{sym, ap, ◌∙◌, add-one, arith}
-use Rattle.std.proofs.Math.Option.{Option, none, some}
+-- Scans downward and counts: the end of a count's loop, and what follows from the answer. Assumes nothing.
+use Rattle.std.specs.Prelude.{◌≡◌, Bool, true, false, ℕ, zero, suc, ◌+◌, ◌≤◌, ◌<◌, None, Option, Some}
+use Rattle.std.proofs.Common.{ap, ◌∙◌, arith}
 use Rattle.std.proofs.Math.Decide.{ℕ_discrete}
-use Rattle.notation.specs.Choice.{pick}
 use Rattle.notation.specs.ScanDown.{last_fail, count_fails}
 use Rattle.notation.proofs.Facts.Tests.{by_test, pick_true, pick_false, pick_cases}
 
--- ---- one turn
-
-last_step : (p : ℕ → Bool) (i : ℕ) → 0 < i → last_fail p i ≡ pick (p (i - 1)) (last_fail p (i - 1)) (some (i - 1))
-unfolding last_fail
-last_step p i h =
-    let e : i ≡ suc (i - 1) = omega arith in
-    ap (last_fail p) e
-
-pub last_hit : (p : ℕ → Bool) (i : ℕ) (x : Option ℕ) → last_fail p i ≡ x → 0 < i → p (i - 1) ≡ false → x ≡ some (i - 1)
-unfolding pick
-last_hit p i x e h z = sym e ∙ last_step p i h ∙ rw z
-
-pub last_next : (p : ℕ → Bool) (i : ℕ) (x : Option ℕ) → last_fail p i ≡ x → 0 < i → p (i - 1) ≡ true → last_fail p (i - 1) ≡ x
-unfolding pick
-last_next p i x e h z = simp (last_step p i h, z) at e
-
-pub last_end : (p : ℕ → Bool) (i : ℕ) (x : Option ℕ) → last_fail p i ≡ x → i ≤ 0 → x ≡ none
-unfolding last_fail
-last_end p i x e h =
-    let z : i ≡ 0 = omega arith in
-    sym e ∙ ap (last_fail p) z
-
-pub count_turn : (p : ℕ → Bool) (i n w : ℕ) → n ≡ count_fails p i → w ≡ pick (p i) 0 1 → n + w ≡ count_fails p (i + 1)
-unfolding count_fails
-count_turn p i n w e h = rw (e, h, add-one)
+-- ---- the end of a count's loop
 
 pub count_end : (p : ℕ → Bool) (i n count : ℕ) → count ≡ count_fails p i → n ≤ i → i ≤ n → count ≡ count_fails p n
 count_end p i n count e a b =
@@ -47,14 +21,14 @@ count_most p (suc n) = pick_cases (p n) 0 1 (λ w. count_fails p n + w ≤ suc n
 
 -- the scan's answer by cases: the test holds for all numbers below n, or j is the highest for which it fails
 pub data ScannedDown (p : ℕ → Bool) (n : ℕ) : Option ℕ → Type 0 where
-  clean : ((j : ℕ) → j < n → p j ≡ true) → ScannedDown p n none
-  failed : (j : ℕ) → j < n → p j ≡ false → ((k : ℕ) → j < k → k < n → p k ≡ true) → ScannedDown p n (some j)
+  clean : ((j : ℕ) → j < n → p j ≡ true) → ScannedDown p n None
+  failed : (j : ℕ) → j < n → p j ≡ false → ((k : ℕ) → j < k → k < n → p k ≡ true) → ScannedDown p n (Some j)
 
 pub scanned_down : (p : ℕ → Bool) (n : ℕ) → ScannedDown p n (last_fail p n)
 unfolding last_fail
 scanned_down p zero = clean (λ j b. absurd (omega arith))
-scanned_down p (suc n) = by_test (p n) (λ h. rw (pick_true (p n) (last_fail p n) (some n) h) (more h (scanned_down p n)))
-    (λ h. rw (pick_false (p n) (last_fail p n) (some n) h) (failed n (omega arith) h (λ k a b. absurd (omega arith))))
+scanned_down p (suc n) = by_test (p n) (λ h. rw (pick_true (p n) (last_fail p n) (Some n) h) (more h (scanned_down p n)))
+    (λ h. rw (pick_false (p n) (last_fail p n) (Some n) h) (failed n (omega arith) h (λ k a b. absurd (omega arith))))
   where
     at : p n ≡ true → (k : ℕ) → (k < n → p k ≡ true) → k < suc n → Dec (n ≡ k) → p k ≡ true
     at h k r b (yes e) = rw e at h

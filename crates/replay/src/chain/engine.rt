@@ -1,7 +1,16 @@
 // The run-length engine with the runs of its sides.
+use super::questions;
+use crate::compare::engines;
+use crate::lent::{Called, Engine, Ran};
+use crate::read::question::Places;
+use crate::read::timeline::Settings;
+use crate::rows::STORE;
 use machine::Machine;
+use outcome::Refusal;
 use rle::ChainSim;
-use sim::{Answer, StopRule};
+use rle_timeline::Timeline;
+use symbol::State;
+use timeline_rule::{Call, Times};
 
 // The number of run places of a side.
 pub(crate) const RUNS: usize = 48;
@@ -16,15 +25,14 @@ pub(crate) struct ChainEngine {
     pub rl: [u64; RUNS],
 }
 
-// The engine after a run, and the answer.
-#[derive(Clone, Copy)]
-pub(crate) struct Ran {
-    pub engine: ChainEngine,
-    pub answer: Answer,
-}
+impl Engine for ChainEngine {
+    type Timeline = Timeline;
 
-impl ChainEngine {
-    pub(crate) fn run(self, m: Machine, table: &[u8], rule: StopRule, fuel: u64) -> Ran {
+    fn width() -> usize {
+        questions::WIDTH
+    }
+
+    fn run(self, m: Machine, table: &[u8], rule: Option<State>, fuel: u64) -> Ran<Self> {
         let before = self.sim;
         let mut ls = self.ls;
         let mut ll = self.ll;
@@ -43,5 +51,86 @@ impl ChainEngine {
             },
             answer,
         }
+    }
+
+    fn ask(self, row: &[u64], places: Places, m: Machine, table: &[u8]) -> usize {
+        questions::ask(
+            row, places, m, table, self.sim, &self.ls, &self.ll, &self.rs, &self.rl,
+        )
+    }
+
+    fn expect(self, row: &[u64], at: usize, _m: Machine) -> usize {
+        engines::expect_chain(row, at, self)
+    }
+
+    fn begin(
+        self,
+        m: Machine,
+        table: &[u8],
+        settings: Settings,
+        store: &mut [u8; STORE],
+    ) -> Result<Timeline, Refusal> {
+        let ls = self.ls;
+        let ll = self.ll;
+        let rs = self.rs;
+        let rl = self.rl;
+        Timeline::new(
+            self.sim,
+            m,
+            table,
+            &ls,
+            &ll,
+            &rs,
+            &rl,
+            store,
+            settings.most,
+            settings.every,
+        )
+    }
+
+    fn call(
+        self,
+        timeline: Timeline,
+        m: Machine,
+        table: &[u8],
+        store: &mut [u8; STORE],
+        call: Call,
+    ) -> Called<Self, Timeline> {
+        let mut ls = self.ls;
+        let mut ll = self.ll;
+        let mut rs = self.rs;
+        let mut rl = self.rl;
+        let answered = match call {
+            Call::Seek(step) => timeline.seek(
+                m, table, &mut ls, &mut ll, &mut rs, &mut rl, store, step,
+            ),
+            Call::Forward(n) => timeline.forward(
+                m, table, &mut ls, &mut ll, &mut rs, &mut rl, store, n,
+            ),
+            Call::Back(n) => timeline.back(m, table, &mut ls, &mut ll, &mut rs, &mut rl, store, n),
+        };
+        let timeline = answered.timeline;
+        let answer = answered.answer;
+        let sim = timeline.engine;
+        Called {
+            engine: ChainEngine {
+                sim,
+                ls,
+                ll,
+                rs,
+                rl,
+            },
+            timeline,
+            answer,
+        }
+    }
+
+    fn times(timeline: Timeline) -> Times {
+        timeline.times
+    }
+
+    fn counted(timeline: Timeline) -> u64 {
+        let sim = timeline.engine;
+        sim.macro_steps()
     }
 }

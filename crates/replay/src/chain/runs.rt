@@ -1,6 +1,7 @@
 // Cases of one run of the run-length engine.
 use super::engine::ChainEngine;
 use crate::compare::{answers, engines, numbers};
+use crate::lent::Engine;
 use crate::read::order;
 use machine::Machine;
 

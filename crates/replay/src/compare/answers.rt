@@ -1,11 +1,12 @@
 // Compares answers, in the order in which the data has their numbers. A refusal differs always.
 use super::numbers;
+use crate::read::lists;
 use crate::read::timeline::Settings;
 use crate::rows;
 use capi_numbers::answers;
-use machine::Checked;
-use sim::questions::{Counted, Extent, Got, Located};
-use sim::{Answer, StepAnswer};
+use outcome::{Outcome, Refusal, Status};
+use symbol::Symbol;
+use tape::Span;
 use timeline_rule::Times;
 
 // The Rust's settings of a timeline: the most slots, and the steps between two of them at first.
@@ -17,12 +18,12 @@ const RUST_EVERY: u64 = 4096;
 const VALUES: usize = 5;
 
 // The number of symbols that a window is lent.
-pub(crate) const WINDOW: usize = 64;
+const WINDOW: usize = 64;
 
 // Compares a run's answer: the outcome's number and its values, 0 for a value that it lacks.
-pub(crate) fn expect_answer(row: &[u64], at: usize, answer: Answer) -> usize {
+pub(crate) fn expect_answer(row: &[u64], at: usize, answer: Result<Outcome, Refusal>) -> usize {
     let mut out: [u64; 8] = [0; 8];
-    let refusal = answers::put_answer(&mut out, answer);
+    let refusal = answers::put_result(&mut out, answer);
     expect_values(row, at, refusal, &out)
 }
 
@@ -53,55 +54,63 @@ fn expect_found(row: &[u64], at: usize, refusal: u8, out: &[u64; 8], positions: 
 }
 
 // Compares a step's answer: 0 running, 1 halted, 2 full.
-pub(crate) fn expect_step(row: &[u64], at: usize, answer: StepAnswer) -> usize {
+pub(crate) fn expect_step(row: &[u64], at: usize, answer: Result<Status, Refusal>) -> usize {
     let mut out: [u64; 8] = [0; 8];
-    let refusal = answers::put_step(&mut out, answer);
+    let refusal = answers::put_result(&mut out, answer);
     expect_found(row, at, refusal, &out, 0)
 }
 
 // Compares a symbol.
-pub(crate) fn expect_got(row: &[u64], at: usize, answer: Got) -> usize {
+pub(crate) fn expect_got(row: &[u64], at: usize, answer: Result<Symbol, Refusal>) -> usize {
     let mut out: [u64; 8] = [0; 8];
-    let refusal = answers::put_got(&mut out, answer);
+    let refusal = answers::put_result(&mut out, answer);
     expect_found(row, at, refusal, &out, 0)
 }
 
 // Compares a number of cells.
-pub(crate) fn expect_counted(row: &[u64], at: usize, answer: Counted) -> usize {
+pub(crate) fn expect_counted(row: &[u64], at: usize, answer: Result<u64, Refusal>) -> usize {
     let mut out: [u64; 8] = [0; 8];
-    let refusal = answers::put_counted(&mut out, answer);
+    let refusal = answers::put_result(&mut out, answer);
     expect_found(row, at, refusal, &out, 0)
 }
 
 // Compares 0, or 1 and the lowest and the highest position.
-pub(crate) fn expect_extent(row: &[u64], at: usize, answer: Extent) -> usize {
+pub(crate) fn expect_extent(
+    row: &[u64],
+    at: usize,
+    answer: Result<Option<Span>, Refusal>,
+) -> usize {
     let mut out: [u64; 8] = [0; 8];
-    let refusal = answers::put_extent(&mut out, answer);
+    let refusal = answers::put_result(&mut out, answer);
     expect_found(row, at, refusal, &out, 2)
 }
 
 // Compares 0, or 1 and a position.
-pub(crate) fn expect_located(row: &[u64], at: usize, answer: Located) -> usize {
+pub(crate) fn expect_located(
+    row: &[u64],
+    at: usize,
+    answer: Result<Option<i64>, Refusal>,
+) -> usize {
     let mut out: [u64; 8] = [0; 8];
-    let refusal = answers::put_located(&mut out, answer);
+    let refusal = answers::put_result(&mut out, answer);
     expect_found(row, at, refusal, &out, 1)
 }
 
-// Compares the symbols of a window.
-pub(crate) fn expect_window(
+// Asks for the symbols of a window, at most WINDOW, and compares them.
+pub(crate) fn expect_window<F: FnOnce(&mut [u8]) -> Result<(), Refusal>>(
     row: &[u64],
     at: usize,
-    answer: Checked,
-    count: usize,
-    symbols: &[u8; WINDOW],
-) -> usize {
+    size: u64,
+    ask: F,
+) -> usize
+    requires { F.IsAlwaysCallable ask }
+{
+    let mut symbols: [u8; WINDOW] = [0; WINDOW];
+    let count = rows::least(size, WINDOW);
+    let answer = ask(lists::head_mut(&mut symbols, count));
     match answer {
-        Checked::Refused(_) => {
-            return rows::DIFFERS;
-        }
-        Checked::Accepted => {
-            return numbers::expect_lists(row, at, count, symbols, &[]);
-        }
+        Err(_) => rows::DIFFERS,
+        Ok(()) => numbers::expect_lists(row, at, count, &symbols, &[]),
     }
 }
 

@@ -28,7 +28,7 @@ fn add_cell(row: &[u64], run: Run, cell: u8) -> Run {
         return Run {
             at: run.at,
             symbol: cell,
-            length: std::num::wrapping_add_u64(run.length, 1),
+            length: run.length.wrapping_add(1),
         };
     }
     Run {
@@ -53,7 +53,7 @@ fn expect_cells(row: &[u64], at: usize, cells: &[u8]) -> usize {
 
 // Compares an index as a position.
 fn expect_index(row: &[u64], at: usize, index: usize, origin: usize) -> usize {
-    let position = std::num::wrapping_sub_u64(index as u64, origin as u64);
+    let position = (index as u64).wrapping_sub(origin as u64);
     numbers::expect(row, at, position)
 }
 

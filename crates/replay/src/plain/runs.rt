@@ -1,6 +1,7 @@
 // Cases of one run or one step of the plain engine.
-use super::engine::{PlainEngine, Ran};
+use super::engine::PlainEngine;
 use crate::compare::{answers, engines};
+use crate::lent::{Engine, Ran};
 use crate::read::{lists, order};
 use crate::rows::PLACES;
 use machine::Machine;
@@ -20,7 +21,7 @@ pub(crate) fn replay_run(
 }
 
 // Compares the answer of a run, and the engine after it.
-fn expect_ran(row: &[u64], at: usize, m: Machine, ran: Ran) -> usize {
+fn expect_ran(row: &[u64], at: usize, m: Machine, ran: Ran<PlainEngine>) -> usize {
     let answer = ran.answer;
     let engine = ran.engine;
     let at = answers::expect_answer(row, at, answer);
@@ -38,8 +39,9 @@ pub(crate) fn replay_fast(
     let order = order::read(row, at);
     let rule = order.rule;
     let mut words: [u64; PLACES] = [0; PLACES];
-    m.pack(table, &mut words);
-    let packed = lists::number_head(&words, table.len() / 8);
+    // Where packing is refused, the words are no packed table, and the run is refused too.
+    let _ = m.pack(table, &mut words);
+    let packed = lists::head(&words, table.len() / 8);
     let ran = engine.run_packed(m, table, packed, rule, order.fuel);
     expect_ran(row, order.next, m, ran)
 }

@@ -46,34 +46,15 @@ pub(crate) fn read(row: &[u64], at: usize) -> List {
     }
 }
 
-// The first `count` bytes of a slice, or all where it has fewer.
-pub(crate) fn head(list: &[u8], count: usize) -> &[u8] {
-    if count <= list.len() {
-        return &list[..count];
-    }
-    list
+// The first `count` items of a slice, or all where it has fewer.
+pub(crate) fn head<T>(list: &[T], count: usize) -> &[T] {
+    list.get(..count).unwrap_or(list)
 }
 
-// The same, lent for writing.
+// The same of bytes, lent for writing.
 pub(crate) fn head_mut(list: &mut [u8], count: usize) -> &mut [u8] {
     if count <= list.len() {
         return &mut list[..count];
-    }
-    list
-}
-
-// The same of numbers.
-pub(crate) fn number_head(list: &[u64], count: usize) -> &[u64] {
-    if count <= list.len() {
-        return &list[..count];
-    }
-    list
-}
-
-// The same of glyphs.
-pub(crate) fn glyph_head(list: &[u32], count: usize) -> &[u32] {
-    if count <= list.len() {
-        return &list[..count];
     }
     list
 }

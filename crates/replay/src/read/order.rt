@@ -1,10 +1,10 @@
 // The order of a run: its stop rule and its fuel.
 use crate::rows;
-use sim::StopRule;
+use symbol::State;
 
 #[derive(Clone, Copy)]
 pub(crate) struct Order {
-    pub rule: StopRule,
+    pub rule: Option<State>,
     pub fuel: u64,
     // the place past the order
     pub next: usize,

@@ -1,5 +1,6 @@
 // A timeline's case begins with its settings and its calls.
 use crate::rows;
+use timeline_rule::Call;
 
 // The most slots, the steps between two of them at first; the number of calls, the place of the first call, and the
 // place past the last.
@@ -10,13 +11,6 @@ pub(crate) struct Settings {
     pub count: usize,
     pub first: usize,
     pub next: usize,
-}
-
-// A call: 0 seek, 1 forward, else back; and its number.
-#[derive(Clone, Copy)]
-pub(crate) struct Call {
-    pub which: u64,
-    pub number: u64,
 }
 
 pub(crate) fn read(row: &[u64], at: usize) -> Settings {
@@ -30,9 +24,12 @@ pub(crate) fn read(row: &[u64], at: usize) -> Settings {
     }
 }
 
+// The call at a place: 0 seek, 1 forward, else back; and its number.
 pub(crate) fn call_at(row: &[u64], at: usize) -> Call {
-    Call {
-        which: rows::number(row, at),
-        number: rows::number(row, rows::past(at, 1)),
+    let number = rows::number(row, rows::past(at, 1));
+    match rows::number(row, at) {
+        0 => Call::Seek(number),
+        1 => Call::Forward(number),
+        _ => Call::Back(number),
     }
 }

@@ -14,9 +14,9 @@ pub(crate) fn replay(row: &[u64]) -> usize {
     encode(
         row,
         word.next,
-        lists::glyph_head(&glyph_list, glyphs.count),
+        lists::head(&glyph_list, glyphs.count),
         lists::head(&flag_list, flags.count),
-        lists::glyph_head(&word_list, word.count),
+        lists::head(&word_list, word.count),
     )
 }
 
@@ -24,7 +24,7 @@ fn encode(row: &[u64], at: usize, glyphs: &[u32], flags: &[u8], word: &[u32]) ->
     let mut symbols: [u8; PLACES] = [0; PLACES];
     let checked = alphabet::encode(glyphs, flags, word, &mut symbols);
     let mut out: [u64; 8] = [0; 8];
-    let result = answers::put_checked(&mut out, checked);
+    let result = answers::put_result(&mut out, checked);
     let at = numbers::expect(row, at, result as u64);
     if result != 0 {
         return numbers::expect(row, at, out[0]);

@@ -3,7 +3,6 @@ use crate::compare::numbers;
 use crate::read::{lists, table};
 use crate::rows;
 use crate::rows::PLACES;
-use machine::Checked;
 
 pub(crate) fn replay(row: &[u64]) -> usize {
     let case = table::read(row);
@@ -12,11 +11,7 @@ pub(crate) fn replay(row: &[u64]) -> usize {
     let mut words: [u64; PLACES] = [0; PLACES];
     let checked = m.pack(lists::head(&table, case.size), &mut words);
     match checked {
-        Checked::Refused(_) => {
-            return rows::DIFFERS;
-        }
-        Checked::Accepted => {
-            return numbers::expect_lists(row, case.next, case.size / 8, b"", &words);
-        }
+        Err(_) => rows::DIFFERS,
+        Ok(()) => numbers::expect_lists(row, case.next, case.size / 8, b"", &words),
     }
 }

@@ -1,5 +1,5 @@
 -- The checks of an engine's value: one fact for each return. Assumes nothing.
-use Rattle.std.specs.Prelude.{◌≡◌, Bool, true, false, List, ℕ, ◌+◌, ◌-◌, ◌≤◌, ◌<◌, leb}
+use Rattle.std.specs.Prelude.{◌≡◌, Bool, true, false, List, ℕ, ◌+◌, ◌-◌, ◌≤◌, ◌<◌, leb, Err, Ok, Result, ⊤}
 use Rattle.std.proofs.Common.{sym, ◌∙◌, ap, arith}
 use borrow.Author.Tests.{leb-true, leb-false, le-leb, lt-leb, eq-eqb, ne_eqb}
 use Rattle.notation.specs.Choice.{pick, both}
@@ -8,8 +8,6 @@ use Rattle.notation.specs.Limits.{steps_most, runs_most, slack, raised_zero}
 use Rattle.outcome.specs.declared.Refusal.{Refusal}
 use Rattle.outcome.specs.declared.Refusal.TheVariants as Why
 use Rattle.machine.specs.declared.Machine.{Machine}
-use Rattle.machine.specs.declared.Checked.{Checked}
-use Rattle.machine.specs.declared.Checked.TheVariants.{Accepted, Refused}
 use Rattle.machine.specs.Model.Check.{table_check}
 use Rattle.run_checks.specs.Model.Sizes.{fuel_fits}
 use Rattle.rle_stack.specs.Model.{places_of, cells_of}
@@ -73,49 +71,49 @@ module _ (m : Machine) (v : ChainSim) (ls ll rs rl : List ℕ) where
 
   -- ---- the checks
 
-  pub value_tapes : (m.tapes ≡ 1 → ⊥) → Refused Why.SeveralTapes ≡ value_check m at
+  pub value_tapes : (m.tapes ≡ 1 → ⊥) → Err Why.SeveralTapes ≡ value_check m at
   unfolding value_check pick
   value_tapes h = rw (ne_eqb m.tapes 1 h)
 
   module _ (t : m.tapes ≡ 1) (lp : ℕ) (lq : lp ≡ places_of ls ll) where
-    pub value_lefts : runs_most < lp → Refused Why.BufferSize ≡ value_check m at
+    pub value_lefts : runs_most < lp → Err Why.BufferSize ≡ value_check m at
     unfolding value_check places_fit pick both
     value_lefts h = rw (eq-eqb m.tapes 1 t, lt-leb (places_of ls ll) runs_most (omega (arith, lq)))
 
     module _ (lh : lp ≤ runs_most) (rp : ℕ) (rq : rp ≡ places_of rs rl) where
-      pub value_rights : runs_most < rp → Refused Why.BufferSize ≡ value_check m at
+      pub value_rights : runs_most < rp → Err Why.BufferSize ≡ value_check m at
       unfolding value_check places_fit pick both
       value_rights h = rw (eq-eqb m.tapes 1 t, le-leb (places_of ls ll) runs_most (omega (arith, lq)), lt-leb (places_of rs rl) runs_most (omega (arith, rq)))
 
       module _ (rh : rp ≤ runs_most) (b : Bool) (bp : b ≡ chain_fits m at) where
-        pub value_misfit : b ≡ false → Refused Why.Misfit ≡ value_check m at
+        pub value_misfit : b ≡ false → Err Why.Misfit ≡ value_check m at
         unfolding value_check places_fit pick both
         value_misfit e = rw (eq-eqb m.tapes 1 t, le-leb (places_of ls ll) runs_most (omega (arith, lq)), le-leb (places_of rs rl) runs_most (omega (arith, rq)), ← bp, e)
 
-        pub value_passed : b ≡ true → Accepted ≡ value_check m at
+        pub value_passed : b ≡ true → (Ok tt) ≡ value_check m at
         unfolding value_check places_fit pick both
         value_passed e = rw (eq-eqb m.tapes 1 t, le-leb (places_of ls ll) runs_most (omega (arith, lq)), le-leb (places_of rs rl) runs_most (omega (arith, rq)), ← bp, e)
 
-  module _ (s : List ℕ) (r : Checked) (checked : r ≡ table_check m s) where
-    pub engine_table : (why : Refusal) → r ≡ Refused why → Refused why ≡ engine_check m s at
+  module _ (s : List ℕ) (r : Result ⊤ Refusal) (checked : r ≡ table_check m s) where
+    pub engine_table : (why : Refusal) → r ≡ Err why → Err why ≡ engine_check m s at
     unfolding engine_check
     engine_table why e = rw (← checked, e)
 
-    pub engine_value : (x : Checked) → r ≡ Accepted → x ≡ value_check m at → x ≡ engine_check m s at
+    pub engine_value : (x : Result ⊤ Refusal) → r ≡ Ok tt → x ≡ value_check m at → x ≡ engine_check m s at
     unfolding engine_check
     engine_value x e p = rw (← checked, e) p
 
-  module _ (s : List ℕ) (fuel : ℕ) (r : Checked) (checked : r ≡ engine_check m s at) where
-    pub run_refused : (why : Refusal) → r ≡ Refused why → Refused why ≡ run_check m s fuel at
+  module _ (s : List ℕ) (fuel : ℕ) (r : Result ⊤ Refusal) (checked : r ≡ engine_check m s at) where
+    pub run_refused : (why : Refusal) → r ≡ Err why → Err why ≡ run_check m s fuel at
     unfolding run_check
     run_refused why e = rw (← checked, e)
 
-    module _ (passed : r ≡ Accepted) (b : Bool) (limit : b ≡ fuel_fits v.steps fuel) where
-      pub run-over : b ≡ false → Refused Why.StepLimit ≡ run_check m s fuel at
+    module _ (passed : r ≡ Ok tt) (b : Bool) (limit : b ≡ fuel_fits v.steps fuel) where
+      pub run-over : b ≡ false → Err Why.StepLimit ≡ run_check m s fuel at
       unfolding run_check pick
       run-over e = rw (← checked, passed, ← limit, e)
 
-      pub run_passed : b ≡ true → Accepted ≡ run_check m s fuel at
+      pub run_passed : b ≡ true → (Ok tt) ≡ run_check m s fuel at
       unfolding run_check pick
       run_passed e = rw (← checked, passed, ← limit, e)
 

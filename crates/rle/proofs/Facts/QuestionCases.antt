@@ -1,5 +1,5 @@
 -- The questions' answers, a lemma for each return. Assumes nothing.
-use Rattle.std.specs.Prelude.{◌≡◌, Bool, true, false, List, ℕ, ◌+◌, ◌-◌, ◌≤◌, ◌<◌, min, eqb, ℤ, length}
+use Rattle.std.specs.Prelude.{◌≡◌, Bool, true, false, List, ℕ, ◌+◌, ◌-◌, ◌≤◌, ◌<◌, min, eqb, ℤ, Err, Ok, Result, ⊤, None, Option, Some}
 use Rattle.std.proofs.Math.Path.{sym, ap}
 use Rattle.std.proofs.Common.{◌∙◌, arith}
 use borrow.Author.Tests.{leb-true, eq-eqb, ne_eqb}
@@ -11,21 +11,17 @@ use Rattle.symbol.specs.Kinds.{symbol_of}
 use Rattle.symbol.specs.Model.{raised_of}
 use Rattle.outcome.specs.declared.Refusal.{Refusal}
 use Rattle.machine.specs.declared.Machine.{Machine}
-use Rattle.machine.specs.declared.Checked.{Checked}
-use Rattle.machine.specs.declared.Checked.TheVariants.{Accepted, Refused}
 use Rattle.tape.specs.declared.Span.{Span}
-use Rattle.tape.specs.declared.Span.TheVariants.{Empty, Cells}
-use Rattle.run_rules.specs.declared.questions.Got.TheVariants as Got
-use Rattle.run_rules.specs.declared.questions.Extent.TheVariants as Extent
-use Rattle.run_rules.specs.declared.questions.Counted.TheVariants as Counted
+use Rattle.tape.specs.Model.Questions.{span}
 use Rattle.rle_stack.specs.Model.{cells_of, near_of}
 use Rattle.rle.specs.declared.ChainSim.{ChainSim}
 use Rattle.rle.specs.Model.Engine.{Conf, conf, left_of, right_of}
 use Rattle.rle.specs.Invariants.{AskOk}
 use Rattle.rle.specs.Fits.{reach_fits, chain_fits, engine_check}
 use Rattle.rle.proofs.Facts.OperationCases.{Passed, engine_says, sides_ok, counts_ok, steps_ok}
+use Rattle.rle_macro.specs.declared.inner.questions.Tape.{Tape}
 use Rattle.rle_macro.specs.Model.Questions.{cell_on, window_all, count_on}
-use Rattle.rle.specs.Model.Questions.{raised_cell, window_from, lowest_of, highest_of, blank_tape, span_of, count_of, get_answer, extent_answer, count_answer, window_into}
+use Rattle.rle.specs.Model.Questions.{read_of, raised_cell, window_from, lowest_of, highest_of, blank_tape, span_of, count_of, get_answer, extent_answer, count_answer, window_into}
 
 -- ---- the tape
 
@@ -90,34 +86,34 @@ module _ (σ : Conf) (ok : AskOk σ) (some : blank_tape σ ≡ false) where
       let n : σ.sim.tape.left ≡ 0 → ⊥ = λ l. some_right σ some k l h in
       omega arith
 
-pub span_empty : (σ : Conf) (b : Bool) → b ≡ blank_tape σ → b ≡ true → Empty ≡ span_of σ
+pub span_empty : (σ : Conf) (b : Bool) → b ≡ blank_tape σ → b ≡ true → None ≡ span_of σ
 unfolding span_of pick
 span_empty σ b p e = rw (← p, e)
 
-pub span_cells : (σ : Conf) (b : Bool) → b ≡ blank_tape σ → b ≡ false → (l h : ℕ) (x y : ℤ) → l ≡ lowest_of σ → h ≡ highest_of σ → x ≡ l ⊖ raised_zero → y ≡ h ⊖ raised_zero → Cells x y ≡ span_of σ
+pub span_cells : (σ : Conf) (b : Bool) → b ≡ blank_tape σ → b ≡ false → (l h : ℕ) (x y : ℤ) → l ≡ lowest_of σ → h ≡ highest_of σ → x ≡ l ⊖ raised_zero → y ≡ h ⊖ raised_zero → Some (span x y) ≡ span_of σ
 unfolding span_of pick
-span_cells σ b p e l h x y el eh ex ey = (λ i. Cells ((ex ∙ ap (λ (n : ℕ). n ⊖ raised_zero) el) i) ((ey ∙ ap (λ (n : ℕ). n ⊖ raised_zero) eh) i)) ∙ sym (rw (← p, e))
+span_cells σ b p e l h x y el eh ex ey = (λ i. Some (span ((ex ∙ ap (λ (n : ℕ). n ⊖ raised_zero) el) i) ((ey ∙ ap (λ (n : ℕ). n ⊖ raised_zero) eh) i))) ∙ sym (rw (← p, e))
 
 -- ---- the operations
 
-module _ (m : Machine) (s : List ℕ) (σ : Conf) (r : Checked) (checked : r ≡ engine_check m s σ) where
-  pub get_refused : (z : ℤ) (why : Refusal) → r ≡ Refused why → Got.Refused why ≡ get_answer m s z σ
+module _ (m : Machine) (s : List ℕ) (σ : Conf) (r : Result ⊤ Refusal) (checked : r ≡ engine_check m s σ) where
+  pub get_refused : (z : ℤ) (why : Refusal) → r ≡ Err why → Err why ≡ get_answer m s z σ
   unfolding get_answer
   get_refused z why e = rw (← checked, e)
 
-  pub extent_refused : (why : Refusal) → r ≡ Refused why → Extent.Refused why ≡ extent_answer m s σ
+  pub extent_refused : (why : Refusal) → r ≡ Err why → Err why ≡ extent_answer m s σ
   unfolding extent_answer
   extent_refused why e = rw (← checked, e)
 
-  pub count_refused : (why : Refusal) → r ≡ Refused why → Counted.Refused why ≡ count_answer m s σ
+  pub count_refused : (why : Refusal) → r ≡ Err why → Err why ≡ count_answer m s σ
   unfolding count_answer
   count_refused why e = rw (← checked, e)
 
-  pub window_refused : (z : ℤ) (out : List ℕ) (why : Refusal) → r ≡ Refused why → out ≡ window_into m s z σ out
+  pub window_refused : (z : ℤ) (out : List ℕ) (why : Refusal) → r ≡ Err why → out ≡ window_into m s z σ out
   unfolding window_into
   window_refused z out why e = rw (← checked, e)
 
-  module _ (passed : r ≡ Accepted) where
+  module _ (passed : r ≡ Ok tt) where
     reach : Passed m s σ → reach_fits σ.sim (cells_of (left_of σ)) (cells_of (right_of σ)) ≡ true
     unfolding chain_fits
     reach p = (both_split (both_split (both_split (both_split p.fits).1).1).1).1
@@ -133,33 +129,24 @@ module _ (m : Machine) (s : List ℕ) (σ : Conf) (r : Checked) (checked : r ≡
           right_far = leb-true (σ.sim.tape.head + cells_of (right_of σ)) (raised_zero + σ.sim.steps + slack) (both_split (reach p)).1;
         }
 
-    -- what the questions on the sides require
-    pub asked_places : (σ.sim.tape.left ≤ length σ.ls) × (σ.sim.tape.left ≤ length σ.ll) × (σ.sim.tape.right ≤ length σ.rs) × (σ.sim.tape.right ≤ length σ.rl)
-    asked_places = (
-      omega (arith, asked_ok.sides.left.live, asked_ok.sides.left.symbols_in),
-      omega (arith, asked_ok.sides.left.live, asked_ok.sides.left.lengths_in),
-      omega (arith, asked_ok.sides.right.live, asked_ok.sides.right.symbols_in),
-      omega (arith, asked_ok.sides.right.live, asked_ok.sides.right.lengths_in),
+    pub asked_sums : (t : Tape) → t ≡ read_of σ → (cells_of t.left < raised_zero - 1) × (cells_of t.right < raised_zero - 1)
+    asked_sums t e = (
+      omega (arith, ap (λ (t : Tape). cells_of t.left) e, asked_ok.sides.left.cells_in, asked_ok.counts.steps_in),
+      omega (arith, ap (λ (t : Tape). cells_of t.right) e, asked_ok.sides.right.cells_in, asked_ok.counts.steps_in),
     )
 
-    pub asked_sums : (cells_of (left_of σ) < raised_zero - 1) × (cells_of (right_of σ) < raised_zero - 1)
-    asked_sums = (
-      omega (arith, asked_ok.sides.left.cells_in, asked_ok.counts.steps_in),
-      omega (arith, asked_ok.sides.right.cells_in, asked_ok.counts.steps_in),
-    )
-
-    pub get_done : (y z : ℤ) (p x : ℕ) → p ≡ raised_of y → y ≡ z → x ≡ cell_on σ.sim.tape.head σ.sim.tape.cur (left_of σ) (right_of σ) p → Got.Found (symbol_of x) ≡ get_answer m s z σ
+    pub get_done : (t : Tape) → t ≡ read_of σ → (y z : ℤ) (p x : ℕ) → p ≡ raised_of y → y ≡ z → x ≡ cell_on t.head t.cur t.left t.right p → Ok (symbol_of x) ≡ get_answer m s z σ
     unfolding get_answer raised_cell
-    get_done y z p x e k h = (λ i. Got.Found (symbol_of ((h ∙ ap (raised_cell σ) (e ∙ ap raised_of k)) i))) ∙ sym (rw (← checked, passed))
+    get_done t q y z p x e k h = (λ i. Ok (symbol_of ((h ∙ ap (λ (t : Tape). cell_on t.head t.cur t.left t.right p) q ∙ ap (raised_cell σ) (e ∙ ap raised_of k)) i))) ∙ sym (rw (← checked, passed))
 
-    pub extent_done : (x : Span) → x ≡ span_of σ → Extent.Found x ≡ extent_answer m s σ
+    pub extent_done : (x : Option Span) → x ≡ span_of σ → Ok x ≡ extent_answer m s σ
     unfolding extent_answer
-    extent_done x e = ap Extent.Found e ∙ sym (rw (← checked, passed))
+    extent_done x e = ap Ok e ∙ sym (rw (← checked, passed))
 
-    pub count_done : (x : ℕ) → x ≡ count_on σ.sim.tape.cur (left_of σ) (right_of σ) → Counted.Found x ≡ count_answer m s σ
+    pub count_done : (t : Tape) → t ≡ read_of σ → (x : ℕ) → x ≡ count_on t.cur t.left t.right → Ok x ≡ count_answer m s σ
     unfolding count_answer count_of
-    count_done x e = ap Counted.Found e ∙ sym (rw (← checked, passed))
+    count_done t q x e = ap Ok (e ∙ ap (λ (t : Tape). count_on t.cur t.left t.right) q) ∙ sym (rw (← checked, passed))
 
-    pub window_done : (y z : ℤ) (p : ℕ) (out out₁ : List ℕ) → p ≡ raised_of y → y ≡ z → out₁ ≡ window_all σ.sim.tape.head σ.sim.tape.cur (left_of σ) (right_of σ) p out → out₁ ≡ window_into m s z σ out
+    pub window_done : (t : Tape) → t ≡ read_of σ → (y z : ℤ) (p : ℕ) (out out₁ : List ℕ) → p ≡ raised_of y → y ≡ z → out₁ ≡ window_all t.head t.cur t.left t.right p out → out₁ ≡ window_into m s z σ out
     unfolding window_into window_from
-    window_done y z p out out₁ e k h = h ∙ ap (λ (n : ℕ). window_from σ n out) (e ∙ ap raised_of k) ∙ sym (rw (← checked, passed))
+    window_done t q y z p out out₁ e k h = h ∙ ap (λ (t : Tape). window_all t.head t.cur t.left t.right p out) q ∙ ap (λ (n : ℕ). window_from σ n out) (e ∙ ap raised_of k) ∙ sym (rw (← checked, passed))

@@ -1,5 +1,8 @@
 -- A run is a macro step and then a run: properties of a planned macro step, and that every bound on macro steps above the fuel gives the same end. Assumes nothing.
-use Rattle.std.specs.Prelude.{◌≡◌, refl, Bool, false, ℕ, zero, suc, ◌-◌, ◌≤◌, ◌<◌, eqb}
+use Rattle.std.specs.declared.ops.ControlFlow.{ControlFlow}
+use Rattle.std.specs.declared.ops.ControlFlow.TheVariants.{Break, Continue}
+use Rattle.symbol.specs.declared.State.{State}
+use Rattle.std.specs.Prelude.{◌≡◌, refl, Bool, false, ℕ, zero, suc, ◌-◌, ◌≤◌, ◌<◌, eqb, None, Option, Some}
 use Rattle.std.proofs.Common.{sym, ◌∙◌, ap, subst, arith}
 use Rattle.std.proofs.lemmas.Bool.{eqb-false}
 use Rattle.notation.specs.Choice.{both}
@@ -8,34 +11,29 @@ use Rattle.symbol.specs.declared.Dir.{Dir}
 use Rattle.symbol.specs.declared.Dir.TheVariants.{L, R, N}
 use Rattle.outcome.specs.declared.Outcome.{Outcome}
 use Rattle.machine.specs.declared.Action.{Action}
-use Rattle.machine.specs.declared.Entry.{Entry}
-use Rattle.machine.specs.declared.Entry.TheVariants.{Undefined, Defined}
-use Rattle.run_rules.specs.declared.StopRule.{StopRule}
 use Rattle.run_checks.specs.Model.Look.{entry_of}
 use Rattle.run_rules.specs.Model.Task.{Task, matches}
 use Rattle.rle_stack.specs.Model.{Side}
 use Rattle.rle_macro.specs.declared.inner.macro_step.Step.{Step}
 use Rattle.rle.specs.declared.ChainSim.{ChainSim}
-use Rattle.rle.specs.declared.inner.Turn.{Turn}
-use Rattle.rle.specs.declared.inner.Turn.TheVariants.{Ends, Takes}
 use Rattle.rle.specs.Model.Engine.{Conf, left_of, right_of, Macro, Plan, Stop, Go, loops_of, fueled_of, proved_of, turn_on, turn_of, no_place, chain_for, times_of, plan_by, plan_of, macro_of, end, on_plan, run_within, run_of}
 
 -- ---- an entry is followed only with fuel
 
-abbrev pub IfTakes : ℕ → Turn → Type 0
-IfTakes fuel (Ends o) = Unit {0}
-IfTakes fuel (Takes s) = 1 ≤ fuel
+abbrev pub IfTakes : ℕ → ControlFlow Outcome Step → Type 0
+IfTakes fuel (Break o) = Unit {0}
+IfTakes fuel (Continue s) = 1 ≤ fuel
 
-fueled_fuel : (loops : Bool) (rule : StopRule) (a : Action) (fuel : ℕ) (v : ChainSim) → IfTakes fuel (fueled_of loops rule a fuel v)
+fueled_fuel : (loops : Bool) (rule : Option State) (a : Action) (fuel : ℕ) (v : ChainSim) → IfTakes fuel (fueled_of loops rule a fuel v)
 unfolding fueled_of
 fueled_fuel loops rule a fuel v =
     pick_cases (eqb fuel 0) _ _ (IfTakes fuel) (λ e. tt)
     (λ e. pick_cases (matches rule v.state) _ _ (IfTakes fuel) (λ m. tt) (λ m. omega (arith, eqb-false fuel 0 e)))
 
-takes_fuel : (e : Entry) (proves : Bool) (rule : StopRule) (fuel : ℕ) (v : ChainSim) → IfTakes fuel (turn_on e proves rule fuel v)
+takes_fuel : (e : Option Action) (proves : Bool) (rule : Option State) (fuel : ℕ) (v : ChainSim) → IfTakes fuel (turn_on e proves rule fuel v)
 unfolding turn_on proved_of
-takes_fuel Undefined proves rule fuel v = tt
-takes_fuel (Defined a) proves rule fuel v = pick_cases (both (loops_of v.state a v.tape.cur v.tape.left v.tape.right) proves) _ _ (IfTakes fuel) (λ e. tt)
+takes_fuel None proves rule fuel v = tt
+takes_fuel (Some a) proves rule fuel v = pick_cases (both (loops_of v.state a v.tape.cur v.tape.left v.tape.right) proves) _ _ (IfTakes fuel) (λ e. tt)
     (λ e. fueled_fuel (loops_of v.state a v.tape.cur v.tape.left v.tape.right) rule a fuel v)
 
 pub turn_fuel : (k : Task) (fuel : ℕ) (v : ChainSim) → IfTakes fuel (turn_of k fuel v)
@@ -54,26 +52,26 @@ abbrev IfGoes : ℕ → Conf → Plan → Type 0
 IfGoes fuel σ (Stop o) = Unit {0}
 IfGoes fuel σ (Go j) = Fine fuel σ j
 
-abbrev Some : ℕ → ℕ → Type 0
-Some fuel n = (1 ≤ n) × (n ≤ fuel)
+abbrev SomeSteps : ℕ → ℕ → Type 0
+SomeSteps fuel n = (1 ≤ n) × (n ≤ fuel)
 
-chain_some : (d : Dir) (cur fuel : ℕ) (l r : Side) → 1 ≤ fuel → Some fuel (chain_for d cur fuel l r)
+chain_some : (d : Dir) (cur fuel : ℕ) (l r : Side) → 1 ≤ fuel → SomeSteps fuel (chain_for d cur fuel l r)
 unfolding chain_for
 chain_some L cur fuel l r h = (omega arith, omega arith)
 chain_some R cur fuel l r h = (omega arith, omega arith)
 chain_some N cur fuel l r h = (omega arith, h)
 
-times_some : (s : Step) (fuel : ℕ) (σ : Conf) → 1 ≤ fuel → Some fuel (times_of s fuel σ)
+times_some : (s : Step) (fuel : ℕ) (σ : Conf) → 1 ≤ fuel → SomeSteps fuel (times_of s fuel σ)
 times_some s fuel σ h =
-    pick_cases s.loops _ _ (Some fuel) (λ e. (h, omega arith))
-    (λ e. pick_cases s.keeps _ _ (Some fuel) (λ g. chain_some s.dir σ.sim.tape.cur fuel (left_of σ) (right_of σ) h) (λ g. (omega arith, h)))
+    pick_cases s.loops _ _ (SomeSteps fuel) (λ e. (h, omega arith))
+    (λ e. pick_cases s.keeps _ _ (SomeSteps fuel) (λ g. chain_some s.dir σ.sim.tape.cur fuel (left_of σ) (right_of σ) h) (λ g. (omega arith, h)))
 
-by_fine : (t : Turn) (fuel : ℕ) (σ : Conf) → IfTakes fuel t → IfGoes fuel σ (plan_by t fuel σ)
-by_fine (Ends o) fuel σ h = tt
-by_fine (Takes s) fuel σ h =
+by_fine : (t : ControlFlow Outcome Step) (fuel : ℕ) (σ : Conf) → IfTakes fuel t → IfGoes fuel σ (plan_by t fuel σ)
+by_fine (Break o) fuel σ h = tt
+by_fine (Continue s) fuel σ h =
     pick_cases (no_place s.dir s.write σ) _ _ (IfGoes fuel σ) (λ e. tt)
     (λ e.
-    let n : Some fuel (times_of s fuel σ) = times_some s fuel σ h in
+    let n : SomeSteps fuel (times_of s fuel σ) = times_some s fuel σ h in
     record { some_steps = n.0; no_more = n.1; place = e })
 
 plan_fine : (k : Task) (fuel : ℕ) (σ : Conf) → IfGoes fuel σ (plan_of k fuel σ)

@@ -1,5 +1,7 @@
 -- The branches of a run's loop: a fact for each return, and the invariant that a turn keeps. Assumes nothing.
-use Rattle.std.specs.Prelude.{◌≡◌, refl, true, false, ℕ, ◌-◌, min}
+use Rattle.std.specs.declared.ops.ControlFlow.{ControlFlow}
+use Rattle.std.specs.declared.ops.ControlFlow.TheVariants.{Break, Continue}
+use Rattle.std.specs.Prelude.{◌≡◌, refl, true, false, List, ℕ, ◌-◌, min}
 use Rattle.std.proofs.Common.{sym, ◌∙◌, subst, arith}
 use Rattle.std.proofs.Math.Path.{ap}
 use Rattle.notation.proofs.Facts.Tests.{by_test, pick_true, pick_false}
@@ -8,13 +10,13 @@ use Rattle.symbol.specs.declared.Dir.TheVariants.{L, R, N}
 use Rattle.outcome.specs.declared.Outcome.{Outcome}
 use Rattle.outcome.specs.declared.Outcome.TheVariants.{Full}
 use Rattle.run_rules.specs.Model.Task.{Task}
-use Rattle.rle_stack.specs.Model.{places_of}
+use Rattle.rle_stack.specs.declared.inner.Stack.{Stack}
+use Rattle.rle_stack.specs.Model.{side, places_of}
+use Rattle.rle_stack.specs.Written.{held, SameSlices}
 use Rattle.rle_macro.specs.declared.inner.macro_step.Step.{Step}
 use Rattle.rle_macro.specs.Model.MacroStep.{head_for, Made, moved, make_of, MakeOk}
 use Rattle.rle_macro.proofs.Facts.MacroStep.{moved_by, moved-times, make_full, make_goes}
 use Rattle.rle.specs.declared.ChainSim.{ChainSim}
-use Rattle.rle.specs.declared.inner.Turn.{Turn}
-use Rattle.rle.specs.declared.inner.Turn.TheVariants.{Ends, Takes}
 use Rattle.rle.specs.Model.Engine.{Conf, conf, left_of, right_of, Go, turn_of, no_place, times_of, macro_by, plan_by, plan_of, macro_to, macro_of, end, run_of}
 use Rattle.rle.specs.Invariants.{CountsOk, RunOk, SameSizes, Going, landed_by}
 use Rattle.rle.proofs.Facts.Run.{IfTakes, turn_fuel, Fine, decided, run_ends, run_goes}
@@ -37,15 +39,15 @@ pub going_start : (k : Task) (stride lp rp : ℕ) (σ : Conf) (fuel : ℕ) → R
     → Going k stride lp rp σ fuel σ fuel
 going_start k stride lp rp σ fuel h l r = record { ok = h; lefts = l; rights = r; sizes = record { ls = refl; ll = refl; rs = refl; rl = refl }; same = refl }
 
-module _ (k : Task) (stride lp rp : ℕ) (σ₀ : Conf) (fuel : ℕ) (σ : Conf) (left : ℕ) (g : Going k stride lp rp σ₀ fuel σ left) (t : Turn) (tp : t ≡ turn_of k left σ.sim) where
+module _ (k : Task) (stride lp rp : ℕ) (σ₀ : Conf) (fuel : ℕ) (σ : Conf) (left : ℕ) (g : Going k stride lp rp σ₀ fuel σ left) (t : ControlFlow Outcome Step) (tp : t ≡ turn_of k left σ.sim) where
   plan_by_holds : plan_of k left σ ≡ plan_by t left σ
   unfolding plan_of
-  plan_by_holds = ap (λ (x : Turn). plan_by x left σ) (sym tp)
+  plan_by_holds = ap (λ (x : ControlFlow Outcome Step). plan_by x left σ) (sym tp)
 
-  pub going_ends : (o : Outcome) → t ≡ Ends o → end σ o ≡ run_of k fuel σ₀
-  going_ends o e = run_ends k left σ o (plan_by_holds ∙ ap (λ (x : Turn). plan_by x left σ) e) ∙ g.same
+  pub going_ends : (o : Outcome) → t ≡ Break o → end σ o ≡ run_of k fuel σ₀
+  going_ends o e = run_ends k left σ o (plan_by_holds ∙ ap (λ (x : ControlFlow Outcome Step). plan_by x left σ) e) ∙ g.same
 
-  module _ (s : Step) (e : t ≡ Takes s) where
+  module _ (s : Step) (e : t ≡ Continue s) where
     pub going_make : MakeOk lp rp left (left_of σ) (right_of σ)
     going_make = record {
       lefts = g.lefts;
@@ -57,8 +59,8 @@ module _ (k : Task) (stride lp rp : ℕ) (σ₀ : Conf) (fuel : ℕ) (σ : Conf)
       some_fuel = subst (IfTakes left) (sym tp ∙ e) (turn_fuel k left σ.sim);
     }
 
-    plan_space : plan_of k left σ ≡ plan_by (Takes s) left σ
-    plan_space = plan_by_holds ∙ ap (λ (x : Turn). plan_by x left σ) e
+    plan_space : plan_of k left σ ≡ plan_by (Continue s) left σ
+    plan_space = plan_by_holds ∙ ap (λ (x : ControlFlow Outcome Step). plan_by x left σ) e
 
     module _ (w : Made) (wp : w ≡ make_of s σ.sim.tape.cur lp rp left (left_of σ) (right_of σ)) where
       here : w ≡ make_of s σ.sim.tape.cur (places_of σ.ls σ.ll) (places_of σ.rs σ.rl) left (left_of σ) (right_of σ)
@@ -121,3 +123,35 @@ module _ (k : Task) (stride lp rp : ℕ) (σ₀ : Conf) (fuel : ℕ) (σ : Conf)
               sizes = record { ls = z.ls ∙ g.sizes.ls; ll = z.ll ∙ g.sizes.ll; rs = z.rs ∙ g.sizes.rs; rl = z.rl ∙ g.sizes.rl };
               same = run_goes k left σ (macro_by s w.repeats) (planned roomy) ∙ g.same;
             })
+
+-- ---- the sides that a run writes
+
+-- they have the live runs of the run's value, in the slices that it began with
+pub record Tied (v : ChainSim) (l₀ r₀ l r : Stack) : Type 0 where
+  pub lefts : v.tape.left ≡ l.count
+  pub rights : v.tape.right ≡ r.count
+  pub left_same : SameSlices l₀ l
+  pub right_same : SameSlices r₀ r
+
+abbrev pub written_on : ChainSim → (l r : Stack) → Conf
+written_on v l r = conf v l.symbols.now l.lengths.now r.symbols.now r.lengths.now
+
+pub written_fresh : (v : ChainSim) (l r : Stack) (ls ll rs rl : List ℕ) (a b : ℕ) → held l ≡ side ls ll a → held r ≡ side rs rl b → written_on v l r ≡ conf v ls ll rs rl
+written_fresh v l r ls ll rs rl a b e f i = conf v (e i).symbols (e i).lengths (f i).symbols (f i).lengths
+
+module _ (v : ChainSim) (l₀ r₀ l r : Stack) (t : Tied v l₀ r₀ l r) where
+  pub tied_make : (left : ℕ) → MakeOk l₀.places r₀.places left (left_of (written_on v l r)) (right_of (written_on v l r)) → MakeOk l.places r.places left (held l) (held r)
+  tied_make left ok = rw (t.left_same.2, t.right_same.2, ← t.lefts, ← t.rights) ok
+
+  pub tied_made : (s : Step) (left : ℕ) (w : Made) → w ≡ make_of s v.tape.cur l.places r.places left (held l) (held r)
+      → w ≡ make_of s v.tape.cur l₀.places r₀.places left (left_of (written_on v l r)) (right_of (written_on v l r))
+  tied_made s left w e =
+      e ∙ (λ i. make_of s v.tape.cur (t.left_same.2 i) (t.right_same.2 i) left (side l.symbols.now l.lengths.now (sym t.lefts i)) (side r.symbols.now r.lengths.now (sym t.rights i)))
+
+  pub tied_on : (v' : ChainSim) (l' r' : Stack) → v'.tape.left ≡ l'.count → v'.tape.right ≡ r'.count → SameSlices l l' → SameSlices r r' → Tied v' l₀ r₀ l' r'
+  tied_on v' l' r' a b p q = record {
+    lefts = a;
+    rights = b;
+    left_same = (p.0 ∙ t.left_same.0, p.1 ∙ t.left_same.1, p.2 ∙ t.left_same.2);
+    right_same = (q.0 ∙ t.right_same.0, q.1 ∙ t.right_same.1, q.2 ∙ t.right_same.2);
+  }

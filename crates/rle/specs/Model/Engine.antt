@@ -1,5 +1,7 @@
 -- The run-length engine over its lent places, as the code runs it: the configuration, what comes next, a macro step, the run. Definitions only.
-use Rattle.std.specs.Prelude.{Bool, List, ℕ, zero, suc, ◌+◌, ◌-◌, eqb}
+use Rattle.std.specs.declared.ops.ControlFlow.{ControlFlow}
+use Rattle.std.specs.declared.ops.ControlFlow.TheVariants.{Break, Continue}
+use Rattle.std.specs.Prelude.{Bool, List, ℕ, zero, suc, ◌+◌, ◌-◌, eqb, None, Option, Some}
 use Rattle.notation.specs.Choice.{pick, both}
 use Rattle.symbol.specs.declared.State.{State}
 use Rattle.symbol.specs.declared.Dir.{Dir}
@@ -7,17 +9,12 @@ use Rattle.symbol.specs.declared.Dir.TheVariants.{L, R, N}
 use Rattle.outcome.specs.declared.Outcome.{Outcome}
 use Rattle.outcome.specs.declared.Outcome.TheVariants.{Halted, OutOfFuel, NeverHalts, Full}
 use Rattle.machine.specs.declared.Action.{Action}
-use Rattle.machine.specs.declared.Entry.{Entry}
-use Rattle.machine.specs.declared.Entry.TheVariants.{Undefined, Defined}
-use Rattle.run_rules.specs.declared.StopRule.{StopRule}
 use Rattle.run_checks.specs.Model.Look.{entry_of}
 use Rattle.run_rules.specs.Model.Task.{Task, matches}
 use Rattle.rle_stack.specs.Model.{Side, side, places_of}
 use Rattle.rle_counts.specs.Model.Counts.{fuel_then, Tally, tallied}
 use Rattle.rle_macro.specs.declared.inner.macro_step.Step.{Step}
 use Rattle.rle.specs.declared.ChainSim.{ChainSim}
-use Rattle.rle.specs.declared.inner.Turn.{Turn}
-use Rattle.rle.specs.declared.inner.Turn.TheVariants.{Ends, Takes}
 use Rattle.rle_macro.specs.Model.MacroStep.{times_for}
 pub use Rattle.rle_macro.specs.Model.MacroStep.{Carried, carried}
 unfoldable pub use Rattle.rle_macro.specs.Model.MacroStep.{loops_for, proof_of, chain_for, full_for, carry_of}
@@ -62,22 +59,22 @@ abbrev pub step_of : (loops : Bool) → Action → State → Step
 step_of loops a q = record { write = a.write0.0; dir = a.dir0; next = a.next; keeps = eqb a.next.0 q.0; loops = loops }
 
 -- the run's end or the entry to follow, before the test for space: fuel, then the stop rule
-unfoldable pub fueled_of : (loops : Bool) → StopRule → Action → ℕ → ChainSim → Turn
+unfoldable pub fueled_of : (loops : Bool) → Option State → Action → ℕ → ChainSim → ControlFlow Outcome Step
 fueled_of loops rule a fuel v =
-    fuel_then Ends fuel v.steps (matches rule v.state) (Takes (step_of loops a v.state))
+    fuel_then Break fuel v.steps (matches rule v.state) (Continue (step_of loops a v.state))
 
 -- first a proved loop, where the never test is made; then `fueled_of`
-unfoldable pub proved_of : (proves loops : Bool) → StopRule → Action → ℕ → ChainSim → Turn
+unfoldable pub proved_of : (proves loops : Bool) → Option State → Action → ℕ → ChainSim → ControlFlow Outcome Step
 proved_of proves loops rule a fuel v =
-    pick (both loops proves) (Ends (NeverHalts v.steps (proof_of v.state a.dir0))) (fueled_of loops rule a fuel v)
+    pick (both loops proves) (Break (NeverHalts v.steps (proof_of v.state a.dir0))) (fueled_of loops rule a fuel v)
 
 -- first an undefined entry; then `proved_of`
-unfoldable pub turn_on : Entry → (proves : Bool) → StopRule → ℕ → ChainSim → Turn
-turn_on Undefined proves rule fuel v = Ends (Halted v.steps v.state)
-turn_on (Defined a) proves rule fuel v =
+unfoldable pub turn_on : Option Action → (proves : Bool) → Option State → ℕ → ChainSim → ControlFlow Outcome Step
+turn_on None proves rule fuel v = Break (Halted v.steps v.state)
+turn_on (Some a) proves rule fuel v =
     proved_of proves (loops_of v.state a v.tape.cur v.tape.left v.tape.right) rule a fuel v
 
-unfoldable pub turn_of : Task → ℕ → ChainSim → Turn
+unfoldable pub turn_of : Task → ℕ → ChainSim → ControlFlow Outcome Step
 turn_of k fuel v =
     turn_on (entry_of k.machine k.table v.state v.tape.cur 0 0) k.proves k.rule fuel v
 
@@ -92,9 +89,9 @@ abbrev pub macro_by : Step → ℕ → Macro
 macro_by s n = record { write = s.write; dir = s.dir; next = s.next; repeats = n }
 
 -- then the test for space, and the macro step
-abbrev pub plan_by : Turn → ℕ → Conf → Plan
-plan_by (Ends o) fuel σ = Stop o
-plan_by (Takes s) fuel σ = pick (no_place s.dir s.write σ) (Stop (Full σ.sim.steps)) (Go (macro_by s (times_of s fuel σ)))
+abbrev pub plan_by : ControlFlow Outcome Step → ℕ → Conf → Plan
+plan_by (Break o) fuel σ = Stop o
+plan_by (Continue s) fuel σ = pick (no_place s.dir s.write σ) (Stop (Full σ.sim.steps)) (Go (macro_by s (times_of s fuel σ)))
 
 unfoldable pub plan_of : Task → ℕ → Conf → Plan
 plan_of k fuel σ = plan_by (turn_of k fuel σ.sim) fuel σ

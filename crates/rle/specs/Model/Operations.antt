@@ -1,21 +1,17 @@
 -- The run-length engine's operations: what they answer, and what they leave in the lent places. Definitions only.
-use Rattle.std.specs.Prelude.{true, List, ℕ, get_or}
+use Rattle.symbol.specs.declared.State.{State}
+use Rattle.outcome.specs.declared.Refusal.{Refusal}
+use Rattle.outcome.specs.declared.Outcome.{Outcome}
+use Rattle.std.specs.Prelude.{true, List, ℕ, get_or, Err, Ok, Option, Result, ⊤}
 use Rattle.notation.specs.Limits.{raised_zero}
 use Rattle.symbol.specs.Kinds.{state_of}
 use Rattle.machine.specs.declared.Machine.{Machine}
-use Rattle.machine.specs.declared.Checked.{Checked}
-use Rattle.machine.specs.declared.Checked.TheVariants.{Accepted, Refused}
-use Rattle.run_rules.specs.declared.StopRule.{StopRule}
-use Rattle.run_rules.specs.declared.Answer.{Answer}
-use Rattle.run_rules.specs.declared.Answer.TheVariants as Ans
 use Rattle.run_rules.specs.Model.Task.{task}
 use Rattle.run_rules.specs.Model.Answers.{answered}
 use Rattle.rle_stack.specs.Model.{Side, side, places_of}
 pub use Rattle.rle_counts.specs.Model.Words.{word_of}
 unfoldable pub use Rattle.rle_counts.specs.Model.Words.{laid_of, runs_of, fresh_sizes, fresh_check}
 use Rattle.rle.specs.declared.ChainSim.{ChainSim}
-use Rattle.rle.specs.declared.Fresh.{Fresh}
-use Rattle.rle.specs.declared.Fresh.TheVariants as New
 use Rattle.rle.specs.Model.Engine.{Conf, End, run_of}
 use Rattle.rle.specs.Fits.{run_check}
 
@@ -23,15 +19,15 @@ use Rattle.rle.specs.Fits.{run_check}
 
 pub record Given : Type 0 where
   pub at : Conf
-  pub answer : Answer
+  pub answer : Result Outcome Refusal
 
-abbrev pub given : Conf → Answer → Given
+abbrev pub given : Conf → Result Outcome Refusal → Given
 given σ a = record { at = σ; answer = a }
 
-abbrev pub run_on : Checked → Conf → End → Given
-run_on r σ e = answered given Ans.Refused r σ e.at (Ans.Done e.outcome)
+abbrev pub run_on : Result ⊤ Refusal → Conf → End → Given
+run_on r σ e = answered given Err r σ e.at (Ok e.outcome)
 
-unfoldable pub run_answer : Machine → List ℕ → StopRule → ℕ → Conf → Given
+unfoldable pub run_answer : Machine → List ℕ → Option State → ℕ → Conf → Given
 run_answer m s rule fuel σ = run_on (run_check m s fuel σ) σ (run_of (task m s true rule) fuel σ)
 
 -- ---- a fresh engine
@@ -52,19 +48,19 @@ fresh_sim m w rights = start_sim m (get_or w 0 0) rights
 
 -- the answer, with the right side's places; of the left side's places only the number is read
 pub record Made : Type 0 where
-  pub answer : Fresh
+  pub answer : Result ChainSim Refusal
   pub rs : List ℕ
   pub rl : List ℕ
 
-abbrev pub made : Fresh → List ℕ → List ℕ → Made
+abbrev pub made : Result ChainSim Refusal → List ℕ → List ℕ → Made
 made f rs rl = record { answer = f; rs = rs; rl = rl }
 
 abbrev pub made_with : Machine → List ℕ → Side → Made
-made_with m w x = made (New.Made (fresh_sim m w x.count)) x.symbols x.lengths
+made_with m w x = made (Ok (fresh_sim m w x.count)) x.symbols x.lengths
 
-abbrev pub fresh_on : Checked → List ℕ → List ℕ → Made → Made
-fresh_on (Refused why) rs rl done = made (New.Refused why) rs rl
-fresh_on Accepted rs rl done = done
+abbrev pub fresh_on : Result ⊤ Refusal → List ℕ → List ℕ → Made → Made
+fresh_on (Err why) rs rl done = made (Err why) rs rl
+fresh_on (Ok tt) rs rl done = done
 
 unfoldable pub new_answer : Machine → (s w ls ll rs rl : List ℕ) → Made
 new_answer m s w ls ll rs rl =

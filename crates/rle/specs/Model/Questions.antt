@@ -1,5 +1,7 @@
 -- Questions on the tape of a run-length engine. Definitions only.
-use Rattle.std.specs.Prelude.{Bool, List, ℕ, ◌+◌, ◌-◌, eqb, ℤ}
+use Rattle.outcome.specs.declared.Refusal.{Refusal}
+use Rattle.symbol.specs.declared.Symbol.{Symbol}
+use Rattle.std.specs.Prelude.{Bool, List, ℕ, ◌+◌, ◌-◌, eqb, ℤ, Err, Ok, Option, Result, None, Some}
 use Rattle.notation.specs.Choice.{pick, both}
 use Rattle.notation.specs.Limits.{raised_zero}
 use Rattle.notation.specs.Position.{◌⊖◌}
@@ -7,20 +9,19 @@ use Rattle.symbol.specs.Kinds.{symbol_of}
 use Rattle.symbol.specs.Model.{raised_of}
 use Rattle.machine.specs.declared.Machine.{Machine}
 use Rattle.tape.specs.declared.Span.{Span}
-use Rattle.tape.specs.declared.Span.TheVariants.{Empty, Cells}
-use Rattle.run_rules.specs.declared.questions.Got.{Got}
-use Rattle.run_rules.specs.declared.questions.Got.TheVariants as Got
-use Rattle.run_rules.specs.declared.questions.Extent.{Extent}
-use Rattle.run_rules.specs.declared.questions.Extent.TheVariants as Extent
-use Rattle.run_rules.specs.declared.questions.Counted.{Counted}
-use Rattle.run_rules.specs.declared.questions.Counted.TheVariants as Counted
+use Rattle.tape.specs.Model.Questions.{span}
 use Rattle.run_rules.specs.Model.Answers.{asked_on}
 use Rattle.rle_stack.specs.Model.{cells_of, near_of}
+use Rattle.rle_macro.specs.declared.inner.questions.Tape.{Tape}
 unfoldable pub use Rattle.rle_macro.specs.Model.Questions.{cell_on, window_on, window_all, count_on}
 use Rattle.rle.specs.Model.Engine.{Conf, left_of, right_of}
 use Rattle.rle.specs.Fits.{engine_check}
 
 -- ---- the tape
+
+-- the tape of an engine, to read
+abbrev pub read_of : Conf → Tape
+read_of σ = record { head = σ.sim.tape.head; cur = σ.sim.tape.cur; left = left_of σ; right = right_of σ }
 
 -- the symbol at position raised − 2^63
 unfoldable pub raised_cell : Conf → (raised : ℕ) → ℕ
@@ -49,22 +50,22 @@ highest_of σ =
 unfoldable pub blank_tape : Conf → Bool
 blank_tape σ = both (eqb σ.sim.tape.cur 0) (both (eqb σ.sim.tape.left 0) (eqb σ.sim.tape.right 0))
 
-unfoldable pub span_of : Conf → Span
-span_of σ = pick (blank_tape σ) Empty (Cells (lowest_of σ ⊖ raised_zero) (highest_of σ ⊖ raised_zero))
+unfoldable pub span_of : Conf → Option Span
+span_of σ = pick (blank_tape σ) None (Some (span (lowest_of σ ⊖ raised_zero) (highest_of σ ⊖ raised_zero)))
 
 unfoldable pub count_of : Conf → ℕ
 count_of σ = count_on σ.sim.tape.cur (left_of σ) (right_of σ)
 
 -- ---- the operations: the table check, refusals 8, 11, 12, then the answer
 
-unfoldable pub get_answer : Machine → List ℕ → ℤ → Conf → Got
-get_answer m s z σ = asked_on (engine_check m s σ) Got.Refused (Got.Found (symbol_of (raised_cell σ (raised_of z))))
+unfoldable pub get_answer : Machine → List ℕ → ℤ → Conf → Result Symbol Refusal
+get_answer m s z σ = asked_on (engine_check m s σ) Err (Ok (symbol_of (raised_cell σ (raised_of z))))
 
-unfoldable pub extent_answer : Machine → List ℕ → Conf → Extent
-extent_answer m s σ = asked_on (engine_check m s σ) Extent.Refused (Extent.Found (span_of σ))
+unfoldable pub extent_answer : Machine → List ℕ → Conf → Result (Option Span) Refusal
+extent_answer m s σ = asked_on (engine_check m s σ) Err (Ok (span_of σ))
 
-unfoldable pub count_answer : Machine → List ℕ → Conf → Counted
-count_answer m s σ = asked_on (engine_check m s σ) Counted.Refused (Counted.Found (count_of σ))
+unfoldable pub count_answer : Machine → List ℕ → Conf → Result ℕ Refusal
+count_answer m s σ = asked_on (engine_check m s σ) Err (Ok (count_of σ))
 
 -- the window's lent slice afterwards; a refusal leaves it unchanged
 unfoldable pub window_into : Machine → List ℕ → ℤ → Conf → List ℕ → List ℕ

@@ -1,11 +1,14 @@
-// The tests of a fitting engine that read its value alone, not its places.
-ghost use Rattle.std.specs.Prelude.{◌≡◌, ◌+◌, ◌≤◌};
-ghost use Rattle.notation.specs.Limits.{steps_most, slack};
-ghost use Rattle.rle.specs.Fits.{head_fits, reach_fits, counts_fit};
+// The tests of a fitting engine: those that read its value alone, and the measure of a side.
+ghost use Rattle.std.specs.Prelude.{◌≡◌, ◌+◌, ◌≤◌, ◌<◌, length};
+ghost use Rattle.notation.specs.Choice.{pick};
+ghost use Rattle.notation.specs.Limits.{steps_most, slack, raised_zero};
+ghost use Rattle.rle_stack.specs.Model.{side, cells_of};
+ghost use Rattle.rle.specs.Fits.{side_fits, head_fits, reach_fits, counts_fit};
 
 use super::super::ChainSim;
 use machine::Machine;
 use notation::limits;
+use rle_stack::inner::{Lengths, Runs};
 use run_checks::inner::sizes;
 
 pub fn counts_fit(sim: ChainSim, m: Machine) -> bool
@@ -55,4 +58,26 @@ pub fn reach_fits(sim: ChainSim, lefts: u64, rights: u64) -> bool
         return false;
     }
     tape.head <= limits::RAISED_ZERO + (most - rights)
+}
+
+// The number of a side's cells, at most `most`, where the side fits; else `most + 1`.
+pub fn measure<L: Lengths>(
+    symbols: &[u8],
+    lengths: L,
+    count: usize,
+    places: usize,
+    k: u64,
+    most: u64,
+) -> u64
+    requires { (places ≤ length symbols.now) × (places ≤ length (L.list lengths)) × (most < raised_zero) }
+    ensures { result ≡ pick (side_fits k places most (side symbols.now (L.list lengths) count)) (cells_of (side symbols.now (L.list lengths) count)) (most + 1) }
+{
+    if places < count {
+        return most + 1;
+    }
+    let side = Runs::new(symbols, lengths, count);
+    if !side.runs_fit(k) {
+        return most + 1;
+    }
+    side.cells(most)
 }

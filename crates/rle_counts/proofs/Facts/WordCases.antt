@@ -1,5 +1,5 @@
 -- The word on a fresh engine's right side: the loops that count and push its runs, and the check. Assumes nothing.
-use Rattle.std.specs.Prelude.{◌≡◌, refl, Bool, true, List, [], ◌∷◌, ℕ, zero, suc, ◌+◌, ◌-◌, ◌≤◌, ◌<◌, eqb, leb, length, get_or}
+use Rattle.std.specs.Prelude.{◌≡◌, refl, Bool, true, List, ℕ, zero, suc, ◌+◌, ◌-◌, ◌≤◌, ◌<◌, eqb, leb, length, get_or, Err, Ok, Result, ⊤}
 use Rattle.std.proofs.Common.{sym, ◌∙◌, ap, subst, arith}
 use Rattle.std.proofs.Math.Bool.{false}
 use borrow.Author.Tests.{le-leb, lt-leb, eq-eqb, ne_eqb, eqb-true}
@@ -9,8 +9,6 @@ use Rattle.notation.specs.Limits.{word_most, runs_most}
 use Rattle.outcome.specs.declared.Refusal.{Refusal}
 use Rattle.outcome.specs.declared.Refusal.TheVariants as Why
 use Rattle.machine.specs.declared.Machine.{Machine}
-use Rattle.machine.specs.declared.Checked.{Checked}
-use Rattle.machine.specs.declared.Checked.TheVariants.{Accepted, Refused}
 use Rattle.machine.specs.Model.Check.{table_check}
 use Rattle.machine.specs.Model.Word.{word_check}
 use Rattle.rle_stack.specs.Model.{Side, side, places_of, symbol_under, top_of, push_of, lacks, sum_of}
@@ -108,7 +106,7 @@ laying_start w ss ls h = record {
 
 module _ (w : List ℕ) (p : ℕ) (x₀ x : Side) (i : ℕ) (g : Laying w p x₀ x i) (h : 1 < i) where
   -- the push has a place
-  laying_place : lacks p (get_or w (i - 1) 0) x ≡ false
+  pub laying_place : lacks p (get_or w (i - 1) 0) x ≡ false
   unfolding lacks
   laying_place =
       pick_cases (eqb (get_or w (i - 1) 0) (top_of x)) false (leb p x.count) (λ (b : Bool). b ≡ false) (λ e. refl)
@@ -137,17 +135,6 @@ module _ (w : List ℕ) (p : ℕ) (x₀ x : Side) (i : ℕ) (g : Laying w p x₀
               ≡ runs_of w (i - 1 - 1) (get_or w (i - 1) 0) (more_of x.count (top_of x) (get_or w (i - 1) 0))
           again j = runs_of w (i - 1 - 1) (push-top p (length w - i) (get_or w (i - 1) 0) 1 x g.ok laying_place j) (push_count (get_or w (i - 1) 0) 1 x j)
 
--- what the push requires
-pub laying_asks : (w ss ls : List ℕ) (p n i : ℕ) (x₀ : Side) → Laying w p x₀ (side ss ls n) i → 1 < i → length w ≤ word_most
-    → ((n ≤ length ss) × (n ≤ length ls)) × ((lacks (places_of ss ls) (get_or w (i - 1) 0) (side ss ls n) ≡ false) × (sum_of ls n + 1 < 18446744073709551616))
-laying_asks w ss ls p n i x₀ g h b = (
-  (omega (arith, g.ok.live, g.ok.symbols_in), omega (arith, g.ok.live, g.ok.lengths_in)),
-  (
-    sym (ap (λ (p : ℕ). lacks p (get_or w (i - 1) 0) (side ss ls n)) g.places) ∙ laying_place w p x₀ (side ss ls n) i g h,
-    omega (arith, g.ok.cells_in),
-  ),
-)
-
 pub laying_end : (w : List ℕ) (p : ℕ) (x₀ x : Side) (i : ℕ) → Laying w p x₀ x i → i ≤ 1 → x ≡ word_of w x₀
 laying_end w p x₀ x i g h =
     let z : i - 1 ≡ 0 = omega arith in
@@ -168,30 +155,26 @@ module _ (w : List ℕ) (l r : ℕ) where
   unfolding fresh_sizes both
   sizes_runs h k n e = rw (le-leb l runs_most h, le-leb r runs_most k, e)
 
-module _ (m : Machine) (s w : List ℕ) (l r : ℕ) (c : Checked) (checked : c ≡ table_check m s) where
-  pub fresh_table : (why : Refusal) → c ≡ Refused why → Refused why ≡ fresh_check m s w l r
+module _ (m : Machine) (s w : List ℕ) (l r : ℕ) (c : Result ⊤ Refusal) (checked : c ≡ table_check m s) where
+  pub fresh_table : (why : Refusal) → c ≡ Err why → Err why ≡ fresh_check m s w l r
   unfolding fresh_check
   fresh_table why e = rw (← checked, e)
 
-  module _ (passed : c ≡ Accepted) where
-    pub fresh_tapes : (m.tapes ≡ 1 → ⊥) → Refused Why.SeveralTapes ≡ fresh_check m s w l r
+  module _ (passed : c ≡ Ok tt) where
+    pub fresh_tapes : (m.tapes ≡ 1 → ⊥) → Err Why.SeveralTapes ≡ fresh_check m s w l r
     unfolding fresh_check pick
     fresh_tapes h = rw (← checked, passed, ne_eqb m.tapes 1 h)
 
-    module _ (one : m.tapes ≡ 1) (d : Checked) (spelled : d ≡ word_check m.symbols w) where
-      pub fresh_word : (why : Refusal) → d ≡ Refused why → Refused why ≡ fresh_check m s w l r
+    module _ (one : m.tapes ≡ 1) (d : Result ⊤ Refusal) (spelled : d ≡ word_check m.symbols w) where
+      pub fresh_word : (why : Refusal) → d ≡ Err why → Err why ≡ fresh_check m s w l r
       unfolding fresh_check pick
       fresh_word why e = rw (← checked, passed, eq-eqb m.tapes 1 one, ← spelled, e)
 
-      module _ (good : d ≡ Accepted) (b : Bool) (sized : b ≡ fresh_sizes w l r) where
-        pub fresh_small : b ≡ false → Refused Why.BufferSize ≡ fresh_check m s w l r
+      module _ (good : d ≡ Ok tt) (b : Bool) (sized : b ≡ fresh_sizes w l r) where
+        pub fresh_small : b ≡ false → Err Why.BufferSize ≡ fresh_check m s w l r
         unfolding fresh_check pick
         fresh_small e = rw (← checked, passed, eq-eqb m.tapes 1 one, ← spelled, good, ← sized, e)
 
-        pub fresh_passed : b ≡ true → Accepted ≡ fresh_check m s w l r
+        pub fresh_passed : b ≡ true → (Ok tt) ≡ fresh_check m s w l r
         unfolding fresh_check pick
         fresh_passed e = rw (← checked, passed, eq-eqb m.tapes 1 one, ← spelled, good, ← sized, e)
-
-pub first-none : (w : List ℕ) → length w ≡ 0 → 0 ≡ get_or w 0 0
-first-none [] h = refl
-first-none (x ∷ xs) h = absurd (omega (arith, h))

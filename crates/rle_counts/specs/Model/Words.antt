@@ -1,11 +1,10 @@
 -- A word as a stack of runs: how it is pushed, how many runs it makes, and the check before it. Definitions only.
-use Rattle.std.specs.Prelude.{Bool, List, ℕ, zero, suc, ◌+◌, ◌-◌, eqb, leb, length, get_or}
+use Rattle.outcome.specs.declared.Refusal.{Refusal}
+use Rattle.std.specs.Prelude.{Bool, List, ℕ, zero, suc, ◌+◌, ◌-◌, eqb, leb, length, get_or, Ok, Result, ⊤}
 use Rattle.notation.specs.Choice.{pick, both}
 use Rattle.notation.specs.Limits.{runs_most}
 use Rattle.outcome.specs.declared.Refusal.TheVariants as Why
 use Rattle.machine.specs.declared.Machine.{Machine}
-use Rattle.machine.specs.declared.Checked.{Checked}
-use Rattle.machine.specs.declared.Checked.TheVariants.{Accepted}
 use Rattle.machine.specs.Model.Check.{demand, checked_on, table_check}
 use Rattle.machine.specs.Model.Word.{word_check}
 use Rattle.rle_stack.specs.Model.{Side, push_of}
@@ -35,8 +34,8 @@ unfoldable pub fresh_sizes : List ℕ → (lefts rights : ℕ) → Bool
 fresh_sizes w l r = both (leb l runs_most) (both (leb r runs_most) (leb (runs_of w (length w - 1) 0 0) r))
 
 -- the table check, then refusal 8, the word's refusals 9 and 10, then refusal 11
-unfoldable pub fresh_check : Machine → (s w : List ℕ) → (lefts rights : ℕ) → Checked
+unfoldable pub fresh_check : Machine → (s w : List ℕ) → (lefts rights : ℕ) → Result ⊤ Refusal
 fresh_check m s w l r =
     checked_on (table_check m s)
     (demand (eqb m.tapes 1) Why.SeveralTapes
-    (checked_on (word_check m.symbols w) (demand (fresh_sizes w l r) Why.BufferSize Accepted)))
+    (checked_on (word_check m.symbols w) (demand (fresh_sizes w l r) Why.BufferSize (Ok tt))))

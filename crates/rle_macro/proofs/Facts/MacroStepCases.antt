@@ -14,7 +14,7 @@ use Rattle.symbol.specs.declared.Dir.TheVariants.{L, R, N}
 use Rattle.outcome.specs.declared.NonHaltProof.TheVariants.{StayLoop, ChainToInfinity}
 use Rattle.rle_stack.specs.Model.{Side, top_of, ahead_of, push_of, lacks, take_of}
 use Rattle.rle_macro.specs.declared.inner.macro_step.Step.{Step}
-use Rattle.rle_macro.specs.Model.MacroStep.{walks_on, loops_for, proof_of, reach_of, carry_of, Went, gone, gone_by, go_of, moved, left_gone, right_gone, make_to, make_of, head_for}
+use Rattle.rle_macro.specs.Model.MacroStep.{walks_on, loops_for, proof_of, reach_of, Carried, carried, carry_of, Went, gone, gone_by, go_of, moved, left_gone, right_gone, make_to, make_of, head_for}
 
 -- ---- a proved loop
 
@@ -78,19 +78,18 @@ module _ (loops keeps : Bool) (cur fuel : ℕ) (x : Side) where
       by false false e = (omega arith, omega arith)
 
 pub carry_made : (w n cur : ℕ) (b b' a m a' : Side) → b' ≡ push_of w n b → m ≡ take_of (n - 1) a → cur ≡ top_of m → a' ≡ take_of 1 m
-    → gone b' cur a' n ≡ gone_by w n b a
+    → carried b' cur a' ≡ carry_of w n b a
 unfolding carry_of
-carry_made w n cur b b' a m a' p q r s i =
-    gone (p i) ((r ∙ ap top_of q) i) ((s ∙ ap (take_of 1) q) i) n
+carry_made w n cur b b' a m a' p q r s i = carried (p i) ((r ∙ ap top_of q) i) ((s ∙ ap (take_of 1) q) i)
 
 module _ (p : ℕ) (s : Step) (cur fuel : ℕ) (b a : Side) (f : Bool) (fp : f ≡ lacks p s.write b) where
   pub go_full : f ≡ true → gone b cur a 0 ≡ go_of p s cur fuel b a
   unfolding go_of
   go_full e = sym (pick_true (lacks p s.write b) _ _ (sym fp ∙ e))
 
-  pub go_goes : f ≡ false → (n : ℕ) → n ≡ reach_of s.loops s.keeps cur fuel a → (x : Went) → x ≡ gone_by s.write n b a → x ≡ go_of p s cur fuel b a
+  pub go_goes : f ≡ false → (n : ℕ) → n ≡ reach_of s.loops s.keeps cur fuel a → (x : Carried) → x ≡ carry_of s.write n b a → gone x.behind x.cur x.ahead n ≡ go_of p s cur fuel b a
   unfolding go_of
-  go_goes e n q x k = k ∙ ap (λ (m : ℕ). gone_by s.write m b a) q ∙ sym (pick_false (lacks p s.write b) _ _ (sym fp ∙ e))
+  go_goes e n q x k = ap (λ (x : Carried). gone x.behind x.cur x.ahead n) k ∙ ap (λ (m : ℕ). gone_by s.write m b a) q ∙ sym (pick_false (lacks p s.write b) _ _ (sym fp ∙ e))
 
 -- ---- by left and right
 

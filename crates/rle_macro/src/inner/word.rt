@@ -4,10 +4,10 @@ ghost use Rattle.notation.specs.Limits.{word_most};
 ghost use Rattle.rle_stack.specs.Model.{side, places_of};
 ghost use Rattle.rle_counts.specs.Model.Words.{word_of, runs_of, fresh_sizes, fresh_check, more_of};
 
-use machine::{Checked, Machine};
+use machine::Machine;
 use notation::limits;
 use outcome::Refusal;
-use rle_stack::inner as stack;
+use rle_stack::inner::Stack;
 
 // The number of runs after a push of `s`: one more where `s` differs from the symbol on top.
 fn more(count: usize, top: u8, s: u8) -> usize
@@ -25,11 +25,9 @@ fn runs_in(word: &[u8]) -> usize
     requires { length word.now ≤ word_most }
     ensures { result ≡ runs_of word.now (length word.now - 1) 0 0 }
 {
-    let mut i = word.len();
     let mut top = 0;
     let mut count = 0;
-    while 1 < i {
-        i -= 1;
+    for i in (1..word.len()).rev() {
         count = more(count, top, word[i]);
         top = word[i];
     }
@@ -42,13 +40,11 @@ pub fn lay(symbols: &mut [u8], lengths: &mut [u64], word: &[u8]) -> usize
     requires word_bound { runs_of word.now (length word.now - 1) 0 0 ≤ places_of symbols.old lengths.old }
     ensures { side symbols.new lengths.new result ≡ word_of word.now (side symbols.old lengths.old 0) }
 {
-    let mut i = word.len();
-    let mut count = 0;
-    while 1 < i {
-        i -= 1;
-        count = stack::push(symbols, lengths, count, word[i], 1);
+    let mut side = Stack::new(symbols, lengths, 0);
+    for i in (1..word.len()).rev() {
+        side.push(word[i], 1);
     }
-    count
+    side.count
 }
 
 // Whether there are places for the word's runs, and neither side has more places than the limit.
@@ -66,40 +62,29 @@ fn fresh_sizes(word: &[u8], lefts: usize, rights: usize) -> bool
 }
 
 // The table check, then refusal 8, the word's refusals 9 and 10, then refusal 11.
-pub fn fresh_check(m: Machine, table: &[u8], word: &[u8], lefts: usize, rights: usize) -> Checked
+pub fn fresh_check(
+    m: Machine,
+    table: &[u8],
+    word: &[u8],
+    lefts: usize,
+    rights: usize,
+) -> Result<(), Refusal>
     ensures { result ≡ fresh_check m table.now word.now lefts rights }
 {
-    let checked = m.check(table);
-    match checked {
-        Checked::Refused(why) => {
-            return Checked::Refused(why);
-        }
-        Checked::Accepted => {
-            if m.tapes != 1 {
-                return Checked::Refused(Refusal::SeveralTapes);
-            }
-            let spelled = machine::word::check_word(m.symbols, word);
-            match spelled {
-                Checked::Refused(why) => {
-                    return Checked::Refused(why);
-                }
-                Checked::Accepted => {
-                    if !fresh_sizes(word, lefts, rights) {
-                        return Checked::Refused(Refusal::BufferSize);
-                    }
-                    return Checked::Accepted;
-                }
-            }
-        }
+    m.check(table)?;
+    if m.tapes != 1 {
+        return Err(Refusal::SeveralTapes);
     }
+    machine::word::check_word(m.symbols, word)?;
+    if !fresh_sizes(word, lefts, rights) {
+        return Err(Refusal::BufferSize);
+    }
+    Ok(())
 }
 
 // The word's first symbol; for an empty word the blank.
 pub fn first(word: &[u8]) -> u8
     ensures { result ≡ get_or word.now 0 0 }
 {
-    if word.len() == 0 {
-        return 0;
-    }
-    word[0]
+    word.first().copied().unwrap_or(0)
 }

@@ -1,5 +1,5 @@
 -- What a slice of records holds after `fill`, place by place, and the lemmas that the proofs of the code need. Assumes nothing.
-use Rattle.std.specs.Prelude.{◌≡◌, List, eqb, get_or}
+use Rattle.std.specs.Prelude.{◌≡◌, List, eqb, get_or, Err, Ok}
 use Rattle.std.proofs.Math.Path.{refl, ap}
 use Rattle.std.proofs.Common.{sym, ◌∙◌, add-one, get_or-set_same}
 use Prim.Native.Nat.{ℕ, zero, suc, ◌+◌, ◌<◌, ◌≤◌}
@@ -12,7 +12,6 @@ use Rattle.notation.proofs.Facts.Tests.{by_test}
 use Rattle.outcome.specs.declared.Refusal.TheVariants as Why
 use Rattle.rle_stack.specs.Model.{Side, side}
 use Rattle.rle_records.specs.declared.Run.{Run}
-use Rattle.rle_records.specs.declared.Listed.TheVariants.{Filled, Refused}
 use Rattle.rle_records.specs.Model.{run_at, lay, records_of, room_for}
 
 module _ (ss ls : List ℕ) where
@@ -70,10 +69,10 @@ records_none ss ls out = refl
 
 -- ---- the answer
 
-pub room_short : (count room : ℕ) → room < count → Refused Why.OutputSize ≡ room_for count room
+pub room_short : (count room : ℕ) → room < count → Err Why.OutputSize ≡ room_for count room
 unfolding room_for pick
 room_short count room h = rw (lt-leb count room h)
 
-pub room_enough : (count room : ℕ) → count ≤ room → Filled count ≡ room_for count room
+pub room_enough : (count room : ℕ) → count ≤ room → Ok count ≡ room_for count room
 unfolding room_for pick
 room_enough count room h = rw (le-leb count room h)

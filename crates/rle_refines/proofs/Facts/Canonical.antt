@@ -1,5 +1,5 @@
 -- The stack rule makes the stacks canonical: the configuration held determines them, and with them whether a step is full. Assumes nothing.
-use Rattle.std.specs.Prelude.{◌≡◌, ◌↔◌, List, ℕ, zero, suc, ◌+◌, ◌≤◌, ◌^◌, eqb, leb, ℤ, pos, negsuc}
+use Rattle.std.specs.Prelude.{◌≡◌, ◌↔◌, List, ℕ, zero, suc, ◌+◌, ◌≤◌, ◌^◌, eqb, leb, ℤ, pos, negsuc, Option, Some}
 use Rattle.std.proofs.Math.Path.{refl, sym, fun_ext}
 use Rattle.std.proofs.Common.{ap, ◌∙◌, subst, arith}
 use Rattle.std.proofs.Math.Bool.{true, false}
@@ -12,8 +12,6 @@ use Rattle.symbol.specs.declared.Dir.{Dir}
 use Rattle.symbol.specs.declared.Dir.TheVariants.{L, R, N}
 use Rattle.machine.specs.declared.Machine.{Machine}
 use Rattle.machine.specs.declared.Action.{Action}
-use Rattle.machine.specs.declared.Entry.{Entry}
-use Rattle.machine.specs.declared.Entry.TheVariants.{Defined}
 use Rattle.table_machine.specs.TableMachine.{Table, Tape, Config, read_t, entry}
 use Rattle.rle_stack.specs.Model.{Side, places_of, top_of, lacks}
 use Rattle.rle.specs.Model.Engine.{Conf, left_of, right_of, full_for}
@@ -141,11 +139,11 @@ module _ (σ : Conf) (w lp rp : ℕ) where
   full_holds R p = lacks_holds lp w (left_of σ) p
   full_holds N p = absurd p
 
-pub same_action : (x : Entry) (a b : Action) → x ≡ Defined a → x ≡ Defined b → a ≡ b
+pub same_action : (x : Option Action) (a b : Action) → x ≡ Some a → x ≡ Some b → a ≡ b
 same_action x a b h k = cc
 
 -- the engine's test depends on the configuration and the places alone
-module _ (m : Machine) (d : Table) (σ : Conf) (f : ChainFits m σ) (a : Action) (e : entry d (config_of σ) ≡ Defined a) where
+module _ (m : Machine) (d : Table) (σ : Conf) (f : ChainFits m σ) (a : Action) (e : entry d (config_of σ) ≡ Some a) where
   pub full_exact : (is_full σ a ≡ true) ↔ FullIn m d σ (config_of σ)
   full_exact = (to, back)
     where

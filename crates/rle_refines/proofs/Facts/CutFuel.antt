@@ -1,11 +1,10 @@
 -- The configuration, the places and the fuel determine a run; a split of the fuel changes macro steps and what lies past the live runs only. Assumes nothing.
-use Rattle.std.specs.Prelude.{◌≡◌, refl, true, false, ℕ, ◌+◌, ◌≤◌, ◌<◌, ◌^◌}
+use Rattle.std.specs.Prelude.{◌≡◌, refl, true, false, ℕ, ◌+◌, ◌≤◌, ◌<◌, ◌^◌, Some}
 use Rattle.std.proofs.Common.{sym, ap, ◌∙◌, subst, arith}
 use Rattle.std.proofs.Math.Decide.{dec_lt}
 use Rattle.notation.proofs.Facts.Tests.{clash}
 use Rattle.outcome.specs.declared.Outcome.{Outcome}
 use Rattle.outcome.specs.declared.Outcome.TheVariants.{OutOfFuel, Stopped, Full}
-use Rattle.machine.specs.declared.Entry.TheVariants.{Defined}
 use Rattle.table_machine.specs.TableMachine.{Config, entry, Halted, halted_at, out_of_fuel_at}
 use Rattle.table_machine.specs.Tables.{TableOf}
 use Rattle.table_machine.proofs.Facts.Run.{not_defined}
@@ -59,9 +58,9 @@ module _ (k : Task) (fuel made : ℕ) (e τ : Conf) (fits : ChainFits k.machine 
   answers_same (halted t h) = subst (Answers k fuel made τ) (ap halted_at (sym same)) (halted t (subst (Halted (table_in k)) same h))
   answers_same (spent t h q) = subst (Answers k fuel made τ) (ap out_of_fuel_at (sym same)) (spent t (λ g. h (subst (Halted (table_in k)) (sym same) g)) q)
   answers_same (stopped a l h u q) = subst (Answers k fuel made τ) (ap (λ (c : Config). Stopped c.steps) (sym same))
-      (stopped a l (subst (λ c. entry (table_in k) c ≡ Defined a) same h) (subst (Unproved k) same u) (subst (λ c. has_rule k c ≡ true) same q))
+      (stopped a l (subst (λ c. entry (table_in k) c ≡ Some a) same h) (subst (Unproved k) same u) (subst (λ c. has_rule k c ≡ true) same q))
   answers_same (full a l h u q g) =
-      let there : entry (table_in k) (config_of τ) ≡ Defined a = subst (λ c. entry (table_in k) c ≡ Defined a) same h in
+      let there : entry (table_in k) (config_of τ) ≡ Some a = subst (λ c. entry (table_in k) c ≡ Some a) same h in
       let lack : is_full τ a ≡ true = (full_exact k.machine (table_in k) τ other a there).1
       (subst (FullIn k.machine (table_in k) τ) same (places ((full_exact k.machine (table_in k) e fits a h).0 g))) in
       subst (Answers k fuel made τ) (ap (λ (c : Config). Full c.steps) (sym same))

@@ -1,5 +1,5 @@
 -- Inside a macro step: all the configurations on its way have the same entry, and none is a proved loop if the first is not. Assumes nothing.
-use Rattle.std.specs.Prelude.{◌≡◌, false, eqb}
+use Rattle.std.specs.Prelude.{◌≡◌, false, eqb, Some}
 use Rattle.std.proofs.Math.Path.{refl, subst, fun_ext}
 use Rattle.std.proofs.Common.{sym, ap, ◌∙◌, arith, eq-eqb}
 use Prim.Native.Nat.{ℕ, zero, suc, ◌+◌, ◌-◌, ◌≤◌, ◌<◌, ◌^◌}
@@ -8,7 +8,6 @@ use Rattle.symbol.specs.Kinds.{state_of}
 use Rattle.symbol.specs.declared.Dir.{Dir}
 use Rattle.symbol.specs.declared.Dir.TheVariants.{L, R, N}
 use Rattle.machine.specs.declared.Action.{Action}
-use Rattle.machine.specs.declared.Entry.TheVariants.{Defined}
 use Rattle.table_laws.specs.WellFormed.{ActionOf}
 use Rattle.outcome.specs.declared.Outcome.{Outcome}
 use Rattle.table_machine.specs.TableMachine.{Config, read_t, entry, run, Stays, Sideways, Walks, out_of_fuel_at, halts, stays, walks, goes}
@@ -97,21 +96,21 @@ merges w τ R e = pick_true (eqb w (top_of (left_of τ))) _ _ (eq-eqb _ _ (sym (
 merges w τ N e = refl
 
 -- an unproved entry has neither of the never patterns
-unproved_by : (k : Task) (c : Config) (a : Action) (o : Outcome) → entry (table_in k) c ≡ Defined a → Judged k c o → o ≡ out_of_fuel_at c → ¬ (Stays c a) × ((x : Dir) → ¬ (Walks k.machine.tapes c a x))
+unproved_by : (k : Task) (c : Config) (a : Action) (o : Outcome) → entry (table_in k) c ≡ Some a → Judged k c o → o ≡ out_of_fuel_at c → ¬ (Stays c a) × ((x : Dir) → ¬ (Walks k.machine.tapes c a x))
 unproved_by k c a o e (halts h) q = cc
 unproved_by k c a o e (stays b h s) q = cc
 unproved_by k c a o e (walks b m h w) q = cc
 unproved_by k c a o e (goes b h s w) q = let p = same_action _ b a h e in (rw p at s, rw p at w)
 
-unproved_says : (k : Task) (c : Config) (a : Action) → entry (table_in k) c ≡ Defined a → Judged k c (out_of_fuel_at c) → ¬ (Stays c a) × ((x : Dir) → ¬ (Walks k.machine.tapes c a x))
+unproved_says : (k : Task) (c : Config) (a : Action) → entry (table_in k) c ≡ Some a → Judged k c (out_of_fuel_at c) → ¬ (Stays c a) × ((x : Dir) → ¬ (Walks k.machine.tapes c a x))
 unproved_says k c a e u = unproved_by k c a (out_of_fuel_at c) e u refl
 
 -- ---- on the way
 
 module _ (k : Task) (table : TableOf k.machine (table_in k)) (single : k.machine.tapes ≡ 1) (σ : Conf) (f : ChainFits k.machine σ)
-    (a : Action) (e : entry (table_in k) (config_of σ) ≡ Defined a) (room : is_full σ a ≡ false)
+    (a : Action) (e : entry (table_in k) (config_of σ) ≡ Some a) (room : is_full σ a ≡ false)
     (fuel n : ℕ) (r : Repeats σ a fuel n) (small : σ.sim.steps + n ≤ 2 ^ 62) where
-  reads : table_in k σ.sim.state.0 σ.sim.tape.cur 0 0 ≡ Defined a
+  reads : table_in k σ.sim.state.0 σ.sim.tape.cur 0 0 ≡ Some a
   reads = sym (entry_at_lem (table_in k) σ) ∙ e
 
   of_machine : ActionOf k.machine a
@@ -157,7 +156,7 @@ module _ (k : Task) (table : TableOf k.machine (table_in k)) (single : k.machine
         (λ s. after_macro_read (macro a (suc j)) σ a.dir0 s ∙ (parts j before s).read ∙ ap (λ i. stream (take i (stack_of (ahead_on a.dir0 σ))) 0) one_less ∙ first_left s)
         (λ n. ap (λ x. (macro_to x (macro a (suc j)) σ).sim.tape.cur) n ∙ after_macro_still (macro a (suc j)) σ ∙ subst (λ x. Over x a.write0.0 (suc j) σ) n (r.way (suc j) l) (omega arith))
 
-    cut_entry : entry (table_in k) (config_of (cut j)) ≡ Defined a
+    cut_entry : entry (table_in k) (config_of (cut j)) ≡ Some a
     cut_entry = entry_at_lem (table_in k) (cut j) ∙ (λ i. table_in k (cut_state i).0 (cut_read i) 0 0) ∙ reads
 
     -- inside a macro step the push merges
@@ -202,8 +201,8 @@ module _ (k : Task) (table : TableOf k.machine (table_in k)) (single : k.machine
   all_along P h g zero l = h
   all_along P h g (suc j) l = subst P (cut_holds j (omega arith)) (g j l)
 
-  pub way_entry : (j : ℕ) → j < n → entry (table_in k) (after k j σ) ≡ Defined a
-  way_entry = all_along (λ c. entry (table_in k) c ≡ Defined a) e cut_entry
+  pub way_entry : (j : ℕ) → j < n → entry (table_in k) (after k j σ) ≡ Some a
+  way_entry = all_along (λ c. entry (table_in k) c ≡ Some a) e cut_entry
 
   pub way_unproved : Unproved k (config_of σ) → (j : ℕ) → j < n → Unproved k (after k j σ)
   way_unproved u = all_along (Unproved k) u (λ j l. cut_unproved j l u)

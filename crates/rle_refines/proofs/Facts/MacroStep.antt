@@ -1,5 +1,5 @@
 -- A macro step of n repeats is n steps of the table machine, and the engine still fits after it. Assumes nothing.
-use Rattle.std.specs.Prelude.{◌≡◌, false}
+use Rattle.std.specs.Prelude.{◌≡◌, false, Some}
 use Rattle.std.proofs.Math.Path.{refl}
 use Rattle.std.proofs.Common.{sym, ap, ◌∙◌, subst, arith}
 use Prim.Native.Nat.{ℕ, suc, ◌+◌, ◌-◌, ◌≤◌, ◌<◌, ◌^◌, min, max}
@@ -7,7 +7,6 @@ use Rattle.symbol.specs.declared.Dir.{Dir}
 use Rattle.symbol.specs.declared.Dir.TheVariants.{L, R, N}
 use Rattle.machine.specs.declared.Machine.{Machine}
 use Rattle.machine.specs.declared.Action.{Action}
-use Rattle.machine.specs.declared.Entry.TheVariants.{Defined}
 use Rattle.table_laws.specs.WellFormed.{ActionOf}
 use Rattle.table_machine.specs.TableMachine.{Table, Config, read_t, entry, run, Sideways}
 use Rattle.table_machine.specs.Tables.{TableOf}
@@ -97,7 +96,7 @@ module _ (m : Machine) (σ : Conf) (f : ChainFits m σ) where
 -- ---- the configuration
 
 module _ (m : Machine) (d : Table) (table : TableOf m d) (single : m.tapes ≡ 1) (σ : Conf) (f : ChainFits m σ)
-    (a : Action) (reads : d σ.sim.state.0 σ.sim.tape.cur 0 0 ≡ Defined a) (room : is_full σ a ≡ false) where
+    (a : Action) (reads : d σ.sim.state.0 σ.sim.tape.cur 0 0 ≡ Some a) (room : is_full σ a ≡ false) where
   of_machine : ActionOf m a
   of_machine = table _ _ _ _ a reads
 

@@ -1,5 +1,7 @@
 -- The proof of the claims of Operations about `new` and `run`. Assumes nothing.
-use Rattle.std.specs.Prelude.{◌≡◌, refl, true, List, ℕ, ◌+◌, ◌-◌, ◌≤◌, ◌<◌, ◌^◌, length}
+use Rattle.symbol.specs.declared.State.{State}
+use Rattle.outcome.specs.declared.Refusal.{Refusal}
+use Rattle.std.specs.Prelude.{◌≡◌, refl, true, List, ℕ, ◌+◌, ◌-◌, ◌≤◌, ◌<◌, ◌^◌, length, Err, Ok, Option, Result, ⊤}
 use Rattle.std.proofs.Common.{ap, ◌∙◌, subst, arith}
 use borrow.Author.Tests.{le-leb, eq-eqb}
 use Rattle.std.proofs.Math.ListN.{get_or}
@@ -10,22 +12,17 @@ use Rattle.outcome.specs.declared.NonHaltProof.{NonHaltProof}
 use Rattle.outcome.specs.declared.Outcome.{Outcome}
 use Rattle.outcome.specs.declared.Outcome.TheVariants.{NeverHalts}
 use Rattle.machine.specs.declared.Machine.{Machine}
-use Rattle.machine.specs.declared.Checked.{Checked}
-use Rattle.machine.specs.declared.Checked.TheVariants.{Accepted, Refused}
 use Rattle.machine.specs.Model.Check.{table_check}
 use Rattle.machine.proofs.Facts.Check.{ranges}
 use Rattle.machine.proofs.Facts.Word.{word_says}
 use Rattle.table_laws.specs.WellFormed.{Bytes}
 use Rattle.table_machine.specs.TableMachine.{run, Halted}
 use Rattle.table_machine.specs.Tables.{table_of}
-use Rattle.run_rules.specs.declared.StopRule.{StopRule}
-use Rattle.run_rules.specs.declared.Answer.TheVariants as Ans
 use Rattle.run_rules.specs.Model.Task.{task}
 use Rattle.rle_stack.specs.Model.{Side, side, places_of}
 use Rattle.rle_stack.specs.Invariants.{SameLengths}
 use Rattle.rle_stack.proofs.Facts.Sides.{same-places}
 use Rattle.rle.specs.declared.ChainSim.{ChainSim}
-use Rattle.rle.specs.declared.Fresh.TheVariants as New
 use Rattle.rle.specs.Model.Engine.{Conf, conf, End, end, run_of}
 use Rattle.rle.specs.Fits.{places_fit, value_check, engine_check, run_check}
 use Rattle.rle.specs.Model.Operations.{Given, given, run_on, run_answer, laid_of, fresh_check, fresh_sim, Made, made, made_with, fresh_on, new_answer}
@@ -41,7 +38,7 @@ use Rattle.rle_refines.specs.Operations.{RunHolds, NewHolds}
 -- ---- what follows from a passed check
 
 pub record Passed (m : Machine) (s : List ℕ) (σ : Conf) : Type 0 where
-  pub table : table_check m s ≡ Accepted
+  pub table : table_check m s ≡ Ok tt
   pub single : m.tapes ≡ 1
   pub places : places_fit σ ≡ true
   pub fits : ChainFits m σ
@@ -50,14 +47,14 @@ module _ (m : Machine) (s : List ℕ) (σ : Conf) where
   held : Code.Passed m s σ → Passed m s σ
   held p = record { table = p.table; single = p.tapes; places = p.places; fits = fits_holds m σ p.fits }
 
-  pub engine_says : engine_check m s σ ≡ Accepted → Passed m s σ
+  pub engine_says : engine_check m s σ ≡ Ok tt → Passed m s σ
   engine_says e = held (Code.engine_says m s σ e)
 
-  pub engine_passes : Passed m s σ → engine_check m s σ ≡ Accepted
+  pub engine_passes : Passed m s σ → engine_check m s σ ≡ Ok tt
   unfolding engine_check value_check pick
   engine_passes p = rw (p.table, eq-eqb m.tapes 1 p.single, p.places, holds_fits m σ p.fits)
 
-  pub run_says : (fuel : ℕ) → run_check m s fuel σ ≡ Accepted → Passed m s σ × (σ.sim.steps + fuel ≤ 2 ^ 62)
+  pub run_says : (fuel : ℕ) → run_check m s fuel σ ≡ Ok tt → Passed m s σ × (σ.sim.steps + fuel ≤ 2 ^ 62)
   run_says fuel e =
       let p = Code.run_says m s fuel σ e in
       (held p.0, p.1)
@@ -69,18 +66,18 @@ places_kept σ τ l r e = rw (l, r) e
 
 -- ---- the run
 
-accepted-run : (c : Checked) (σ : Conf) (e : End) (τ : Conf) (o : Outcome) → run_on c σ e ≡ given τ (Ans.Done o) → (c ≡ Accepted) × (given e.at (Ans.Done e.outcome) ≡ given τ (Ans.Done o))
-accepted-run (Refused why) σ e τ o h =
+accepted-run : (c : Result ⊤ Refusal) (σ : Conf) (e : End) (τ : Conf) (o : Outcome) → run_on c σ e ≡ given τ (Ok o) → (c ≡ Ok tt) × (given e.at (Ok e.outcome) ≡ given τ (Ok o))
+accepted-run (Err why) σ e τ o h =
     let k = ap (λ (g : Given). g.answer) h in
     let z : ◌≡◌ {A = ℕ} 0 1 = cc in absurd (omega arith)
-accepted-run Accepted σ e τ o h = (refl, h)
+accepted-run (Ok tt) σ e τ o h = (refl, h)
 
-module _ (m : Machine) (s : List ℕ) (bytes : Bytes s) (rule : StopRule) (fuel : ℕ) (σ τ : Conf) (o : Outcome)
-    (done : run_answer m s rule fuel σ ≡ given τ (Ans.Done o)) where
+module _ (m : Machine) (s : List ℕ) (bytes : Bytes s) (rule : Option State) (fuel : ℕ) (σ τ : Conf) (o : Outcome)
+    (done : run_answer m s rule fuel σ ≡ given τ (Ok o)) where
   abbrev ending : End
   ending = run_of (task m s true rule) fuel σ
 
-  answered : (run_check m s fuel σ ≡ Accepted) × (given ending.at (Ans.Done ending.outcome) ≡ given τ (Ans.Done o))
+  answered : (run_check m s fuel σ ≡ Ok tt) × (given ending.at (Ok ending.outcome) ≡ given τ (Ok o))
   unfolding run_answer
   answered = accepted-run _ _ _ _ _ done
 
@@ -115,20 +112,20 @@ module _ (m : Machine) (s : List ℕ) (bytes : Bytes s) (rule : StopRule) (fuel 
 
 -- ---- a fresh engine
 
-accepted-fresh : (c : Checked) (rs rl : List ℕ) (d : Made) (v : ChainSim) (rs' rl' : List ℕ) → fresh_on c rs rl d ≡ made (New.Made v) rs' rl' → (c ≡ Accepted) × (d ≡ made (New.Made v) rs' rl')
-accepted-fresh (Refused why) rs rl d v rs' rl' e =
+accepted-fresh : (c : Result ⊤ Refusal) (rs rl : List ℕ) (d : Made) (v : ChainSim) (rs' rl' : List ℕ) → fresh_on c rs rl d ≡ made (Ok v) rs' rl' → (c ≡ Ok tt) × (d ≡ made (Ok v) rs' rl')
+accepted-fresh (Err why) rs rl d v rs' rl' e =
     let k = ap (λ (g : Made). g.answer) e in
     let z : ◌≡◌ {A = ℕ} 0 1 = cc in absurd (omega arith)
-accepted-fresh Accepted rs rl d v rs' rl' e = (refl, e)
+accepted-fresh (Ok tt) rs rl d v rs' rl' e = (refl, e)
 
-module _ (m : Machine) (s w ls ll rs rl : List ℕ) (v : ChainSim) (rs' rl' : List ℕ) (done : new_answer m s w ls ll rs rl ≡ made (New.Made v) rs' rl') where
+module _ (m : Machine) (s w ls ll rs rl : List ℕ) (v : ChainSim) (rs' rl' : List ℕ) (done : new_answer m s w ls ll rs rl ≡ made (Ok v) rs' rl') where
   abbrev right : Side
   right = laid_of w (length w - 1) (side rs rl 0)
 
   abbrev engine : Conf
   engine = conf (fresh_sim m w right.count) ls ll right.symbols right.lengths
 
-  new_answered : (fresh_check m s w (places_of ls ll) (places_of rs rl) ≡ Accepted) × (made_with m w right ≡ made (New.Made v) rs' rl')
+  new_answered : (fresh_check m s w (places_of ls ll) (places_of rs rl) ≡ Ok tt) × (made_with m w right ≡ made (Ok v) rs' rl')
   unfolding new_answer
   new_answered = accepted-fresh _ _ _ _ _ _ _ done
 

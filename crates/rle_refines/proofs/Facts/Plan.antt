@@ -1,5 +1,8 @@
 -- The engine's plan is the right one for the table machine's configuration. Assumes nothing.
-use Rattle.std.specs.Prelude.{◌≡◌, refl, Bool, true, false, ℕ, ◌≤◌, ◌<◌, eqb}
+use Rattle.rle_macro.specs.declared.inner.macro_step.Step.{Step}
+use Rattle.outcome.specs.declared.Outcome.{Outcome}
+use Rattle.std.specs.declared.ops.ControlFlow.{ControlFlow}
+use Rattle.std.specs.Prelude.{◌≡◌, refl, Bool, true, false, ℕ, ◌≤◌, ◌<◌, eqb, None, Option, Some}
 use Rattle.std.proofs.Common.{sym, ◌∙◌, arith}
 use Rattle.std.proofs.Math.Path.{subst}
 use borrow.Author.Tests.{eqb-true, eqb-false}
@@ -10,15 +13,12 @@ use Rattle.symbol.specs.declared.Dir.TheVariants.{L, R, N}
 use Rattle.outcome.specs.declared.NonHaltProof.{NonHaltProof}
 use Rattle.outcome.specs.declared.Outcome.TheVariants.{OutOfFuel, NeverHalts, Stopped, Full}
 use Rattle.machine.specs.declared.Action.{Action}
-use Rattle.machine.specs.declared.Entry.{Entry}
-use Rattle.machine.specs.declared.Entry.TheVariants.{Undefined, Defined}
 use Rattle.table_laws.specs.WellFormed.{ActionOf}
 use Rattle.table_machine.specs.TableMachine.{entry, Halted, halted_at, Walks, stays, walks, goes}
 use Rattle.table_machine.specs.Tables.{table_of, TableOf}
 use Rattle.run_checks.specs.Model.Look.{entry_of}
 use Rattle.run_rules.specs.Model.Task.{Task, matches}
 use Rattle.rle_macro.specs.Model.MacroStep.{times_for}
-use Rattle.rle.specs.declared.inner.Turn.{Turn}
 use Rattle.rle.specs.Model.Engine.{Conf, left_of, right_of, proof_of, chain_for, fueled_of, proved_of, turn_on, turn_of, plan_by, plan_of, Plan, Stop, Go}
 use Rattle.rle_refines.specs.Meaning.{Stack, empty, stack_of, config_of, ChainFits}
 use Rattle.rle_refines.specs.Statement.{table_in, Judged, Unproved, has_rule, is_full}
@@ -98,11 +98,11 @@ module _ (k : Task) (single : k.machine.tapes ≡ 1) (σ : Conf) (f : ChainFits 
 pub data Plans (k : Task) (fuel : ℕ) (σ : Conf) : Plan → Type 0 where
   no_entry : Halted (table_in k) (config_of σ) → Plans k fuel σ (Stop (halted_at (config_of σ)))
   loops : (p : NonHaltProof) → k.proves ≡ true → Judged k (config_of σ) (NeverHalts σ.sim.steps p) → Plans k fuel σ (Stop (NeverHalts σ.sim.steps p))
-  spent : (a : Action) → entry (table_in k) (config_of σ) ≡ Defined a → Unproved k (config_of σ) → 0 ≡ fuel → Plans k fuel σ (Stop (OutOfFuel σ.sim.steps))
-  stops : (a : Action) → entry (table_in k) (config_of σ) ≡ Defined a → Unproved k (config_of σ) → 0 < fuel → has_rule k (config_of σ) ≡ true → Plans k fuel σ (Stop (Stopped σ.sim.steps))
-  lacks_place : (a : Action) → entry (table_in k) (config_of σ) ≡ Defined a → Unproved k (config_of σ) → 0 < fuel → has_rule k (config_of σ) ≡ false → is_full σ a ≡ true
+  spent : (a : Action) → entry (table_in k) (config_of σ) ≡ Some a → Unproved k (config_of σ) → 0 ≡ fuel → Plans k fuel σ (Stop (OutOfFuel σ.sim.steps))
+  stops : (a : Action) → entry (table_in k) (config_of σ) ≡ Some a → Unproved k (config_of σ) → 0 < fuel → has_rule k (config_of σ) ≡ true → Plans k fuel σ (Stop (Stopped σ.sim.steps))
+  lacks_place : (a : Action) → entry (table_in k) (config_of σ) ≡ Some a → Unproved k (config_of σ) → 0 < fuel → has_rule k (config_of σ) ≡ false → is_full σ a ≡ true
       → Plans k fuel σ (Stop (Full σ.sim.steps))
-  macro_steps : (a : Action) (n : ℕ) → entry (table_in k) (config_of σ) ≡ Defined a → Unproved k (config_of σ) → has_rule k (config_of σ) ≡ false → is_full σ a ≡ false → Repeats σ a fuel n
+  macro_steps : (a : Action) (n : ℕ) → entry (table_in k) (config_of σ) ≡ Some a → Unproved k (config_of σ) → has_rule k (config_of σ) ≡ false → is_full σ a ≡ false → Repeats σ a fuel n
       → Plans k fuel σ (Go (macro a n))
 
 module _ (k : Task) (table : TableOf k.machine (table_in k)) (single : k.machine.tapes ≡ 1) (fuel : ℕ) (σ : Conf) (f : ChainFits k.machine σ) where
@@ -110,11 +110,11 @@ module _ (k : Task) (table : TableOf k.machine (table_in k)) (single : k.machine
   unfolding table_of entry_of
   entry_read = entry_at_lem (table_in k) σ
 
-  module _ (a : Action) (e : entry (table_in k) (config_of σ) ≡ Defined a) where
+  module _ (a : Action) (e : entry (table_in k) (config_of σ) ≡ Some a) where
     of_machine : ActionOf k.machine a
     of_machine = table _ _ _ _ a e
 
-    abbrev PlansBy : Turn → Type 0
+    abbrev PlansBy : ControlFlow Outcome Step → Type 0
     PlansBy t = Plans k fuel σ (plan_by t fuel σ)
 
     fuel_plans : {b : Bool} → Sees k σ a b → Unproved k (config_of σ) → PlansBy (fueled_of b k.rule a fuel σ.sim)
@@ -148,6 +148,6 @@ module _ (k : Task) (table : TableOf k.machine (table_in k)) (single : k.machine
   unfolding plan_of turn_of turn_on
   plan_right = by (entry_of k.machine k.table σ.sim.state σ.sim.tape.cur 0 0) entry_read
     where
-      by : (x : Entry) → entry (table_in k) (config_of σ) ≡ x → Plans k fuel σ (plan_by (turn_on x k.proves k.rule fuel σ.sim) fuel σ)
-      by Undefined e = no_entry e
-      by (Defined a) e = proved_plans a e (loop_sees k single σ f a (of_machine a e))
+      by : (x : Option Action) → entry (table_in k) (config_of σ) ≡ x → Plans k fuel σ (plan_by (turn_on x k.proves k.rule fuel σ.sim) fuel σ)
+      by None e = no_entry e
+      by (Some a) e = proved_plans a e (loop_sees k single σ f a (of_machine a e))

@@ -1,5 +1,6 @@
 -- The answers to the questions on the run-length engine's tape are what the table machine's tape holds, at every position. Assumes nothing.
-use Rattle.std.specs.Prelude.{◌≡◌, refl, ◌↔◌, List, ℕ, suc, ◌+◌, ◌≤◌, ◌<◌, ◌^◌, ltb, ℤ, negsuc, ◌+ℤ◌, length, get_or}
+use Rattle.outcome.specs.declared.Refusal.{Refusal}
+use Rattle.std.specs.Prelude.{◌≡◌, refl, ◌↔◌, List, ℕ, suc, ◌+◌, ◌≤◌, ◌<◌, ◌^◌, ltb, ℤ, negsuc, ◌+ℤ◌, length, get_or, Err, Ok, Result, ⊤, None, Option}
 use Rattle.std.proofs.Math.Path.{sym, ap}
 use Rattle.std.proofs.Common.{◌∙◌, arith}
 use borrow.Author.Tests.{ltb-false}
@@ -11,14 +12,8 @@ use Rattle.notation.proofs.Facts.Tests.{pick_cases}
 use Rattle.symbol.specs.Model.{raised_of}
 use Rattle.symbol.specs.declared.Symbol.{Symbol}
 use Rattle.machine.specs.declared.Machine.{Machine}
-use Rattle.machine.specs.declared.Checked.{Checked}
-use Rattle.machine.specs.declared.Checked.TheVariants.{Accepted, Refused}
 use Rattle.tape.specs.declared.Span.{Span}
-use Rattle.tape.specs.declared.Span.TheVariants.{Empty}
 use Rattle.tape.specs.Answers.{Spans, no_cells, range}
-use Rattle.run_rules.specs.declared.questions.Got.TheVariants as Got
-use Rattle.run_rules.specs.declared.questions.Extent.TheVariants as Extent
-use Rattle.run_rules.specs.declared.questions.Counted.TheVariants as Counted
 use Rattle.run_rules.specs.Model.Answers.{asked_on}
 use Rattle.rle.specs.Model.Engine.{Conf, right_of}
 use Rattle.rle.specs.Fits.{engine_check}
@@ -68,52 +63,52 @@ module _ (m : Machine) (σ : Conf) (f : ChainFits m σ) (z : ℤ) (out : List �
 module _ (m : Machine) (σ : Conf) (f : ChainFits m σ) where
   pub non_blank_is : Spans (tape_of σ).cell (span_of σ)
   unfolding span_of
-  non_blank_is = pick_cases (blank_tape σ) Empty _ (Spans (tape_of σ).cell) (λ t. no_cells (all_blank m σ f t))
+  non_blank_is = pick_cases (blank_tape σ) None _ (Spans (tape_of σ).cell) (λ t. no_cells (all_blank m σ f t))
       (λ t. let a = lowest_is m σ f t in let b = highest_is m σ f t in range _ _ a.written b.written a.beyond b.beyond)
 
-  pub non_blank_exact : (span_of σ ≡ Empty) ↔ ((y : ℤ) → (tape_of σ).cell y ≡ 0)
+  pub non_blank_exact : (span_of σ ≡ None) ↔ ((y : ℤ) → (tape_of σ).cell y ≡ 0)
   non_blank_exact = (λ e. says (rw e at non_blank_is), λ r. holds r non_blank_is)
     where
-      says : Spans (tape_of σ).cell Empty → (y : ℤ) → (tape_of σ).cell y ≡ 0
+      says : Spans (tape_of σ).cell None → (y : ℤ) → (tape_of σ).cell y ≡ 0
       says (no_cells r) = r
 
-      holds : ((y : ℤ) → (tape_of σ).cell y ≡ 0) → {x : Span} → Spans (tape_of σ).cell x → x ≡ Empty
+      holds : ((y : ℤ) → (tape_of σ).cell y ≡ 0) → {x : Option Span} → Spans (tape_of σ).cell x → x ≡ None
       holds r (no_cells q) = refl
       holds r (range a b v w p q) = absurd (v (r a))
 
 -- ---- the operations' answers
 
-found_got : (c : Checked) (y x : Symbol) → asked_on c Got.Refused (Got.Found y) ≡ Got.Found x → (c ≡ Accepted) × (y ≡ x)
-found_got (Refused why) y x e = let z : ◌≡◌ {A = ℕ} 0 1 = cc in absurd (omega arith)
-found_got Accepted y x e = (refl, cc)
+found_got : (c : Result ⊤ Refusal) (y x : Symbol) → asked_on c Err (Ok y) ≡ Ok x → (c ≡ Ok tt) × (y ≡ x)
+found_got (Err why) y x e = let z : ◌≡◌ {A = ℕ} 0 1 = cc in absurd (omega arith)
+found_got (Ok tt) y x e = (refl, cc)
 
-found_extent : (c : Checked) (y x : Span) → asked_on c Extent.Refused (Extent.Found y) ≡ Extent.Found x → (c ≡ Accepted) × (y ≡ x)
-found_extent (Refused why) y x e = let z : ◌≡◌ {A = ℕ} 0 1 = cc in absurd (omega arith)
-found_extent Accepted y x e = (refl, cc)
+found_extent : (c : Result ⊤ Refusal) (y x : Option Span) → asked_on c Err (Ok y) ≡ Ok x → (c ≡ Ok tt) × (y ≡ x)
+found_extent (Err why) y x e = let z : ◌≡◌ {A = ℕ} 0 1 = cc in absurd (omega arith)
+found_extent (Ok tt) y x e = (refl, cc)
 
-found_counted : (c : Checked) (y x : ℕ) → asked_on c Counted.Refused (Counted.Found y) ≡ Counted.Found x → (c ≡ Accepted) × (y ≡ x)
-found_counted (Refused why) y x e = let z : ◌≡◌ {A = ℕ} 0 1 = cc in absurd (omega arith)
-found_counted Accepted y x e = (refl, cc)
+found_counted : (c : Result ⊤ Refusal) (y x : ℕ) → asked_on c Err (Ok y) ≡ Ok x → (c ≡ Ok tt) × (y ≡ x)
+found_counted (Err why) y x e = let z : ◌≡◌ {A = ℕ} 0 1 = cc in absurd (omega arith)
+found_counted (Ok tt) y x e = (refl, cc)
 
 module _ (m : Machine) (s : List ℕ) (σ : Conf) where
-  pub get_is : (z : ℤ) → dn z ≤ 2 ^ 63 → (x : Symbol) → get_answer m s z σ ≡ Got.Found x → x.0 ≡ (tape_of σ).cell z
+  pub get_is : (z : ℤ) → dn z ≤ 2 ^ 63 → (x : Symbol) → get_answer m s z σ ≡ Ok x → x.0 ≡ (tape_of σ).cell z
   unfolding get_answer
   get_is z low x e = sym (ap (λ (y : Symbol). y.0) (found_got (engine_check m s σ) _ _ e).1) ∙ raised_is σ z low
 
-  pub extent_is : (x : Span) → extent_answer m s σ ≡ Extent.Found x → Spans (tape_of σ).cell x
+  pub extent_is : (x : Option Span) → extent_answer m s σ ≡ Ok x → Spans (tape_of σ).cell x
   unfolding extent_answer
   extent_is x e =
       let p = found_extent (engine_check m s σ) _ _ e in
       rw (← p.1) (non_blank_is m σ (engine_says m s σ p.0).fits)
 
-  pub counted_is : (n : ℕ) → count_answer m s σ ≡ Counted.Found n → CountedOn σ n
+  pub counted_is : (n : ℕ) → count_answer m s σ ≡ Ok n → CountedOn σ n
   unfolding count_answer
   counted_is n e =
       let p = found_counted (engine_check m s σ) _ _ e in
       rw (← p.1) (count_within m σ (engine_says m s σ p.0).fits)
 
   -- the whole slice is filled
-  pub window_into_holds : engine_check m s σ ≡ Accepted → (z : ℤ) → dn z ≤ 2 ^ 63 → (out : List ℕ)
+  pub window_into_holds : engine_check m s σ ≡ Ok tt → (z : ℤ) → dn z ≤ 2 ^ 63 → (out : List ℕ)
       → (length (window_into m s z σ out) ≡ length out) × ((j : ℕ) → j < length out → get_or (window_into m s z σ out) j 0 ≡ (tape_of σ).cell (z +ℤ pos j))
   unfolding window_into
   window_into_holds c z low out =

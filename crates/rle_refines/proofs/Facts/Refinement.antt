@@ -1,5 +1,5 @@
 -- THE RUN-LENGTH ENGINE REFINES THE TABLE MACHINE: the proof of Statement's claim. Assumes nothing.
-use Rattle.std.specs.Prelude.{◌≡◌, refl, false}
+use Rattle.std.specs.Prelude.{◌≡◌, refl, false, Some}
 use Rattle.std.proofs.Common.{sym, ap, ◌∙◌, subst, arith}
 use Prim.Native.Nat.{ℕ, zero, suc, ◌+◌, ◌-◌, ◌≤◌, ◌<◌, ◌^◌}
 use Rattle.std.proofs.Math.Decide.{dec_lt}
@@ -7,7 +7,6 @@ use Rattle.notation.proofs.Facts.Tests.{by_test}
 use Rattle.outcome.specs.declared.Outcome.{Outcome}
 use Rattle.machine.specs.declared.Machine.{Machine}
 use Rattle.machine.specs.declared.Action.{Action}
-use Rattle.machine.specs.declared.Entry.TheVariants.{Defined}
 use Rattle.table_machine.specs.TableMachine.{Config, entry, run, halts, Halted}
 use Rattle.table_machine.specs.Tables.{TableOf}
 use Rattle.table_machine.proofs.Facts.Run.{not_defined, run_add}
@@ -108,7 +107,7 @@ refines_later k n fuel σ τ x w r = record {
 -- ---- a macro step, and a run from there
 
 module _ (k : Task) (table : TableOf k.machine (table_in k)) (single : k.machine.tapes ≡ 1) (σ : Conf) (f : ChainFits k.machine σ)
-    (a : Action) (e : entry (table_in k) (config_of σ) ≡ Defined a) (u : Unproved k (config_of σ)) (unruled : has_rule k (config_of σ) ≡ false) (room : is_full σ a ≡ false)
+    (a : Action) (e : entry (table_in k) (config_of σ) ≡ Some a) (u : Unproved k (config_of σ)) (unruled : has_rule k (config_of σ) ≡ false) (room : is_full σ a ≡ false)
     (fuel j : ℕ) (r : Repeats σ a fuel (suc j)) (small : σ.sim.steps + fuel ≤ 2 ^ 62) where
   abbrev next : Conf
   next = macro_of (macro a (suc j)) σ

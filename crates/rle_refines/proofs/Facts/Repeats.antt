@@ -1,5 +1,5 @@
 -- Steps of the table machine on a tape seen from its head: one entry, made once or many times in a row. Assumes nothing.
-use Rattle.std.specs.Prelude.{◌≡◌}
+use Rattle.std.specs.Prelude.{◌≡◌, Some}
 use Rattle.std.proofs.Math.Path.{ap}
 use Rattle.std.proofs.Common.{◌∙◌}
 use Prim.Native.Nat.{ℕ, zero, suc, ◌+◌, ◌≤◌, min, max}
@@ -8,7 +8,6 @@ use Rattle.symbol.specs.declared.Dir.{Dir}
 use Rattle.symbol.specs.declared.Dir.TheVariants.{L, R, N}
 use Rattle.machine.specs.declared.Machine.{Machine}
 use Rattle.machine.specs.declared.Action.{Action}
-use Rattle.machine.specs.declared.Entry.TheVariants.{Defined}
 use Rattle.table_laws.specs.WellFormed.{ActionOf}
 use Rattle.table_machine.specs.TableMachine.{Table, Tape, Config, read_t, update, blank_tape, entry, step, run, Sideways}
 use Rattle.table_machine.specs.Tables.{TableOf}
@@ -52,7 +51,7 @@ deep N k h s l = absurd s
 -- ---- one entry
 
 module _ (m : Machine) (d : Table) (table : TableOf m d) (single : m.tapes ≡ 1) (a : Action) where
-  step_one : (q s : ℕ) (t : Tape) → entry d (at q s t) ≡ Defined a → step d (at q s t) ≡ at a.next.0 (suc s) (update t a.write0.0 a.dir0)
+  step_one : (q s : ℕ) (t : Tape) → entry d (at q s t) ≡ Some a → step d (at q s t) ≡ at a.next.0 (suc s) (update t a.write0.0 a.dir0)
   step_one q s t e =
       let o : ActionOf m a = table _ _ _ _ a e in
       let l1 = o.lacks1 (omega arith) in
@@ -66,7 +65,7 @@ module _ (m : Machine) (d : Table) (table : TableOf m d) (single : m.tapes ≡ 1
         tape2 = (ap (update blank_tape a.write2.0) l2.1 ∙ ap (λ w. update blank_tape w N) l2.0 ∙ blank_stays) i;
       })
 
-  module _ (q c : ℕ) (reads : d q c 0 0 ≡ Defined a) where
+  module _ (q c : ℕ) (reads : d q c 0 0 ≡ Some a) where
     -- k + 1 steps of an entry that moves, over k + 1 cells of c; for more than one step it must keep the state
     pub walk : Sideways a.dir0 → (k s : ℕ) (b f : Stream) (h lo hi : ℕ) → (1 ≤ k → a.next.0 ≡ q) → suc k ≤ h → lo ≤ h → h ≤ hi
         → run d (suc k) (at q s (facing a.dir0 b c (prepend k c f) h lo hi))

@@ -1,5 +1,7 @@
 -- "a `from` state, one not below n never matching": with such a rule the run answers as without a rule. Assumes nothing.
-use Rattle.std.specs.Prelude.{◌≡◌, Bool, List}
+use Rattle.outcome.specs.declared.Refusal.{Refusal}
+use Rattle.machine.specs.declared.Action.{Action}
+use Rattle.std.specs.Prelude.{◌≡◌, Bool, List, Err, None, Ok, Option, Result, Some, ⊤}
 use Rattle.std.proofs.Math.Path.{refl, ap}
 use Rattle.std.proofs.Common.{◌∙◌, arith}
 use Rattle.std.proofs.Math.Bool.{true}
@@ -7,15 +9,10 @@ use Prim.Native.Nat.{ℕ, zero, suc, ◌+◌, ◌-◌, ◌≤◌, ◌^◌}
 use borrow.Author.Tests.{ne_eqb}
 use Rattle.symbol.specs.declared.State.{State}
 use Rattle.machine.specs.declared.Machine.{Machine}
-use Rattle.machine.specs.declared.Entry.{Entry}
-use Rattle.machine.specs.declared.Entry.TheVariants.{Undefined, Defined}
-use Rattle.machine.specs.declared.Checked.{Checked}
-use Rattle.machine.specs.declared.Checked.TheVariants.{Accepted, Refused}
 use Rattle.table_laws.specs.WellFormed.{Bytes}
 use Rattle.table_machine.specs.Tables.{table_of, TableOf}
 use Rattle.table_machine.proofs.Facts.Table.{accepted_table}
 use Rattle.run_checks.specs.Model.Look.{entry_of}
-use Rattle.run_rules.specs.declared.StopRule.TheVariants as Rule
 use Rattle.run_rules.specs.Model.Task.{Task, task, matches}
 use Rattle.rle.specs.Model.Engine.{Conf, macro_of, end, on_plan, fueled_of, proved_of, turn_on, turn_of, plan_by, plan_of, run_within, run_of, Macro, Plan}
 use Rattle.rle.specs.Fits.{run_check}
@@ -31,12 +28,12 @@ use Rattle.rle_refines.proofs.Facts.Operations.{run_says}
 
 module _ (m : Machine) (s : List ℕ) (table : TableOf m (table_of m s)) (single : m.tapes ≡ 1) (proves : Bool) (p : State) (off : m.states ≤ p.0) where
   abbrev ruled : Task
-  ruled = task m s proves (Rule.From p)
+  ruled = task m s proves (Some p)
 
   abbrev free : Task
-  free = task m s proves Rule.Never
+  free = task m s proves None
 
-  unmatched : (σ : Conf) → ChainFits m σ → matches (Rule.From p) σ.sim.state ≡ matches Rule.Never σ.sim.state
+  unmatched : (σ : Conf) → ChainFits m σ → matches (Some p) σ.sim.state ≡ matches None σ.sim.state
   unfolding matches
   unmatched σ f = ne_eqb p.0 σ.sim.state.0 (λ e. omega (arith, f.state_in_holds))
 
@@ -44,9 +41,9 @@ module _ (m : Machine) (s : List ℕ) (table : TableOf m (table_of m s)) (single
   unfolding plan_of turn_of turn_on proved_of fueled_of
   same_plan fuel σ f = by (entry_of m s σ.sim.state σ.sim.tape.cur 0 0)
     where
-      by : (x : Entry) → plan_by (turn_on x proves (Rule.From p) fuel σ.sim) fuel σ ≡ plan_by (turn_on x proves Rule.Never fuel σ.sim) fuel σ
-      by Undefined = refl
-      by (Defined a) = rw (unmatched σ f)
+      by : (x : Option Action) → plan_by (turn_on x proves (Some p) fuel σ.sim) fuel σ ≡ plan_by (turn_on x proves None fuel σ.sim) fuel σ
+      by None = refl
+      by (Some a) = rw (unmatched σ f)
 
   same_within : (most fuel : ℕ) (σ : Conf) → ChainFits m σ → σ.sim.steps + fuel ≤ 2 ^ 62 → run_within ruled most fuel σ ≡ run_within free most fuel σ
   unfolding run_within
@@ -76,12 +73,12 @@ module _ (m : Machine) (s : List ℕ) (table : TableOf m (table_of m s)) (single
 -- ---- the operation
 
 module _ (m : Machine) (s : List ℕ) (bytes : Bytes s) (p : State) (fuel : ℕ) (σ : Conf) (off : m.states ≤ p.0) where
-  pub run_off : run_answer m s (Rule.From p) fuel σ ≡ run_answer m s Rule.Never fuel σ
+  pub run_off : run_answer m s (Some p) fuel σ ≡ run_answer m s None fuel σ
   unfolding run_answer
   run_off = by (run_check m s fuel σ) refl
     where
-      by : (c : Checked) → run_check m s fuel σ ≡ c → run_on c σ (run_of (task m s true (Rule.From p)) fuel σ) ≡ run_on c σ (run_of (task m s true Rule.Never) fuel σ)
-      by (Refused why) e = refl
-      by Accepted e =
+      by : (c : Result ⊤ Refusal) → run_check m s fuel σ ≡ c → run_on c σ (run_of (task m s true (Some p)) fuel σ) ≡ run_on c σ (run_of (task m s true None) fuel σ)
+      by (Err why) e = refl
+      by (Ok tt) e =
           let x = run_says m s σ fuel e in
-          ap (run_on Accepted σ) (same_run m s (accepted_table m s bytes x.0.table) x.0.single true p off fuel σ x.0.fits x.1)
+          ap (run_on (Ok tt) σ) (same_run m s (accepted_table m s bytes x.0.table) x.0.single true p off fuel σ x.0.fits x.1)

@@ -1,12 +1,12 @@
 -- Consequences for a run: without fuel its answer is the verdict, and `never` is sound. Assumes nothing.
-use Rattle.std.specs.Prelude.{◌≡◌, refl, ◌↔◌, Bool, true, List, ℕ, ◌+◌, ◌-◌, ◌≤◌, ◌<◌, ◌^◌}
+use Rattle.symbol.specs.declared.State.{State}
+use Rattle.std.specs.Prelude.{◌≡◌, refl, ◌↔◌, Bool, true, List, ℕ, ◌+◌, ◌-◌, ◌≤◌, ◌<◌, ◌^◌, Ok, Option}
 use Rattle.std.proofs.Common.{subst, arith}
 use Rattle.std.proofs.Math.Decide.{dec_lt}
 use Rattle.outcome.specs.declared.NonHaltProof.{NonHaltProof}
 use Rattle.outcome.specs.declared.Outcome.{Outcome}
 use Rattle.outcome.specs.declared.Outcome.TheVariants.{NeverHalts}
 use Rattle.machine.specs.declared.Machine.{Machine}
-use Rattle.machine.specs.declared.Checked.TheVariants.{Accepted}
 use Rattle.machine.specs.Model.Check.{table_check}
 use Rattle.table_laws.specs.WellFormed.{Bytes}
 use Rattle.table_machine.specs.TableMachine.{run, Halted, halts}
@@ -15,7 +15,6 @@ use Rattle.table_machine.proofs.Facts.Run.{run_add}
 use Rattle.table_machine.proofs.Facts.Verdict.{verdict_unique}
 use Rattle.table_machine.proofs.Facts.Never.{never_sound_bare}
 use Rattle.table_machine.proofs.Facts.Table.{accepted_table}
-use Rattle.run_rules.specs.declared.StopRule.{StopRule}
 use Rattle.run_rules.specs.Model.Task.{Task, task}
 use Rattle.rle.specs.Model.Engine.{Conf, macro_of, End, end, on_plan, run_within, run_of, Plan, Stop}
 use Rattle.rle_refines.specs.Meaning.{config_of, ChainFits}
@@ -63,7 +62,7 @@ bare_config t σ = record { second = λ _. refl; third = λ _. refl }
 never_verdict : {k : Task} {fuel made n : ℕ} {e : Conf} {p : NonHaltProof} → Answers k fuel made e (NeverHalts n p) → Judged k (config_of e) (NeverHalts n p)
 never_verdict (verdict _ t v g) = v
 
-module _ (m : Machine) (s : List ℕ) (bytes : Bytes s) (accepted : table_check m s ≡ Accepted) (single : m.tapes ≡ 1) (proves : Bool) (rule : StopRule) (fuel : ℕ) (σ : Conf)
+module _ (m : Machine) (s : List ℕ) (bytes : Bytes s) (accepted : table_check m s ≡ Ok tt) (single : m.tapes ≡ 1) (proves : Bool) (rule : Option State) (fuel : ℕ) (σ : Conf)
     (fits : ChainFits m σ) (small : σ.sim.steps + fuel ≤ 2 ^ 62) (n : ℕ) (p : NonHaltProof) (says : (run_of (task m s proves rule) fuel σ).outcome ≡ NeverHalts n p) where
   refined : Refines (task m s proves rule) fuel σ (run_of (task m s proves rule) fuel σ)
   refined = chain_refines m s bytes accepted single proves rule fuel σ fits small

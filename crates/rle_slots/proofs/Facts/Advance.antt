@@ -1,11 +1,9 @@
 -- After an advance the engine still passes its check, and its step count is not lower. Assumes nothing.
-use Rattle.std.specs.Prelude.{◌≡◌, false, List, ℕ, ◌+◌, ◌≤◌, ◌^◌}
+use Rattle.std.specs.Prelude.{◌≡◌, false, List, ℕ, ◌+◌, ◌≤◌, ◌^◌, None, Ok}
 use Rattle.std.proofs.Math.Path.{refl}
 use Rattle.std.proofs.Common.{sym, ap, subst, arith}
 use Rattle.machine.specs.declared.Machine.{Machine}
-use Rattle.machine.specs.declared.Checked.TheVariants.{Accepted}
 use Rattle.table_laws.specs.WellFormed.{Bytes}
-use Rattle.run_rules.specs.declared.StopRule.TheVariants as Rule
 use Rattle.run_rules.specs.Model.Task.{task}
 use Rattle.rle.specs.Model.Engine.{Conf, run_of}
 use Rattle.rle.specs.Invariants.{SameSizes}
@@ -19,12 +17,12 @@ use Rattle.rle_slots.proofs.Facts.LiveRuns.{accepted_again}
 
 -- τ is accepted, and its lists are as long as those of σ
 pub record Again (m : Machine) (s : List ℕ) (σ τ : Conf) : Type 0 where
-  pub accepted : engine_check m s τ ≡ Accepted
+  pub accepted : engine_check m s τ ≡ Ok tt
   pub sizes : SameSizes σ τ
 
-module _ (m : Machine) (s : List ℕ) (bytes : Bytes s) (n : ℕ) (σ : Conf) (passed : engine_check m s σ ≡ Accepted) (small : σ.sim.steps + n ≤ 2 ^ 62) where
+module _ (m : Machine) (s : List ℕ) (bytes : Bytes s) (n : ℕ) (σ : Conf) (passed : engine_check m s σ ≡ Ok tt) (small : σ.sim.steps + n ≤ 2 ^ 62) where
   abbrev ending : Conf
-  ending = (run_of (task m s false Rule.Never) n σ).at
+  ending = (run_of (task m s false None) n σ).at
 
   advanced : (advance_of m s n σ).1 ≡ ending
   unfolding advance_of ran_from
@@ -33,8 +31,8 @@ module _ (m : Machine) (s : List ℕ) (bytes : Bytes s) (n : ℕ) (σ : Conf) (p
   p : Passed m s σ
   p = engine_says m s σ passed
 
-  refined : Refines (task m s false Rule.Never) n σ (run_of (task m s false Rule.Never) n σ)
-  refined = chain_refines m s bytes p.table p.single false Rule.Never n σ p.fits small
+  refined : Refines (task m s false None) n σ (run_of (task m s false None) n σ)
+  refined = chain_refines m s bytes p.table p.single false None n σ p.fits small
 
   kept : Kept m σ ending
   kept = refined.went.kept

@@ -1,5 +1,5 @@
 -- Whether an engine is accepted depends only on its value, its live runs and the number of its places. Assumes nothing.
-use Rattle.std.specs.Prelude.{◌≡◌, refl, true, List, ℕ, zero, suc, ◌+◌, ◌≤◌, ◌<◌, length, get_or}
+use Rattle.std.specs.Prelude.{◌≡◌, refl, true, List, ℕ, zero, suc, ◌+◌, ◌≤◌, ◌<◌, length, get_or, Ok}
 use Rattle.std.proofs.Common.{sym, ◌∙◌, ap, subst, arith}
 use borrow.Author.Tests.{leb-true, le-leb}
 use Rattle.std.proofs.Math.Seq.{paste}
@@ -7,7 +7,6 @@ use Rattle.std.proofs.lemmas.List.Edits.{length-paste}
 use Rattle.notation.proofs.Facts.Tests.{both_split, both_true}
 use Rattle.notation.specs.Limits.{runs_most}
 use Rattle.machine.specs.declared.Machine.{Machine}
-use Rattle.machine.specs.declared.Checked.TheVariants.{Accepted}
 use Rattle.rle_stack.specs.Model.{side, places_of, sum_of}
 use Rattle.rle.specs.declared.ChainSim.{ChainSim}
 use Rattle.rle.specs.Model.Engine.{Conf, conf}
@@ -87,7 +86,7 @@ module _ (m : Machine) (σ τ : Conf) (same : SameLive σ τ) (lefts : σ.sim.ta
 
 -- ---- it is accepted
 
-module _ (m : Machine) (s : List ℕ) (σ τ : Conf) (passed : engine_check m s σ ≡ Accepted) (sizes : SameSizes σ τ) where
+module _ (m : Machine) (s : List ℕ) (σ τ : Conf) (passed : engine_check m s σ ≡ Ok tt) (sizes : SameSizes σ τ) where
   few : places_fit σ ≡ true → places_fit τ ≡ true
   unfolding places_fit
   few e =
@@ -95,7 +94,7 @@ module _ (m : Machine) (s : List ℕ) (σ τ : Conf) (passed : engine_check m s 
       both_true (le-leb (lefts_of τ) runs_most (omega (arith, sizes.ls, sizes.ll, leb-true (lefts_of σ) runs_most q.0)))
       (le-leb (rights_of τ) runs_most (omega (arith, sizes.rs, sizes.rl, leb-true (rights_of σ) runs_most q.1)))
 
-  pub accepted_again : chain_fits m τ ≡ true → engine_check m s τ ≡ Accepted
+  pub accepted_again : chain_fits m τ ≡ true → engine_check m s τ ≡ Ok tt
   accepted_again e =
       let p : Passed m s σ = engine_says m s σ passed in
       engine_passes m s τ (record { table = p.table; single = p.single; places = few p.places; fits = fits_holds m τ e })

@@ -1,12 +1,10 @@
 -- A slot's round trip: the engine read is the engine written, in the places of any engine that has as many. Assumes nothing.
-use Rattle.std.specs.Prelude.{◌≡◌, true, List, ℕ, ◌*◌, ◌≤◌, ◌<◌, length, take}
+use Rattle.std.specs.Prelude.{◌≡◌, true, List, ℕ, ◌*◌, ◌≤◌, ◌<◌, length, take, None, Ok, Option, Some}
 use Rattle.std.proofs.Math.Path.{refl}
 use Rattle.std.proofs.Common.{sym, ◌∙◌, ap, subst, arith, eq-eqb, get_or-take, length-take-le, ext_get_or}
-use Rattle.std.proofs.Math.Option.{Option, none, some}
 use Rattle.notation.specs.Choice.{pick}
 use Rattle.notation.proofs.Facts.Tests.{both_true, pick_true}
 use Rattle.machine.specs.declared.Machine.{Machine}
-use Rattle.machine.specs.declared.Checked.TheVariants.{Accepted}
 use Rattle.rle.specs.declared.ChainSim.{ChainSim}
 use Rattle.rle.specs.Model.Engine.{Conf, conf}
 use Rattle.rle.specs.Invariants.{SameSizes}
@@ -45,9 +43,9 @@ pub record Returned (m : Machine) (s : List ℕ) (u t v : Conf) : Type 0 where
   pub rl : take u.sim.tape.right v.rl ≡ take u.sim.tape.right u.rl
   pub live : SameLive u v
   pub sizes : SameSizes t v
-  pub accepted : engine_check m s v ≡ Accepted
+  pub accepted : engine_check m s v ≡ Ok tt
 
-module _ (m : Machine) (s : List ℕ) (u t : Conf) (old : List ℕ) (fu : engine_check m s u ≡ Accepted) (ft : engine_check m s t ≡ Accepted)
+module _ (m : Machine) (s : List ℕ) (u t : Conf) (old : List ℕ) (fu : engine_check m s u ≡ Ok tt) (ft : engine_check m s t ≡ Ok tt)
     (lefts : lefts_of t ≡ lefts_of u) (rights : rights_of t ≡ rights_of u) (long : length old ≡ slot_size m u) where
   abbrev l : ℕ
   l = lefts_of u
@@ -124,16 +122,16 @@ module _ (m : Machine) (s : List ℕ) (u t : Conf) (old : List ℕ) (fu : engine
 
   -- what is read with x and y places
   abbrev read-with : ℕ → ℕ → Option Conf
-  read-with x y = pick (holds_one m x y b u.sim.steps) (some (live_in (held_in x y b) (lent t.ls t.ll t.rs t.rl))) none
+  read-with x y = pick (holds_one m x y b u.sim.steps) (Some (live_in (held_in x y b) (lent t.ls t.ll t.rs t.rl))) None
 
   unpacks : unpack_of m b u.sim.steps t ≡ read-with (lefts_of t) (rights_of t)
   unfolding unpacked
   unpacks = refl
 
-  pub found : unpack_of m (pack_of m u old) u.sim.steps t ≡ some back
+  pub found : unpack_of m (pack_of m u old) u.sim.steps t ≡ Some back
   found =
-      unpacks ∙ (λ i. read-with (lefts i) (rights i)) ∙ pick_true (holds_one m l r b u.sim.steps) _ none holds
-      ∙ (λ i. some (live_in (held i) (lent t.ls t.ll t.rs t.rl)))
+      unpacks ∙ (λ i. read-with (lefts i) (rights i)) ∙ pick_true (holds_one m l r b u.sim.steps) _ None holds
+      ∙ (λ i. Some (live_in (held i) (lent t.ls t.ll t.rs t.rl)))
 
   t_left : left ≤ lefts_of t
   t_left = omega (arith, lefts, live_left)
@@ -162,5 +160,5 @@ module _ (m : Machine) (s : List ℕ) (u t : Conf) (old : List ℕ) (fu : engine
     accepted = accepted_again m s t back ft sizes (placed_fits h places h_left h_right t_left t_right m h_fits);
   }
 
-  pub unpack_pack : (v : Conf) × (unpack_of m (pack_of m u old) u.sim.steps t ≡ some v) × Returned m s u t v
+  pub unpack_pack : (v : Conf) × (unpack_of m (pack_of m u old) u.sim.steps t ≡ Some v) × Returned m s u t v
   unpack_pack = (back, found, back_returned)

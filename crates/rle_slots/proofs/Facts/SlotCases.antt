@@ -1,23 +1,20 @@
 -- The code of the slots: its loops, what its calls require, and one fact for each return. Assumes nothing.
-use Rattle.std.specs.Prelude.{◌≡◌, refl, Bool, true, false, ℕ, ◌+◌, ◌-◌, ◌*◌, ◌/◌, ◌≤◌, ◌<◌, eqb, length, take, drop, get_or, set}
+use Rattle.std.specs.Prelude.{◌≡◌, refl, Bool, true, false, ℕ, ◌+◌, ◌-◌, ◌*◌, ◌/◌, ◌≤◌, ◌<◌, eqb, length, take, drop, get_or, set, None, Option, Some}
 use Rattle.std.proofs.Math.Path.{sym, ap}
 use Rattle.std.proofs.Common.{◌∙◌, add-one, arith, length-take, length-drop}
 use mathlib.Core.List.{List}
-use Rattle.std.proofs.Math.Option.{Option, none, some}
 use borrow.Author.Tests.{eq-eqb, ne_eqb}
 use Rattle.std.proofs.Math.Seq.{paste}
 use Rattle.notation.specs.Choice.{pick, both}
 use Rattle.notation.proofs.Facts.Tests.{both_split, by_test, pick_true, pick_false}
 use Rattle.machine.specs.declared.Machine.{Machine}
 use Rattle.store_bytes.specs.Bytes.{get64, put16, put64}
-use Rattle.store_bytes.proofs.Facts.LoopCases.{copy_turn}
-use Rattle.rle_stack.specs.Model.{side, places_of, cells_of}
+use Rattle.std.proofs.lemmas.List.Edits.{paste_more}
+use Rattle.rle_stack.specs.Model.{places_of}
 use Rattle.rle.specs.declared.ChainSim.{ChainSim}
 use Rattle.rle.specs.Model.Engine.{Conf, conf}
-use Rattle.rle.specs.Fits.{side_fits, chain_fits}
+use Rattle.rle.specs.Fits.{chain_fits}
 use Rattle.rle_refines.proofs.Facts.Fits.{fits_holds}
-use Rattle.rle_slots.specs.declared.inner.Found.{Found}
-use Rattle.rle_slots.specs.declared.inner.Found.TheVariants.{Nothing, Holds}
 use Rattle.rle_slots.specs.Model.Slots.{bytes_for, right_symbols, left_lengths, right_lengths, put_numbers, put_value, put_symbols, put_lengths, packed, part, numbers_in, value_in, held_in, Lent, lent, live_in, holds_one, unpacked}
 use Rattle.rle_slots.specs.Model.Restored.{found_in, restored, restored_by, restored_of}
 use Rattle.rle_slots.proofs.Facts.Numbers.{length_numbers, number_in_lem, length_in, length_part}
@@ -35,14 +32,11 @@ pub numbers_turn : (b₀ b b' : List ℕ) (at : ℕ) (xs : List ℕ) (i : ℕ) �
 unfolding put_numbers
 numbers_turn b₀ b b' at xs i p q = rw add-one (rw p at q)
 
-pub numbers_end : (b₀ b : List ℕ) (at : ℕ) (xs : List ℕ) (n i : ℕ) → n ≤ i → i ≤ n → b ≡ put_numbers b₀ at xs i → b ≡ put_numbers b₀ at xs n
-numbers_end b₀ b at xs n i h g p = let e : i ≡ n = omega arith in rw e at p
-
 pub take_turn : (d₀ d b : List ℕ) (n i x : ℕ) → n ≤ length d₀ → 8 * n ≤ length b → i < n → d ≡ paste d₀ 0 (numbers_in b) i → x ≡ get_or (numbers_in b) i 0
     → set d i x ≡ paste d₀ 0 (numbers_in b) (i + 1)
 take_turn d₀ d b n i x h k l p q =
     let e : i ≡ 0 + i = omega arith in
-    (λ j. set d (e j) (q j)) ∙ copy_turn d₀ d (numbers_in b) 0 n i (omega arith) (omega (arith, length_numbers b 0 (length b / 8))) l p
+    (λ j. set (p j) (e j) (q j)) ∙ paste_more d₀ 0 (numbers_in b) i 0 (omega (arith, h, l)) (omega (arith, length_numbers b 0 (length b / 8)))
 
 -- ---- a side of a slot
 
@@ -52,25 +46,6 @@ part-lent b at n = let e : at + n - at ≡ n = omega arith in ap (λ (k : ℕ). 
 
 pub lent_long : (b : List ℕ) (at n : ℕ) → at + n ≤ length b → n ≤ length (take (at + n - at) (drop at b))
 lent_long b at n h = omega (arith, length-take (at + n - at) (drop at b), length-drop at b)
-
-pub lent_symbols : (b : List ℕ) (at n k : ℕ) → at + n ≤ length b → k ≤ n → k ≤ length (take (at + n - at) (drop at b))
-lent_symbols b at n k h l = omega (arith, lent_long b at n h)
-
-pub lent_numbers : (b : List ℕ) (at n k : ℕ) → at + 8 * n ≤ length b → k ≤ n → 8 * k ≤ length (take (at + 8 * n - at) (drop at b))
-lent_numbers b at n k h l = omega (arith, lent_long b at (8 * n) h)
-
-pub cells-lent : (b : List ℕ) (at from n count k most x : ℕ)
-    → x ≡ pick (side_fits k n most (side (take (at + n - at) (drop at b)) (numbers_in (take (from + 8 * n - from) (drop from b))) count))
-    (cells_of (side (take (at + n - at) (drop at b)) (numbers_in (take (from + 8 * n - from) (drop from b))) count)) (most + 1)
-    → x ≡ pick (side_fits k n most (side (part b at n) (numbers_in (part b from (8 * n))) count)) (cells_of (side (part b at n) (numbers_in (part b from (8 * n))) count)) (most + 1)
-cells-lent b at from n count k most x q =
-    q ∙ (λ i. pick (side_fits k n most (side (part-lent b at n i) (numbers_in (part-lent b from (8 * n) i)) count)) (cells_of (side (part-lent b at n i) (numbers_in (part-lent b from (8 * n) i)) count)) (most + 1))
-
-pub taken_lent : (b : List ℕ) (at from n count : ℕ) (ss ls ss' ls' : List ℕ)
-    → ss' ≡ paste ss 0 (take (at + n - at) (drop at b)) count → ls' ≡ paste ls 0 (numbers_in (take (from + 8 * n - from) (drop from b))) count
-    → (ss' ≡ paste ss 0 (part b at n) count) × (ls' ≡ paste ls 0 (numbers_in (part b from (8 * n))) count)
-taken_lent b at from n count ss ls ss' ls' p q =
-    (p ∙ (λ i. paste ss 0 (part-lent b at n i) count), q ∙ (λ i. paste ls 0 (numbers_in (part-lent b from (8 * n) i)) count))
 
 -- ---- the parts of a slot have as many places as the slot is made for
 
@@ -89,7 +64,7 @@ module _ (m : Machine) (l r : ℕ) (b : List ℕ) (step : ℕ) (v : ChainSim) (v
   step_is : eqb v.steps step ≡ eqb (value_in b).steps step
   step_is = ap (λ (x : ChainSim). eqb x.steps step) vp
 
-  pub peek_other : (v.steps ≡ step → ⊥) → Nothing ≡ found_in m l r b step
+  pub peek_other : (v.steps ≡ step → ⊥) → None ≡ found_in m l r b step
   unfolding found_in holds_one pick both
   peek_other h = rw (sym step_is ∙ ne_eqb v.steps step h)
 
@@ -98,13 +73,13 @@ module _ (m : Machine) (l r : ℕ) (b : List ℕ) (step : ℕ) (v : ChainSim) (v
     fits_is : x ≡ chain_fits m (held_in l r b)
     fits_is = xp ∙ (λ i. chain_fits m (conf (vp i) (part b 128 l) (numbers_in (part b (left_lengths l r) (8 * l))) (part b (right_symbols l) r) (numbers_in (part b (right_lengths l r) (8 * r)))))
 
-    pub peek_misfit : x ≡ false → Nothing ≡ found_in m l r b step
+    pub peek_misfit : x ≡ false → None ≡ found_in m l r b step
     unfolding found_in holds_one pick both
     peek_misfit z = rw (sym step_is ∙ eq-eqb v.steps step e, sym fits_is ∙ z)
 
-    pub peek_holds : x ≡ true → Holds v ≡ found_in m l r b step
+    pub peek_holds : x ≡ true → Some v ≡ found_in m l r b step
     unfolding found_in holds_one pick both
-    peek_holds z = rw (sym step_is ∙ eq-eqb v.steps step e, sym fits_is ∙ z) (ap Holds vp)
+    peek_holds z = rw (sym step_is ∙ eq-eqb v.steps step e, sym fits_is ∙ z) (ap Some vp)
 
 -- ---- writing an engine into a slot
 
@@ -132,25 +107,25 @@ module _ (v : ChainSim) (ls ll rs rl : List ℕ) (lp rp : ℕ) (lq : lp ≡ plac
 
 -- ---- reading a slot into the places
 
-holds_is : (v w : ChainSim) → Holds v ≡ Holds w → w ≡ v
+holds_is : (v w : ChainSim) → Some v ≡ Some w → w ≡ v
 holds_is v w q = cc
 
-nothing_holds : (v : ChainSim) → Nothing ≡ Holds v → ⊥
+nothing_holds : (v : ChainSim) → None ≡ Some v → ⊥
 nothing_holds v q = let y : ◌≡◌ {A = ℕ} 0 1 = cc in omega arith
 
-module _ (m : Machine) (b : List ℕ) (step lp rp : ℕ) (f : Found) (fp : f ≡ found_in m lp rp b step) where
-  none_held : f ≡ Nothing → holds_one m lp rp b step ≡ false
+module _ (m : Machine) (b : List ℕ) (step lp rp : ℕ) (f : Option ChainSim) (fp : f ≡ found_in m lp rp b step) where
+  none_held : f ≡ None → holds_one m lp rp b step ≡ false
   unfolding found_in
   none_held e = by_test (holds_one m lp rp b step)
-      (λ h. absurd (nothing_holds (value_in b) (sym e ∙ fp ∙ pick_true (holds_one m lp rp b step) (Holds (value_in b)) Nothing h)))
+      (λ h. absurd (nothing_holds (value_in b) (sym e ∙ fp ∙ pick_true (holds_one m lp rp b step) (Some (value_in b)) None h)))
       (λ h. h)
 
-  module _ (v : ChainSim) (e : f ≡ Holds v) where
+  module _ (v : ChainSim) (e : f ≡ Some v) where
     one_held : (holds_one m lp rp b step ≡ true) × (value_in b ≡ v)
     unfolding found_in
     one_held = by_test (holds_one m lp rp b step)
-        (λ h. (h, holds_is v (value_in b) (sym e ∙ fp ∙ pick_true (holds_one m lp rp b step) (Holds (value_in b)) Nothing h)))
-        (λ h. absurd (nothing_holds v (sym (pick_false (holds_one m lp rp b step) (Holds (value_in b)) Nothing h) ∙ sym fp ∙ e)))
+        (λ h. (h, holds_is v (value_in b) (sym e ∙ fp ∙ pick_true (holds_one m lp rp b step) (Some (value_in b)) None h)))
+        (λ h. absurd (nothing_holds v (sym (pick_false (holds_one m lp rp b step) (Some (value_in b)) None h) ∙ sym fp ∙ e)))
 
     held_fits : holds_one m lp rp b step ≡ true → chain_fits m (held_in lp rp b) ≡ true
     unfolding holds_one
@@ -167,28 +142,28 @@ module _ (m : Machine) (b : List ℕ) (step lp rp : ℕ) (f : Found) (fp : f ≡
         omega (arith, (fits_holds m (held_in lp rp b) (held_fits o.0)).rights.live, length-take rp (drop (right_symbols lp) b), ap (λ (x : ChainSim). x.tape.right) o.1)
 
 module _ (m : Machine) (b : List ℕ) (step : ℕ) (ls ll rs rl : List ℕ) (lp rp : ℕ) (lq : lp ≡ places_of ls ll) (rq : rp ≡ places_of rs rl)
-    (f : Found) (fp : f ≡ found_in m lp rp b step) where
+    (f : Option ChainSim) (fp : f ≡ found_in m lp rp b step) where
   abbrev t : Lent
   t = lent ls ll rs rl
 
   -- what is read with l and r places
   abbrev with-places : (l r : ℕ) → Option Conf
-  with-places l r = pick (holds_one m l r b step) (some (live_in (held_in l r b) t)) none
+  with-places l r = pick (holds_one m l r b step) (Some (live_in (held_in l r b) t)) None
 
   unpacked_is : with-places lp rp ≡ unpacked m b step t
   unfolding unpacked
   unpacked_is i = with-places (lq i) (rq i)
 
-  pub restore_none : f ≡ Nothing → restored Nothing t ≡ restored_of m b step t
+  pub restore_none : f ≡ None → restored None t ≡ restored_of m b step t
   restore_none e =
-      sym (ap (λ (x : Option Conf). restored_by x t) (sym unpacked_is ∙ pick_false (holds_one m lp rp b step) (some (live_in (held_in lp rp b) t)) none (none_held m b step lp rp f fp e)))
+      sym (ap (λ (x : Option Conf). restored_by x t) (sym unpacked_is ∙ pick_false (holds_one m lp rp b step) (Some (live_in (held_in lp rp b) t)) None (none_held m b step lp rp f fp e)))
 
-  pub restore_some : (v : ChainSim) → f ≡ Holds v → (ls' ll' rs' rl' : List ℕ)
+  pub restore_some : (v : ChainSim) → f ≡ Some v → (ls' ll' rs' rl' : List ℕ)
       → (ls' ≡ paste ls 0 (part b 128 lp) v.tape.left) × (ll' ≡ paste ll 0 (numbers_in (part b (128 + lp + rp) (8 * lp))) v.tape.left)
       → (rs' ≡ paste rs 0 (part b (128 + lp) rp) v.tape.right) × (rl' ≡ paste rl 0 (numbers_in (part b (128 + 9 * lp + rp) (8 * rp))) v.tape.right)
-      → restored (Holds v) (lent ls' ll' rs' rl') ≡ restored_of m b step t
+      → restored (Some v) (lent ls' ll' rs' rl') ≡ restored_of m b step t
   restore_some v e ls' ll' rs' rl' p q =
       let o = one_held m b step lp rp f fp v e in
-      (λ i. restored (Holds v) (lent (p.0 i) (p.1 i) (q.0 i) (q.1 i)))
-      ∙ (λ i. restored_by (some (live_in (conf (sym o.1 i) (part b 128 lp) (numbers_in (part b (left_lengths lp rp) (8 * lp))) (part b (right_symbols lp) rp) (numbers_in (part b (right_lengths lp rp) (8 * rp)))) t)) t)
-      ∙ sym (ap (λ (x : Option Conf). restored_by x t) (sym unpacked_is ∙ pick_true (holds_one m lp rp b step) (some (live_in (held_in lp rp b) t)) none o.0))
+      (λ i. restored (Some v) (lent (p.0 i) (p.1 i) (q.0 i) (q.1 i)))
+      ∙ (λ i. restored_by (Some (live_in (conf (sym o.1 i) (part b 128 lp) (numbers_in (part b (left_lengths lp rp) (8 * lp))) (part b (right_symbols lp) rp) (numbers_in (part b (right_lengths lp rp) (8 * rp)))) t)) t)
+      ∙ sym (ap (λ (x : Option Conf). restored_by x t) (sym unpacked_is ∙ pick_true (holds_one m lp rp b step) (Some (live_in (held_in lp rp b) t)) None o.0))

@@ -1,12 +1,10 @@
 -- For any bytes in a slot, an engine that is read is accepted and is of the given step. Assumes nothing.
-use Rattle.std.specs.Prelude.{◌≡◌, true, List, ℕ, ◌≤◌, drop}
+use Rattle.std.specs.Prelude.{◌≡◌, true, List, ℕ, ◌≤◌, drop, None, Ok, Some}
 use Rattle.std.proofs.Common.{◌∙◌, arith, length-take}
 use Rattle.std.proofs.Math.Path.{subst}
-use Rattle.std.proofs.Math.Option.{none, some}
 use borrow.Author.Tests.{eqb-true}
 use Rattle.notation.proofs.Facts.Tests.{both_split, by_test, pick_true, pick_false}
 use Rattle.machine.specs.declared.Machine.{Machine}
-use Rattle.machine.specs.declared.Checked.TheVariants.{Accepted}
 use Rattle.rle.specs.Model.Engine.{Conf}
 use Rattle.rle.specs.Invariants.{SameSizes}
 use Rattle.rle.specs.Fits.{chain_fits, engine_check}
@@ -20,7 +18,7 @@ pub record Read (m : Machine) (s : List ℕ) (p : ℕ) (t v : Conf) : Type 0 whe
   pub again : Again m s t v
   pub steps : v.sim.steps ≡ p
 
-module _ (m : Machine) (s b : List ℕ) (p : ℕ) (t : Conf) (passed : engine_check m s t ≡ Accepted) where
+module _ (m : Machine) (s b : List ℕ) (p : ℕ) (t : Conf) (passed : engine_check m s t ≡ Ok tt) where
   abbrev l : ℕ
   l = lefts_of t
 
@@ -57,14 +55,14 @@ module _ (m : Machine) (s b : List ℕ) (p : ℕ) (t : Conf) (passed : engine_ch
       let q = both_split e in
       record { again = placed q.1; steps = eqb-true (value_in b).steps p q.0 }
 
-  none_some : (v : Conf) → some v ≡ none → ⊥
+  none_some : (v : Conf) → Some v ≡ None → ⊥
   none_some v q = let y : ◌≡◌ {A = ℕ} 0 1 = cc in omega arith
 
-  some_is : (v w : Conf) → some v ≡ some w → w ≡ v
+  some_is : (v w : Conf) → Some v ≡ Some w → w ≡ v
   some_is v w q = cc
 
-  pub unpack_fits : (v : Conf) → some v ≡ unpack_of m b p t → Read m s p t v
+  pub unpack_fits : (v : Conf) → Some v ≡ unpack_of m b p t → Read m s p t v
   unfolding unpacked
   unpack_fits v e = by_test (holds_one m l r b p)
-      (λ t₁. subst (Read m s p t) (some_is v (live_in h places) (e ∙ pick_true (holds_one m l r b p) (some (live_in h places)) none t₁)) (holds_says t₁))
-      (λ t₁. absurd (none_some v (e ∙ pick_false (holds_one m l r b p) (some (live_in h places)) none t₁)))
+      (λ t₁. subst (Read m s p t) (some_is v (live_in h places) (e ∙ pick_true (holds_one m l r b p) (Some (live_in h places)) None t₁)) (holds_says t₁))
+      (λ t₁. absurd (none_some v (e ∙ pick_false (holds_one m l r b p) (Some (live_in h places)) None t₁)))

@@ -1,15 +1,14 @@
 -- An advance of the run-length engine, as a timeline makes it. Definitions only.
-use Rattle.std.specs.Prelude.{Bool, true, false, List, ℕ}
+use Rattle.std.specs.Prelude.{Bool, true, false, List, ℕ, None}
 use Rattle.outcome.specs.declared.Outcome.{Outcome}
 use Rattle.machine.specs.declared.Machine.{Machine}
-use Rattle.run_rules.specs.declared.StopRule.TheVariants as Rule
 use Rattle.run_rules.specs.Model.Task.{task}
 use Rattle.rle.specs.Model.Engine.{Conf, End, run_of}
 use Rattle.timeline_rule.specs.Model.Kind.{verdict_or}
 
 -- a run without a stop rule, with or without the never test
 unfoldable pub ran_from : Machine → List ℕ → (proves : Bool) → ℕ → Conf → End
-ran_from m s proves n σ = run_of (task m s proves Rule.Never) n σ
+ran_from m s proves n σ = run_of (task m s proves None) n σ
 
 -- "Each advance runs without the never test, then tests it with fuel 0."
 abbrev pub tested : Machine → List ℕ → End → Outcome × Conf

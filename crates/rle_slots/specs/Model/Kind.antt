@@ -1,9 +1,9 @@
 -- The run-length engine as a timeline's engine: the models of its operations, by name. Definitions only.
-use Rattle.std.specs.Prelude.{List, ℕ}
+use Rattle.rle.specs.declared.ChainSim.{ChainSim}
+use Rattle.outcome.specs.declared.Refusal.{Refusal}
+use Rattle.std.specs.Prelude.{List, ℕ, Err, Ok, Result}
 use Rattle.timeline_rule.specs.Model.Timeline.{Reply, refused, answered}
 use Rattle.timeline_rule.specs.Model.Kind.{Kind}
-use Rattle.rle.specs.declared.Fresh.{Fresh}
-use Rattle.rle.specs.declared.Fresh.TheVariants as New
 use Rattle.rle.specs.Model.Engine.{Conf, conf}
 use Rattle.rle.specs.Fits.{engine_check}
 use Rattle.rle.specs.Model.Operations.{Made, new_answer}
@@ -11,9 +11,9 @@ use Rattle.rle_slots.specs.Model.Advance.{advance_of}
 use Rattle.rle_slots.specs.Model.Slots.{Lent, slot_size, pack_of, unpack_of}
 
 -- a fresh engine with its places; those of the left side are unchanged
-abbrev pub fresh_in : Fresh → (ls ll rs rl : List ℕ) → Reply Conf
-fresh_in (New.Refused why) ls ll rs rl = refused why
-fresh_in (New.Made v) ls ll rs rl = answered (conf v ls ll rs rl)
+abbrev pub fresh_in : Result ChainSim Refusal → (ls ll rs rl : List ℕ) → Reply Conf
+fresh_in (Err why) ls ll rs rl = refused why
+fresh_in (Ok v) ls ll rs rl = answered (conf v ls ll rs rl)
 
 abbrev pub made_in : Lent → Made → Reply Conf
 made_in t a = fresh_in a.answer t.ls t.ll a.rs a.rl

@@ -1,7 +1,6 @@
 -- A slot of the run-length engine. The engine's value lies in the first 64 of 128 bytes. Then come the symbols of the left side and of the right side, then
 -- the lengths of the left side and of the right side, eight bytes each. Only live runs are written and read. Definitions only.
-use Rattle.std.specs.Prelude.{Bool, List, [], ◌∷◌, ℕ, zero, suc, ◌+◌, ◌*◌, ◌/◌, eqb, length, take, drop, get_or, set}
-use Rattle.std.proofs.Math.Option.{Option, none, some}
+use Rattle.std.specs.Prelude.{Bool, List, [], ◌∷◌, ℕ, zero, suc, ◌+◌, ◌*◌, ◌/◌, eqb, length, take, drop, get_or, set, None, Option, Some}
 use Rattle.std.proofs.Math.Seq.{paste}
 use Rattle.notation.specs.Choice.{pick, both}
 use Rattle.symbol.specs.Kinds.{state_of}
@@ -120,7 +119,7 @@ unfoldable pub unpacked : Machine → List ℕ → (step : ℕ) → Lent → Opt
 unpacked m b step t =
     let l : ℕ = places_of t.ls t.ll in
     let r : ℕ = places_of t.rs t.rl in
-    pick (holds_one m l r b step) (some (live_in (held_in l r b) t)) none
+    pick (holds_one m l r b step) (Some (live_in (held_in l r b) t)) None
 
 abbrev pub unpack_of : Machine → List ℕ → (step : ℕ) → Conf → Option Conf
 unpack_of m b step σ = unpacked m b step (lent σ.ls σ.ll σ.rs σ.rl)

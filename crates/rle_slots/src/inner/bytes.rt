@@ -1,16 +1,9 @@
-// Writes a byte; writes and reads lists of numbers, eight bytes each.
-ghost use Rattle.std.specs.Prelude.{◌≡◌, ◌+◌, ◌*◌, ◌≤◌, ◌<◌, length, get_or, set};
+// Writes and reads lists of numbers, eight bytes each.
+ghost use Rattle.std.specs.Prelude.{◌≡◌, ◌+◌, ◌*◌, ◌≤◌, length, get_or};
 ghost use Rattle.std.proofs.Math.Seq.{paste};
 ghost use Rattle.rle_slots.specs.Model.Slots.{put_numbers, numbers_in};
 
 use store_bytes::inner as little;
-
-pub fn put_byte(to: &mut [u8], at: usize, x: u8)
-    requires { at < length to.old }
-    ensures { to.new ≡ set to.old at x }
-{
-    to[at] = x;
-}
 
 // Number `i` of a list in bytes.
 pub fn number(bytes: &[u8], i: usize) -> u64
@@ -25,10 +18,8 @@ pub fn put_numbers(to: &mut [u8], at: usize, from: &[u64], n: usize)
     requires { (at + 8 * n ≤ length to.old) × (n ≤ length from.now) }
     ensures { to.new ≡ put_numbers to.old at from.now n }
 {
-    let mut i = 0;
-    while i < n {
+    for i in 0..n {
         little::put_64(to, at + 8 * i, from[i]);
-        i += 1;
     }
 }
 
@@ -37,9 +28,7 @@ pub fn take_numbers(to: &mut [u64], from: &[u8], n: usize)
     requires { (n ≤ length to.old) × (8 * n ≤ length from.now) }
     ensures { to.new ≡ paste to.old 0 (numbers_in from.now) n }
 {
-    let mut i = 0;
-    while i < n {
+    for i in 0..n {
         to[i] = number(from, i);
-        i += 1;
     }
 }

@@ -1,20 +1,19 @@
 // The engine in a slot's bytes: its value, and whether it fits. These functions write nothing.
-ghost use Rattle.std.specs.Prelude.{◌≡◌, ◌+◌, ◌*◌, ◌≤◌, ◌<◌, min, length};
+ghost use Rattle.std.specs.Prelude.{◌≡◌, ◌+◌, ◌*◌, ◌≤◌, ◌<◌, length};
 ghost use Rattle.notation.specs.Choice.{pick};
 ghost use Rattle.notation.specs.Limits.{raised_zero};
-ghost use Rattle.rle_stack.specs.Model.{side, run_fits, runs_fit, sum_of, cells_of};
+ghost use Rattle.rle_stack.specs.Model.{side, cells_of};
 ghost use Rattle.rle.specs.Model.Engine.{conf};
 ghost use Rattle.rle.specs.Fits.{side_fits, chain_fits};
 ghost use Rattle.rle_slots.specs.Model.Slots.{bytes_for, right_symbols, left_lengths, right_lengths, part, numbers_in, value_in};
 ghost use Rattle.rle_slots.specs.Model.Restored.{found_in};
 
-use super::Found;
 use super::bytes::number;
 use machine::Machine;
 use notation::limits;
 use rle::inner::fits;
 use rle::{ChainSim, RunTape};
-use rle_stack::inner as stack;
+use rle_stack::inner::Lengths;
 use store_bytes::inner as little;
 use symbol::State;
 
@@ -46,74 +45,21 @@ pub fn value_in(slot: &[u8]) -> ChainSim
     }
 }
 
-fn wide(x: u8) -> u64
-    ensures { result ≡ x }
-{
-    x as u64
+// The lengths of a slot's side, in bytes.
+#[derive(Drop)]
+struct Numbers<'a> {
+    bytes: &'a [u8],
 }
 
-// Whether run i has a cell, a symbol below k, and a symbol other than that of the run under it.
-fn run_fits(symbols: &[u8], lengths: &[u8], i: usize, k: u64) -> bool
-    requires { (i < length symbols.now) × (8 * i + 8 ≤ length lengths.now) }
-    ensures { result ≡ run_fits k symbols.now (numbers_in lengths.now) i }
-{
-    if number(lengths, i) == 0 {
-        return false;
+impl<'a> Lengths for Numbers<'a> {
+    ghost list = { λ n. numbers_in n.bytes.now };
+
+    fn at(&self, i: usize) -> u64 {
+        number(self.bytes, i)
     }
-    if k <= wide(symbols[i]) {
-        return false;
-    }
-    symbols[i] != stack::top(symbols, i)
 }
 
-// Whether the live runs are a stack of runs with symbols below k.
-fn runs_fit(symbols: &[u8], lengths: &[u8], count: usize, k: u64) -> bool
-    requires { (count ≤ length symbols.now) × (8 * count ≤ length lengths.now) }
-    ensures { result ≡ runs_fit k (side symbols.now (numbers_in lengths.now) count) }
-{
-    let mut i = 0;
-    while i < count {
-        if !run_fits(symbols, lengths, i, k) {
-            return false;
-        }
-        i += 1;
-    }
-    true
-}
-
-// How many cells the live runs have, or `most + 1` where they have more than `most`.
-fn cells(lengths: &[u8], count: usize, most: u64) -> u64
-    requires { (8 * count ≤ length lengths.now) × (most < raised_zero) }
-    ensures { result ≡ min (sum_of (numbers_in lengths.now) count) (most + 1) }
-{
-    let mut i = 0;
-    let mut sum = 0;
-    while i < count {
-        let run = number(lengths, i);
-        if most - sum < run {
-            return most + 1;
-        }
-        sum += run;
-        i += 1;
-    }
-    sum
-}
-
-// The number of a side's cells, at most `most`, where the side fits; else `most + 1`.
-fn measure(symbols: &[u8], lengths: &[u8], count: usize, places: usize, k: u64, most: u64) -> u64
-    requires { (places ≤ length symbols.now) × (8 * places ≤ length lengths.now) × (most < raised_zero) }
-    ensures { result ≡ pick (side_fits k places most (side symbols.now (numbers_in lengths.now) count)) (cells_of (side symbols.now (numbers_in lengths.now) count)) (most + 1) }
-{
-    if places < count {
-        return most + 1;
-    }
-    if !runs_fit(symbols, lengths, count, k) {
-        return most + 1;
-    }
-    cells(lengths, count, most)
-}
-
-// The same for a side of a slot, whose symbols begin at byte `at` and whose lengths begin at byte `from`.
+// The measure of a slot's side, whose symbols begin at byte `at` and whose lengths begin at byte `from`.
 fn side_cells(
     slot: &[u8],
     at: usize,
@@ -128,7 +74,10 @@ fn side_cells(
 {
     let end = at + places;
     let last = from + 8 * places;
-    measure(&slot[at..end], &slot[from..last], count, places, k, most)
+    let lengths = Numbers {
+        bytes: &slot[from..last],
+    };
+    fits::measure(&slot[at..end], lengths, count, places, k, most)
 }
 
 // Whether a value fits together with the sides in a slot.
@@ -164,16 +113,16 @@ fn fits_in(sim: ChainSim, m: Machine, slot: &[u8], lp: usize, rp: usize) -> bool
 }
 
 // The engine in a slot for `lp` and `rp` places, if it fits and is of step `step`.
-pub fn peek(m: Machine, slot: &[u8], step: u64, lp: usize, rp: usize) -> Found
+pub fn peek(m: Machine, slot: &[u8], step: u64, lp: usize, rp: usize) -> Option<ChainSim>
     requires { length slot.now ≡ bytes_for lp rp }
     ensures { result ≡ found_in m lp rp slot.now step }
 {
     let sim = value_in(slot);
     if sim.steps != step {
-        return Found::Nothing;
+        return None;
     }
     if !fits_in(sim, m, slot, lp, rp) {
-        return Found::Nothing;
+        return None;
     }
-    Found::Holds(sim)
+    Some(sim)
 }

@@ -36,14 +36,6 @@ module _ (ss ls : List ℕ) (n d x : ℕ) (inv : symbol_in ss ls n d ≡ x) wher
 
 -- ---- cells that are not blank
 
-pub weight_blank : (ss ls : List ℕ) (i : ℕ) → get_or ss i 0 ≡ 0 → 0 ≡ weight_at ss ls i
-unfolding pick
-weight_blank ss ls i e = rw (eq-eqb (get_or ss i 0) 0 e)
-
-pub weight_all : (ss ls : List ℕ) (i : ℕ) → (get_or ss i 0 ≡ 0 → ⊥) → get_or ls i 0 ≡ weight_at ss ls i
-unfolding pick
-weight_all ss ls i e = rw (ne_eqb (get_or ss i 0) 0 e)
-
 pub written_start : (ss ls : List ℕ) → (0 ≡ weight_of ss ls 0) × (0 ≤ sum_of ls 0)
 unfolding weight_of
 written_start ss ls = (refl, omega arith)

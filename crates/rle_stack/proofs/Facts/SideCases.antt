@@ -1,7 +1,9 @@
 -- What the operations of one side do, a lemma for each return. Assumes nothing.
 use Rattle.std.specs.Prelude.{◌≡◌, false, not, List, ℕ, ◌+◌, ◌-◌, ◌≤◌, ◌<◌, eqb, leb, get_or, set}
-use Rattle.std.proofs.Common.{sym, ◌∙◌, ap, arith, leb-false, lt-ltb, le-ltb, eq-eqb, ne_eqb}
+use Rattle.std.proofs.Common.{refl, le-leb, sym, ◌∙◌, ap, arith, leb-false, lt-ltb, le-ltb, eq-eqb, ne_eqb}
+use Rattle.std.proofs.lemmas.Bool.{lt-leb}
 use Rattle.notation.specs.Choice.{pick, both}
+use Rattle.notation.proofs.Facts.Tests.{by_test, pick_cases}
 use Rattle.rle_stack.specs.Model.{side, symbol_under, grown_of, push_of, lacks, take_of, run_fits}
 
 -- ---- a push
@@ -20,9 +22,14 @@ pub push_adds : (s n k t : ℕ) (ss ls : List ℕ) → t ≡ symbol_under ss k �
 unfolding push_of pick
 push_adds s n k t ss ls q e = simp (ne_eqb s (symbol_under ss k) (λ p. e (p ∙ sym q)))
 
-pub lacks-none : (p s k t : ℕ) (ss ls : List ℕ) → t ≡ symbol_under ss k → s ≡ t → false ≡ lacks p s (side ss ls k)
+pub lacks_room : (p s k : ℕ) (ss ls : List ℕ) → k < p → false ≡ lacks p s (side ss ls k)
+unfolding lacks
+lacks_room p s k ss ls h = pick_cases (eqb s (symbol_under ss k)) false (leb p k) (λ b. false ≡ b) (λ e. refl) (λ e. sym (lt-leb p k h))
+
+pub lacks_full : (p s k t : ℕ) (ss ls : List ℕ) → t ≡ symbol_under ss k → p ≤ k → not (eqb s t) ≡ lacks p s (side ss ls k)
 unfolding lacks pick
-lacks-none p s k t ss ls q e = simp (eq-eqb s (symbol_under ss k) (e ∙ q))
+lacks_full p s k t ss ls q h =
+    ap (λ (x : ℕ). not (eqb s x)) q ∙ by_test (eqb s (symbol_under ss k)) (λ e. simp e) (λ e. simp (e, le-leb p k h))
 
 pub lacks_new : (p s k t : ℕ) (ss ls : List ℕ) → t ≡ symbol_under ss k → (s ≡ t → ⊥) → leb p k ≡ lacks p s (side ss ls k)
 unfolding lacks pick

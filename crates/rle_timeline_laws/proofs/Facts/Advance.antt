@@ -1,5 +1,5 @@
 -- The law of the run-length engine's advance: steps of the table machine up to the first that is full, and the verdict where it ends. Assumes nothing.
-use Rattle.std.specs.Prelude.{◌≡◌, true, false, List}
+use Rattle.std.specs.Prelude.{◌≡◌, true, false, List, None}
 use Rattle.std.proofs.Math.Path.{refl, ap}
 use Rattle.std.proofs.Common.{sym, ◌∙◌, subst, arith}
 use Prim.Native.Nat.{ℕ, zero, suc, ◌+◌, ◌≤◌, ◌^◌}
@@ -12,7 +12,6 @@ use Rattle.machine.specs.declared.Machine.{Machine}
 use Rattle.table_machine.specs.TableMachine.{run, Verdict, halts}
 use Rattle.table_machine.specs.Tables.{table_of, TableOf}
 use Rattle.table_machine.proofs.Facts.Run.{run_suc}
-use Rattle.run_rules.specs.declared.StopRule.TheVariants as Rule
 use Rattle.run_rules.specs.Model.Task.{Task, task, matches}
 use Rattle.rle.specs.Model.Engine.{Conf, End, run_of}
 use Rattle.rle_refines.specs.Meaning.{config_of, ChainFits}
@@ -47,12 +46,12 @@ module _ (m : Machine) (s : List ℕ) where
 
   -- a run without the never test, and with it; neither has a stop rule
   abbrev quiet : Task
-  quiet = task m s false Rule.Never
+  quiet = task m s false None
 
   abbrev asking : Task
-  asking = task m s true Rule.Never
+  asking = task m s true None
 
-  unruled : (q : State) → matches Rule.Never q ≡ false
+  unruled : (q : State) → matches None q ≡ false
   unfolding matches
   unruled q = refl
 

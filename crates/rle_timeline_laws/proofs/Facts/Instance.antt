@@ -1,14 +1,13 @@
 -- Every run-length engine that the check accepts meets what the third demand requires, and a fresh one holds the word's configuration. Assumes nothing.
-use Rattle.std.specs.Prelude.{◌≡◌, refl, List, ℕ}
+use Rattle.rle.specs.declared.ChainSim.{ChainSim}
+use Rattle.outcome.specs.declared.Refusal.{Refusal}
+use Rattle.std.specs.Prelude.{◌≡◌, refl, List, ℕ, Err, Ok, Result}
 use Rattle.std.proofs.Common.{sym, subst, arith}
 use Rattle.machine.specs.declared.Machine.{Machine}
-use Rattle.machine.specs.declared.Checked.TheVariants.{Accepted}
 use Rattle.table_laws.specs.WellFormed.{Bytes}
 use Rattle.table_machine.specs.TableMachine.{run}
 use Rattle.table_machine.specs.Tables.{table_of, TableOf}
 use Rattle.table_machine.proofs.Facts.Table.{accepted_table}
-use Rattle.rle.specs.declared.Fresh.{Fresh}
-use Rattle.rle.specs.declared.Fresh.TheVariants as New
 use Rattle.rle.specs.Model.Engine.{Conf, conf}
 use Rattle.rle.specs.Fits.{engine_check}
 use Rattle.rle.specs.Model.Operations.{Made, made, new_answer}
@@ -27,7 +26,7 @@ use Rattle.rle_timeline_laws.proofs.Facts.FitsWith.{Fits}
 use Rattle.rle_timeline_laws.proofs.Facts.Fits.{fits_passed}
 use Rattle.rle_timeline_laws.proofs.Facts.Parts.{chain_parts}
 
-module _ (m : Machine) (s : List ℕ) (bytes : Bytes s) (e : Conf) (accepted : engine_check m s e ≡ Accepted) where
+module _ (m : Machine) (s : List ℕ) (bytes : Bytes s) (e : Conf) (accepted : engine_check m s e ≡ Ok tt) where
   own_fits : Fits m s (lefts_of e) (rights_of e) e
   own_fits = record { accepted = accepted; in_lefts = refl; in_rights = refl }
 
@@ -58,9 +57,9 @@ chain_instances m s bytes e q = instance_of m s bytes e q
 
 -- an engine that `create` returned is a fresh engine
 module _ (m : Machine) (s w : List ℕ) (b : Lent) (e : Conf) where
-  made_holds : (f : Fresh) (rs rl : List ℕ) → new_answer m s w b.ls b.ll b.rs b.rl ≡ made f rs rl → fresh_in f b.ls b.ll rs rl ≡ answered e → NewHolds m s w b.rs b.rl e
-  made_holds (New.Refused why) rs rl p q = let z : ◌≡◌ {A = ℕ} 0 1 = cc in absurd (omega arith)
-  made_holds (New.Made v) rs rl p q =
+  made_holds : (f : Result ChainSim Refusal) (rs rl : List ℕ) → new_answer m s w b.ls b.ll b.rs b.rl ≡ made f rs rl → fresh_in f b.ls b.ll rs rl ≡ answered e → NewHolds m s w b.rs b.rl e
+  made_holds (Err why) rs rl p q = let z : ◌≡◌ {A = ℕ} 0 1 = cc in absurd (omega arith)
+  made_holds (Ok v) rs rl p q =
       let is : conf v b.ls b.ll rs rl ≡ e = cc in
       subst (NewHolds m s w b.rs b.rl) is (new_holds m s w b.ls b.ll b.rs b.rl v rs rl p)
 

@@ -1,7 +1,6 @@
 -- A slot returns the engine that was put there, with the same meaning, and it fits. Assumes nothing.
-use Rattle.std.specs.Prelude.{◌≡◌, List, ℕ, length}
+use Rattle.std.specs.Prelude.{◌≡◌, List, ℕ, length, Some}
 use Rattle.std.proofs.Common.{sym, ◌∙◌, arith}
-use Rattle.std.proofs.Math.Option.{some}
 use Rattle.machine.specs.declared.Machine.{Machine}
 use Rattle.table_machine.specs.TableMachine.{Config, blank_tape}
 use Rattle.rle.specs.declared.ChainSim.{ChainSim}
@@ -71,7 +70,7 @@ module _ (m : Machine) (s : List ℕ) (lefts rights : ℕ) where
     back_fits = record { accepted = r.accepted; in_lefts = back_lefts; in_rights = back_rights }
 
   pub slot_back : (u t : Conf) (old : List ℕ) → Fits m s lefts rights u → Fits m s lefts rights t → length old ≡ bytes_for lefts rights
-      → (v : Conf) × (unpack_of m (pack_of m u old) u.sim.steps t ≡ some v) × SameEngine v u × (mean_of v ≡ mean_of u) × Fits m s lefts rights v
+      → (v : Conf) × (unpack_of m (pack_of m u old) u.sim.steps t ≡ Some v) × SameEngine v u × (mean_of v ≡ mean_of u) × Fits m s lefts rights v
   slot_back u t old f g z =
       let b = unpack_pack m s u t old f.accepted g.accepted (g.in_lefts ∙ sym f.in_lefts) (g.in_rights ∙ sym f.in_rights) (z ∙ size_is u f) in
       (b.0, b.1, back_same u t b.0 f g b.2, back_means u t b.0 f g b.2, back_fits u t b.0 f g b.2)

@@ -1,5 +1,8 @@
 -- The decision before a step, one fact for each path through the code. Assumes nothing.
-use Rattle.std.specs.Prelude.{◌≡◌, Bool, true, false, List, ℕ, length}
+use Rattle.outcome.specs.declared.Outcome.{Outcome}
+use Rattle.std.specs.declared.ops.ControlFlow.{ControlFlow}
+use Rattle.std.specs.declared.ops.ControlFlow.TheVariants.{Break, Continue}
+use Rattle.std.specs.Prelude.{◌≡◌, Bool, true, false, List, ℕ, length, None, Option, Some}
 use Rattle.std.proofs.Common.{sym}
 use borrow.Author.Tests.{eq-eqb, ne_eqb}
 use Rattle.notation.specs.Choice.{pick, both}
@@ -9,19 +12,14 @@ use Rattle.outcome.specs.declared.NonHaltProof.TheVariants.{StayLoop, ChainToInf
 use Rattle.outcome.specs.declared.Outcome.TheVariants.{Halted, OutOfFuel, NeverHalts, Full}
 use Rattle.machine.specs.declared.Machine.{Machine}
 use Rattle.machine.specs.declared.Action.{Action}
-use Rattle.machine.specs.declared.Entry.{Entry}
-use Rattle.machine.specs.declared.Entry.TheVariants.{Undefined, Defined}
 use Rattle.machine.specs.Layout.{stride_of, entry_number, entry_at}
-use Rattle.tape.specs.declared.Tape.{Tape}
 use Rattle.tape.specs.Model.Moves.{Held, read_of}
 use Rattle.tape.specs.Model.Questions.{blank_beyond}
 use Rattle.run_checks.specs.declared.inner.look.Look.{Look}
 use Rattle.run_checks.specs.declared.inner.look.Look.TheVariants.{Halt, Never, Go}
-use Rattle.run_checks.specs.declared.inner.look.Choice.{Choice}
-use Rattle.run_checks.specs.declared.inner.look.Choice.TheVariants as Choice
-use Rattle.run_checks.specs.Model.Look.{stays_all, loop_of, judge_of, look_on, entry_of, look_at, rooms_of, go_of, choice_at, Within, AtOk}
+use Rattle.run_checks.specs.Model.Look.{stays_all, loop_of, judge_of, look_on, entry_of, look_at, rooms_of, go_of, choice_at}
 
-pub entry_is : (m : Machine) (s : List ℕ) (q : State) (r0 r1 r2 number stride : ℕ) (e : Entry) → e ≡ entry_at s number
+pub entry_is : (m : Machine) (s : List ℕ) (q : State) (r0 r1 r2 number stride : ℕ) (e : Option Action) → e ≡ entry_at s number
     → number ≡ entry_number m.symbols stride q.0 r0 r1 r2 → stride ≡ stride_of m → e ≡ entry_of m s q r0 r1 r2
 unfolding entry_of
 entry_is m s q r0 r1 r2 number stride e p n k = rw (p, n, k)
@@ -67,55 +65,45 @@ module _ (p : Bool) (tapes : ℕ) (q : State) (a : Action) (r0 r1 r2 : ℕ) (h :
 
 -- ---- the look
 
-module _ (m : Machine) (s : List ℕ) (p : Bool) (q : State) (h0 h1 h2 : Held) (r0 r1 r2 : ℕ) (e : Entry)
+module _ (m : Machine) (s : List ℕ) (p : Bool) (q : State) (h0 h1 h2 : Held) (r0 r1 r2 : ℕ) (e : Option Action)
     (found : e ≡ entry_of m s q r0 r1 r2) (q0 : r0 ≡ read_of h0) (q1 : r1 ≡ read_of h1) (q2 : r2 ≡ read_of h2) where
   is_entry : entry_of m s q (read_of h0) (read_of h1) (read_of h2) ≡ e
   is_entry = rw (← q0, ← q1, ← q2) (sym found)
 
-  pub look_halt : e ≡ Undefined → Halt ≡ look_at m s p q h0 h1 h2
+  pub look_halt : e ≡ None → Halt ≡ look_at m s p q h0 h1 h2
   unfolding look_on
   look_halt z = rw (is_entry, z)
 
-  pub look_judged : (a : Action) (x : Look) → x ≡ judge_of p m.tapes q a r0 r1 r2 h0 → e ≡ Defined a → x ≡ look_at m s p q h0 h1 h2
+  pub look_judged : (a : Action) (x : Look) → x ≡ judge_of p m.tapes q a r0 r1 r2 h0 → e ≡ Some a → x ≡ look_at m s p q h0 h1 h2
   unfolding look_on
   look_judged a x j z = rw (is_entry, z) (rw (← q0, ← q1, ← q2) j)
 
 -- ---- the choice
 
 module _ (a : Action) (left steps : ℕ) (roomy : Bool) where
-  pub go_fuel : left ≡ 0 → Choice.Stop (OutOfFuel steps) ≡ go_of a left steps roomy
+  pub go_fuel : left ≡ 0 → Break (OutOfFuel steps) ≡ go_of a left steps roomy
   unfolding go_of pick
   go_fuel h = simp (eq-eqb left 0 h)
 
-  pub go_on : (left ≡ 0 → ⊥) → roomy ≡ true → Choice.Go a ≡ go_of a left steps roomy
+  pub go_on : (left ≡ 0 → ⊥) → roomy ≡ true → Continue a ≡ go_of a left steps roomy
   unfolding go_of pick
   go_on h q = simp (ne_eqb left 0 h, q)
 
-  pub go_full : (left ≡ 0 → ⊥) → roomy ≡ false → Choice.Stop (Full steps) ≡ go_of a left steps roomy
+  pub go_full : (left ≡ 0 → ⊥) → roomy ≡ false → Break (Full steps) ≡ go_of a left steps roomy
   unfolding go_of pick
   go_full h q = simp (ne_eqb left 0 h, q)
 
 module _ (m : Machine) (s : List ℕ) (p : Bool) (left steps : ℕ) (q : State) (h0 h1 h2 : Held) (l : Look) (e : l ≡ look_at m s p q h0 h1 h2) where
-  pub choice_halt : l ≡ Halt → Choice.Stop (Halted steps q) ≡ choice_at m s p left steps q h0 h1 h2
+  pub choice_halt : l ≡ Halt → Break (Halted steps q) ≡ choice_at m s p left steps q h0 h1 h2
   unfolding choice_at
   choice_halt z = simp (← e, z)
 
-  pub choice_never : (n : NonHaltProof) → l ≡ Never n → Choice.Stop (NeverHalts steps n) ≡ choice_at m s p left steps q h0 h1 h2
+  pub choice_never : (n : NonHaltProof) → l ≡ Never n → Break (NeverHalts steps n) ≡ choice_at m s p left steps q h0 h1 h2
   unfolding choice_at
   choice_never n z = simp (← e, z)
 
-  pub choice_go : (a : Action) (x : Choice) (roomy : Bool)
+  pub choice_go : (a : Action) (x : ControlFlow Outcome Action) (roomy : Bool)
       → roomy ≡ rooms_of h0.tape h1.tape h2.tape (length h0.cells) (length h1.cells) (length h2.cells) a
       → x ≡ go_of a left steps roomy → l ≡ Go a → x ≡ choice_at m s p left steps q h0 h1 h2
   unfolding choice_at
   choice_go a x roomy r g z = simp (← e, z, g, r)
-
-pub within_of : (m : Machine) (stride : ℕ) (t0 t1 t2 : Tape) (c0 c1 c2 : List ℕ) → AtOk m stride t0 t1 t2 c0 c1 c2 → Within t0 t1 t2
-within_of m stride t0 t1 t2 c0 c1 c2 ok = record {
-  head0 = ok.safe0.ok.head_in;
-  len0 = ok.safe0.ok.len_small;
-  head1 = ok.safe1.ok.head_in;
-  len1 = ok.safe1.ok.len_small;
-  head2 = ok.safe2.ok.head_in;
-  len2 = ok.safe2.ok.len_small;
-}

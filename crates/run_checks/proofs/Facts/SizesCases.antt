@@ -1,20 +1,18 @@
--- The checks of sizes and words: their loop, one fact for each return, and what a passed check says. Assumes nothing.
-use Rattle.std.specs.Prelude.{◌≡◌, refl, Bool, true, false, List, [], ℕ, ◌+◌, ◌*◌, ◌-◌, ◌≤◌, ◌<◌, leb, get_or}
+-- The checks of sizes and words: one fact for each return, and what a passed check says. Assumes nothing.
+use Rattle.std.specs.Prelude.{◌≡◌, ◌↔◌, refl, IsTrue, slice_index, Bool, true, false, List, [], ℕ, ◌+◌, ◌*◌, ◌-◌, ◌≤◌, ◌<◌, leb, get_or, Err, Ok, Result, ⊤}
 use Rattle.std.proofs.Math.Path.{sym, ap}
 use Rattle.std.proofs.Common.{◌∙◌, arith}
 use borrow.Author.Tests.{leb-true, eq-eqb, ne_eqb, eqb-true}
 use Rattle.std.proofs.Math.ListN.{length}
 use Rattle.notation.specs.Choice.{pick, both}
 use Rattle.notation.specs.Scan.{all_in}
-use Rattle.notation.proofs.Facts.Scan.{all_hit, all_next, all_says}
+use Rattle.notation.proofs.Facts.Lists.{all-places}
+use Rattle.notation.proofs.Facts.Scan.{all_says}
 use Rattle.notation.proofs.Facts.Tests.{both_split, pick_true}
 use Rattle.notation.specs.Limits.{steps_most, cells_most}
 use Rattle.outcome.specs.declared.Refusal.{Refusal}
 use Rattle.outcome.specs.declared.Refusal.TheVariants as Why
 use Rattle.machine.specs.declared.Machine.{Machine}
-use Rattle.machine.specs.declared.Entry.{Entry}
-use Rattle.machine.specs.declared.Checked.{Checked}
-use Rattle.machine.specs.declared.Checked.TheVariants.{Accepted, Refused}
 use Rattle.machine.specs.Model.Check.{within, table_check}
 use Rattle.machine.proofs.Facts.Check.{demand_says, on_says, ranges}
 use Rattle.machine.proofs.Facts.CheckCases.{stride_one}
@@ -35,18 +33,6 @@ fuel_says steps fuel e =
 
 -- ---- the words
 
-module _ (s : List ℕ) (k : ℕ) (words : List ℕ) (n i : ℕ) (x : Bool) (from : all_in (word_right s k words) (n - i) i ≡ x) (e : Entry) (w : ℕ)
-    (here : i < n) (found : e ≡ entry_at s i) (word : w ≡ pack_word e k) where
-  is_word : w ≡ word_at s k i
-  unfolding word_at
-  is_word = word ∙ ap (λ (y : Entry). pack_word y k) found
-
-  pub word_differs : (get_or words i 0 ≡ w → ⊥) → false ≡ x
-  word_differs h = all_hit (word_right s k words) n i x from here (ne_eqb _ _ (λ q. h (q ∙ sym is_word)))
-
-  pub word_agrees : get_or words i 0 ≡ w → all_in (word_right s k words) (n - (i + 1)) (i + 1) ≡ x
-  word_agrees q = all_next (word_right s k words) n i x from here (eq-eqb _ _ (q ∙ is_word))
-
 module _ (m : Machine) (s words : List ℕ) where
   pub words_several : (m.tapes ≡ 1 → ⊥) → false ≡ words_right m s words
   unfolding words_right both
@@ -60,9 +46,12 @@ module _ (m : Machine) (s words : List ℕ) where
     unfolding words_right both
     words_number h = simp (eq-eqb _ _ one, ne_eqb _ _ (λ (q : length words ≡ entry_count m). h (q ∙ sym count_is)))
 
-    pub words_compared : (x : Bool) → x ≡ all_in (word_right s m.symbols words) (m.states * m.symbols) 0 → length words ≡ m.states * m.symbols → x ≡ words_right m s words
-    unfolding words_right both
-    words_compared x e q = simp (eq-eqb _ _ one, eq-eqb _ _ (q ∙ count_is)) (e ∙ ap (λ (n : ℕ). all_in (word_right s m.symbols words) n 0) count_is)
+    pub words_compared : (x : Bool) → IsTrue x ↔ ((i : ℕ) → i < length words → slice_index words i ≡ pack_word (entry_at s i) m.symbols) → length words ≡ m.states * m.symbols → x ≡ words_right m s words
+    unfolding words_right word_at both
+    words_compared x e q =
+        let n : length words ≡ entry_count m = q ∙ count_is in
+        let r : x ≡ all_in (word_right s m.symbols words) (length words) 0 = all-places (λ i. slice_index words i ≡ pack_word (entry_at s i) m.symbols) (word_right s m.symbols words) (length words) (λ i h g. eq-eqb _ _ g) (λ i h g. eqb-true _ _ g) x e in
+        simp (eq-eqb _ _ one, eq-eqb _ _ n) (r ∙ ap (λ (j : ℕ). all_in (word_right s m.symbols words) j 0) n)
 
 -- where the words are right: one tape, and each word is that of its entry
 pub words_say : (m : Machine) (s words : List ℕ) → words_right m s words ≡ true
@@ -77,29 +66,29 @@ words_say m s words e =
 
 -- ---- a fresh engine
 
-module _ (m : Machine) (s w : List ℕ) (n0 n1 n2 : ℕ) (r : Checked) (checked : r ≡ table_check m s) where
-  pub fresh_table : (why : Refusal) → r ≡ Refused why → Refused why ≡ fresh_check m s w n0 n1 n2
+module _ (m : Machine) (s w : List ℕ) (n0 n1 n2 : ℕ) (r : Result ⊤ Refusal) (checked : r ≡ table_check m s) where
+  pub fresh_table : (why : Refusal) → r ≡ Err why → Err why ≡ fresh_check m s w n0 n1 n2
   unfolding fresh_check
   fresh_table why e = rw (← checked, e)
 
-  module _ (passed : r ≡ Accepted) (q : Checked) (spelled : q ≡ word_check m.symbols w) where
-    pub fresh_word : (why : Refusal) → q ≡ Refused why → Refused why ≡ fresh_check m s w n0 n1 n2
+  module _ (passed : r ≡ Ok tt) (q : Result ⊤ Refusal) (spelled : q ≡ word_check m.symbols w) where
+    pub fresh_word : (why : Refusal) → q ≡ Err why → Err why ≡ fresh_check m s w n0 n1 n2
     unfolding fresh_check
     fresh_word why e = rw (← checked, passed, ← spelled, e)
 
-    module _ (fine : q ≡ Accepted) (z : Bool) (sizes : z ≡ fresh_sizes m (length w) n0 n1 n2) where
-      pub fresh_small : z ≡ false → Refused Why.BufferSize ≡ fresh_check m s w n0 n1 n2
+    module _ (fine : q ≡ Ok tt) (z : Bool) (sizes : z ≡ fresh_sizes m (length w) n0 n1 n2) where
+      pub fresh_small : z ≡ false → Err Why.BufferSize ≡ fresh_check m s w n0 n1 n2
       unfolding fresh_check pick
       fresh_small e = rw (← checked, passed, ← spelled, fine, ← sizes, e)
 
-      pub fresh_passed : z ≡ true → Accepted ≡ fresh_check m s w n0 n1 n2
+      pub fresh_passed : z ≡ true → (Ok tt) ≡ fresh_check m s w n0 n1 n2
       unfolding fresh_check pick
       fresh_passed e = rw (← checked, passed, ← spelled, fine, ← sizes, e)
 
 -- what a passed check says
 pub record FreshPassed (m : Machine) (s w : List ℕ) (n0 n1 n2 : ℕ) : Type 0 where
-  pub table : table_check m s ≡ Accepted
-  pub word : word_check m.symbols w ≡ Accepted
+  pub table : table_check m s ≡ Ok tt
+  pub word : word_check m.symbols w ≡ Ok tt
   pub room0 : 32 + length w ≤ n0
   pub room1 : if_has (has1 m) (leb 32 n1) ≡ true
   pub room2 : if_has (has2 m) (leb 32 n2) ≡ true
@@ -111,7 +100,7 @@ unfolding pick
 has_room true n e = (both_split e).0
 has_room false n e = refl
 
-pub fresh_says : (m : Machine) (s w : List ℕ) (n0 n1 n2 : ℕ) → fresh_check m s w n0 n1 n2 ≡ Accepted → FreshPassed m s w n0 n1 n2
+pub fresh_says : (m : Machine) (s w : List ℕ) (n0 n1 n2 : ℕ) → fresh_check m s w n0 n1 n2 ≡ Ok tt → FreshPassed m s w n0 n1 n2
 unfolding fresh_check fresh_sizes
 fresh_says m s w n0 n1 n2 e =
     let t = on_says _ _ e in
@@ -129,7 +118,7 @@ fresh_says m s w n0 n1 n2 e =
       start_fits = omega (arith, g.start_in, g.states_high);
     }
 
-pub fresh_ok : (m : Machine) (s w : List ℕ) (n0 n1 n2 : ℕ) (r : Checked) → r ≡ fresh_check m s w n0 n1 n2 → r ≡ Accepted → FreshPassed m s w n0 n1 n2
+pub fresh_ok : (m : Machine) (s w : List ℕ) (n0 n1 n2 : ℕ) (r : Result ⊤ Refusal) → r ≡ fresh_check m s w n0 n1 n2 → r ≡ Ok tt → FreshPassed m s w n0 n1 n2
 fresh_ok m s w n0 n1 n2 r e a = fresh_says m s w n0 n1 n2 (sym e ∙ a)
 
 -- ---- a blank tape

@@ -1,7 +1,9 @@
 -- The lookup, the never test and the decision before a step of a run, over tapes and their cells. Definitions only.
-use Rattle.std.specs.Prelude.{◌≡◌, Bool, true, false, List, ℕ, ◌≤◌, eqb, length}
+use Rattle.outcome.specs.declared.Outcome.{Outcome}
+use Rattle.std.specs.declared.ops.ControlFlow.{ControlFlow}
+use Rattle.std.specs.declared.ops.ControlFlow.TheVariants.{Break, Continue}
+use Rattle.std.specs.Prelude.{◌≡◌, Bool, true, false, List, ℕ, ◌≤◌, eqb, length, None, Option, Some}
 use Rattle.notation.specs.Choice.{pick, both}
-use Rattle.notation.specs.Limits.{cells_most}
 use Rattle.symbol.specs.declared.State.{State}
 use Rattle.symbol.specs.declared.Dir.{Dir}
 use Rattle.symbol.specs.declared.Dir.TheVariants.{L, R, N}
@@ -10,8 +12,6 @@ use Rattle.outcome.specs.declared.NonHaltProof.TheVariants.{StayLoop, ChainToInf
 use Rattle.outcome.specs.declared.Outcome.TheVariants.{Halted, OutOfFuel, NeverHalts, Full}
 use Rattle.machine.specs.declared.Machine.{Machine}
 use Rattle.machine.specs.declared.Action.{Action}
-use Rattle.machine.specs.declared.Entry.{Entry}
-use Rattle.machine.specs.declared.Entry.TheVariants.{Undefined, Defined}
 use Rattle.machine.specs.Layout.{stride_of, entry_number, entry_at}
 use Rattle.tape.specs.declared.Tape.{Tape}
 use Rattle.tape.specs.Model.Moves.{Held, read_of, room_for}
@@ -19,8 +19,6 @@ use Rattle.tape.specs.Fits.{TapeSafe}
 use Rattle.tape.specs.Model.Questions.{blank_beyond}
 use Rattle.run_checks.specs.declared.inner.look.Look.{Look}
 use Rattle.run_checks.specs.declared.inner.look.Look.TheVariants.{Halt, Never, Go}
-use Rattle.run_checks.specs.declared.inner.look.Choice.{Choice}
-use Rattle.run_checks.specs.declared.inner.look.Choice.TheVariants as Choice
 
 -- ---- the look: no entry; else, where the never test is made, a proved loop; else the entry
 
@@ -48,11 +46,11 @@ loop_of tapes q a r0 r1 r2 h =
 unfoldable pub judge_of : (proves : Bool) (tapes : ℕ) → State → Action → (r0 r1 r2 : ℕ) → Held → Look
 judge_of p tapes q a r0 r1 r2 h = pick (both p (eqb a.next.0 q.0)) (loop_of tapes q a r0 r1 r2 h) (Go a)
 
-unfoldable pub look_on : Entry → (proves : Bool) (tapes : ℕ) → State → (r0 r1 r2 : ℕ) → Held → Look
-look_on Undefined p tapes q r0 r1 r2 h = Halt
-look_on (Defined a) p tapes q r0 r1 r2 h = judge_of p tapes q a r0 r1 r2 h
+unfoldable pub look_on : Option Action → (proves : Bool) (tapes : ℕ) → State → (r0 r1 r2 : ℕ) → Held → Look
+look_on None p tapes q r0 r1 r2 h = Halt
+look_on (Some a) p tapes q r0 r1 r2 h = judge_of p tapes q a r0 r1 r2 h
 
-unfoldable pub entry_of : Machine → List ℕ → State → (r0 r1 r2 : ℕ) → Entry
+unfoldable pub entry_of : Machine → List ℕ → State → (r0 r1 r2 : ℕ) → Option Action
 entry_of m s q r0 r1 r2 = entry_at s (entry_number m.symbols (stride_of m) q.0 r0 r1 r2)
 
 -- the look in state q, on three tapes
@@ -74,28 +72,19 @@ rooms_of t0 t1 t2 n0 n1 n2 a =
 
 -- ---- the choice: halted, never, fuel, space, in that order; else the entry is followed
 
-unfoldable pub go_of : Action → (left steps : ℕ) → (roomy : Bool) → Choice
+unfoldable pub go_of : Action → (left steps : ℕ) → (roomy : Bool) → ControlFlow Outcome Action
 go_of a left steps roomy =
-    pick (eqb left 0) (Choice.Stop (OutOfFuel steps))
-    (pick roomy (Choice.Go a) (Choice.Stop (Full steps)))
+    pick (eqb left 0) (Break (OutOfFuel steps))
+    (pick roomy (Continue a) (Break (Full steps)))
 
-unfoldable pub choice_at : Machine → List ℕ → (proves : Bool) → (left steps : ℕ) → State → Held → Held → Held → Choice
+unfoldable pub choice_at : Machine → List ℕ → (proves : Bool) → (left steps : ℕ) → State → Held → Held → Held → ControlFlow Outcome Action
 choice_at m s p left steps q h0 h1 h2 =
     on_look (look_at m s p q h0 h1 h2)
-    (Choice.Stop (Halted steps q))
-    (λ proof. Choice.Stop (NeverHalts steps proof))
+    (Break (Halted steps q))
+    (λ proof. Break (NeverHalts steps proof))
     (λ a. go_of a left steps (rooms_of h0.tape h1.tape h2.tape (length h0.cells) (length h1.cells) (length h2.cells) a))
 
 -- ---- what the functions may assume
-
--- each head is at most its tape's length, and each length at most 2^30
-pub record Within (t0 t1 t2 : Tape) : Type 0 where
-  pub head0 : t0.head ≤ t0.len
-  pub len0 : t0.len ≤ cells_most
-  pub head1 : t1.head ≤ t1.len
-  pub len1 : t1.len ≤ cells_most
-  pub head2 : t2.head ≤ t2.len
-  pub len2 : t2.len ≤ cells_most
 
 pub record AtOk (m : Machine) (stride : ℕ) (t0 t1 t2 : Tape) (c0 c1 c2 : List ℕ) : Type 0 where
   pub symbols_in : m.symbols ≤ 256

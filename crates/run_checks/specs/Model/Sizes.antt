@@ -1,12 +1,11 @@
 -- The sizes and words that an operation requires before it begins. Definitions only.
-use Rattle.std.specs.Prelude.{Bool, true, List, [], ℕ, ◌+◌, ◌-◌, eqb, ltb, leb, length, get_or}
+use Rattle.outcome.specs.declared.Refusal.{Refusal}
+use Rattle.std.specs.Prelude.{Bool, true, List, [], ℕ, ◌+◌, ◌-◌, eqb, ltb, leb, length, get_or, Ok, Result, ⊤}
 use Rattle.notation.specs.Choice.{pick, both}
 use Rattle.notation.specs.Limits.{steps_most, cells_most}
 use Rattle.notation.specs.Scan.{all_in}
 use Rattle.outcome.specs.declared.Refusal.TheVariants as Why
 use Rattle.machine.specs.declared.Machine.{Machine}
-use Rattle.machine.specs.declared.Checked.{Checked}
-use Rattle.machine.specs.declared.Checked.TheVariants.{Accepted}
 use Rattle.machine.specs.Model.Check.{within, demand, checked_on, table_check}
 use Rattle.machine.specs.Layout.{entry_count}
 use Rattle.machine.specs.Model.Packing.{word_at}
@@ -55,10 +54,10 @@ unfoldable pub fresh_sizes : Machine → (n n0 n1 n2 : ℕ) → Bool
 fresh_sizes m n n0 n1 n2 =
     both (within (n + 32) cells_most n0) (both (if_has (has1 m) (within 32 cells_most n1)) (if_has (has2 m) (within 32 cells_most n2)))
 
-unfoldable pub fresh_check : Machine → (s w : List ℕ) → (n0 n1 n2 : ℕ) → Checked
+unfoldable pub fresh_check : Machine → (s w : List ℕ) → (n0 n1 n2 : ℕ) → Result ⊤ Refusal
 fresh_check m s w n0 n1 n2 =
     checked_on (table_check m s)
-    (checked_on (word_check m.symbols w) (demand (fresh_sizes m (length w) n0 n1 n2) Why.BufferSize Accepted))
+    (checked_on (word_check m.symbols w) (demand (fresh_sizes m (length w) n0 n1 n2) Why.BufferSize (Ok tt)))
 
 -- a tape of the machine starts blank; the cells of one that it lacks are unchanged
 abbrev pub blank_tape : Bool → List ℕ → Held

@@ -7,7 +7,7 @@ ghost use Rattle.tape.specs.Fits.{tape_fits};
 ghost use Rattle.tape.specs.Model.Moves.{held};
 ghost use Rattle.run_checks.specs.Model.Sizes.{if_has, sizes_fit, fuel_fits, fresh_sizes, fresh_check, blank_tape};
 
-use machine::{Checked, Machine};
+use machine::Machine;
 use notation::limits;
 use outcome::Refusal;
 use tape::Tape;
@@ -98,29 +98,15 @@ pub fn fresh_check(
     n0: usize,
     n1: usize,
     n2: usize,
-) -> Checked
+) -> Result<(), Refusal>
     ensures { result ≡ fresh_check m table.now word.now n0 n1 n2 }
 {
-    let checked = m.check(table);
-    match checked {
-        Checked::Refused(why) => {
-            return Checked::Refused(why);
-        }
-        Checked::Accepted => {
-            let spelled = machine::word::check_word(m.symbols, word);
-            match spelled {
-                Checked::Refused(why) => {
-                    return Checked::Refused(why);
-                }
-                Checked::Accepted => {
-                    if !fresh_sizes(m, word.len(), n0, n1, n2) {
-                        return Checked::Refused(Refusal::BufferSize);
-                    }
-                    return Checked::Accepted;
-                }
-            }
-        }
+    m.check(table)?;
+    machine::word::check_word(m.symbols, word)?;
+    if !fresh_sizes(m, word.len(), n0, n1, n2) {
+        return Err(Refusal::BufferSize);
     }
+    Ok(())
 }
 
 // Makes a blank tape where the machine has it; else leaves the cells unchanged.

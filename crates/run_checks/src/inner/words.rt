@@ -1,25 +1,20 @@
 // The test that packed words are those of the table.
-ghost use Rattle.std.specs.Prelude.{◌≡◌, ◌≤◌, length};
-ghost use Rattle.notation.specs.Scan.{all_in};
-ghost use Rattle.run_checks.specs.Model.Sizes.{word_right, words_right};
+ghost use Rattle.std.specs.Prelude.{◌≡◌, ◌↔◌, ℕ, ◌≤◌, ◌<◌, IsTrue, length, slice_index};
+ghost use Rattle.machine.specs.Layout.{entry_at};
+ghost use Rattle.machine.specs.Model.Packing.{pack_word};
+ghost use Rattle.run_checks.specs.Model.Sizes.{words_right};
 
 use machine::Machine;
 use machine::packed::Packed;
 
-fn same_words(table: &[u8], stride: u64, words: &[u64], count: u64) -> bool
-    requires { count ≤ length words.now }
-    ensures { result ≡ all_in (word_right table.now stride words.now) count 0 }
+// Whether each word is that of its entry.
+fn same_words(table: &[u8], stride: u64, words: &[u64]) -> bool
+    ensures { IsTrue result ↔ ((i : ℕ) → i < length words.now → slice_index words.now i ≡ pack_word (entry_at table.now i) stride) }
 {
-    let mut i: u64 = 0;
-    while i < count {
-        let at = i as usize;
-        let word = Packed::new(machine::inner::entry_at(table, at), stride);
-        if words[at] != word.0 {
-            return false;
-        }
-        i += 1;
-    }
-    true
+    words.iter().enumerate().all(|(i, &word)| {
+        let entry = machine::inner::entry_at(table, i);
+        word == Packed::new(entry, stride).0
+    })
 }
 
 // Whether the machine has one tape and the words are its packed table, no fewer and no more.
@@ -34,5 +29,5 @@ pub fn words_right(m: Machine, table: &[u8], words: &[u64]) -> bool
     if words.len() as u64 != count {
         return false;
     }
-    same_words(table, m.symbols, words, count)
+    same_words(table, m.symbols, words)
 }

@@ -1,21 +1,19 @@
 -- What stays the same through a run of either engine, and the stop rule. Definitions only.
-use Rattle.std.specs.Prelude.{Bool, false, List, ℕ, eqb}
+use Rattle.std.specs.Prelude.{Bool, false, List, ℕ, eqb, None, Option, Some}
 use Rattle.symbol.specs.declared.State.{State}
 use Rattle.machine.specs.declared.Machine.{Machine}
-use Rattle.run_rules.specs.declared.StopRule.{StopRule}
-use Rattle.run_rules.specs.declared.StopRule.TheVariants as Rule
 
 pub record Task : Type 0 where
   pub machine : Machine
   pub table : List ℕ
   -- whether the never test is made
   pub proves : Bool
-  pub rule : StopRule
+  pub rule : Option State
 
-abbrev pub task : Machine → List ℕ → Bool → StopRule → Task
+abbrev pub task : Machine → List ℕ → Bool → Option State → Task
 task m s p r = record { machine = m; table = s; proves = p; rule = r }
 
 -- "none, or a `from` state, one not below n never matching"
-unfoldable pub matches : StopRule → State → Bool
-matches Rule.Never q = false
-matches (Rule.From p) q = eqb p.0 q.0
+unfoldable pub matches : Option State → State → Bool
+matches None q = false
+matches (Some p) q = eqb p.0 q.0

@@ -1,6 +1,6 @@
 -- Bursts inside a run, one fact for each way through the code. Assumes nothing.
-use Rattle.std.specs.Prelude.{◌≡◌, refl, Bool, true, false, List, ℕ, ◌+◌, ◌*◌, ◌-◌, ◌≤◌, ◌<◌, leb, take}
-use Rattle.std.proofs.Common.{sym, ◌∙◌, arith, leb-true, ne_eqb}
+use Rattle.std.specs.Prelude.{◌≡◌, refl, Bool, true, false, List, ℕ, ◌+◌, ◌*◌, ◌-◌, ◌≤◌, ◌<◌, take, None, Ok, Option, Some}
+use Rattle.std.proofs.Common.{sym, ◌∙◌, arith, ne_eqb}
 use Rattle.std.proofs.Math.Path.{ap}
 use Rattle.std.proofs.Math.ListN.{length}
 use Rattle.std.proofs.Math.Seq.{length-take-le, get_or-take}
@@ -10,31 +10,27 @@ use Rattle.notation.proofs.Facts.Tests.{clash}
 use Rattle.notation.specs.Limits.{steps_most}
 use Rattle.symbol.specs.declared.State.{State}
 use Rattle.machine.specs.declared.Machine.{Machine}
-use Rattle.machine.specs.declared.Checked.TheVariants.{Accepted}
 use Rattle.machine.specs.Model.Check.{table_check}
 use Rattle.machine.specs.Model.Packing.{word_at}
 use Rattle.tape.specs.Fits.{TapeOk, TapeSafe}
 use Rattle.sim.specs.declared.Simulator.{Simulator}
-use Rattle.run_rules.specs.declared.StopRule.{StopRule}
-use Rattle.run_rules.specs.declared.StopRule.TheVariants as Rule
 use Rattle.sim_burst.specs.declared.inner.step.BurstState.{BurstState}
 use Rattle.sim_burst.specs.Model.Burst.{BurstOk, Reached}
-use Rattle.sim_burst.specs.Model.Words.{Packs}
-use Rattle.sim_burst.proofs.Facts.Words.{packs_of}
+use Rattle.sim_burst.specs.Model.Words.{WordsOk}
 use Rattle.sim.specs.Model.Engine.{task, Conf, matches}
 use Rattle.sim.specs.Model.Turns.{RunOk}
 use Rattle.sim.proofs.Facts.TurnCases.{RunInv}
 use Rattle.sim.proofs.Facts.BurstSteps.{walked}
-use Rattle.sim.specs.Model.Bursts.{Misses, WordsIf, Small, SmallIf, burst_start, into, BurstAllowed, BurstAllowedIf, OneTapeOk, SameRunOne, SameRun}
+use Rattle.sim.specs.Model.Bursts.{Misses, Small, burst_start, into, BurstAllowed, BurstAllowedIf, OneTapeOk, SameRunOne, SameRun}
 
 -- ---- the stop rule's state
 
-module _ (rule : StopRule) where
-  pub misses_never : (stop : ℕ) → rule ≡ Rule.Never → Misses rule stop
+module _ (rule : Option State) where
+  pub misses_never : (stop : ℕ) → rule ≡ None → Misses rule stop
   unfolding matches
   misses_never stop e = record { misses = λ q h. rw e }
 
-  pub misses_from : (p : State) → rule ≡ Rule.From p → Misses rule p.0
+  pub misses_from : (p : State) → rule ≡ Some p → Misses rule p.0
   unfolding matches
   misses_from p e = record { misses = λ q h. rw e (ne_eqb p.0 q (λ z. h (sym z))) }
 
@@ -110,10 +106,6 @@ module _ (m : Machine) (s : List ℕ) (p : Bool) (stop : ℕ) (v : Simulator) (c
   pub same_run_burst : (Known : List ℕ → Type 0) → Known s → Reached Known p stop m.symbols v.t0.len start c at c' → SameRunOne m s p stop v c left v' c' left'
   same_run_burst Known known r = rw (after.0, after.1) (same_run Known known (rw from.0 at r))
 
-  pub same_run_words : (words : List ℕ) (packed : Bool) → WordsIf packed m s words → packed ≡ true
-      → Reached (Packs words m.symbols) p stop m.symbols v.t0.len start c at c' → SameRunOne m s p stop v c left v' c' left'
-  same_run_words words packed w t r = same_run_burst (Packs words m.symbols) (packs_of m s words (w.words_ok t)) r
-
 -- ---- a burst in the loop
 
 pub burst_asks : (m : Machine) (stride : ℕ) (v : Simulator) (c0 c1 c2 : List ℕ) (left : ℕ) → RunOk m stride v c0 c1 c2 left → OneTapeOk m v c0 left
@@ -130,7 +122,7 @@ same_run_one m s p stop v v' c0 c1 c2 d0 left left' r = record {
   lens2 = refl;
 }
 
-pub same_run_inv : (m : Machine) (s : List ℕ) (p : Bool) (rule : StopRule) (stride fuel : ℕ) (σ : Conf) (v : Simulator) (c0 c1 c2 : List ℕ) (left : ℕ)
+pub same_run_inv : (m : Machine) (s : List ℕ) (p : Bool) (rule : Option State) (stride fuel : ℕ) (σ : Conf) (v : Simulator) (c0 c1 c2 : List ℕ) (left : ℕ)
     → RunInv (task m s p rule) stride fuel σ v c0 c1 c2 left → (stop : ℕ) (v' : Simulator) (d0 d1 d2 : List ℕ) (left' : ℕ) → Misses rule stop
     → SameRun m s p stop v c0 c1 c2 left v' d0 d1 d2 left' → RunInv (task m s p rule) stride fuel σ v' d0 d1 d2 left'
 same_run_inv m s p rule stride fuel σ v c0 c1 c2 left i stop v' d0 d1 d2 left' miss r =
@@ -142,34 +134,18 @@ same_run_inv m s p rule stride fuel σ v c0 c1 c2 left i stop v' d0 d1 d2 left' 
       len2 = r.lens2 ∙ i.len2;
     }
 
--- ---- where no words are given
-
-pub words-none : (m : Machine) (s words : List ℕ) → WordsIf false m s words
-words-none m s words = record { words_ok = λ z. absurd (clash z refl) }
-
-pub words-given : (b : Bool) (m : Machine) (s words : List ℕ) → WordsIf b m s words → b ≡ true → WordsIf true m s words
-words-given b m s words w e = record { words_ok = λ _. w.words_ok e }
-
 -- ---- a small table, packed into the first words of an array of 256
 
 module _ (m : Machine) where
-  pub small_not : SmallIf false m
-  small_not = record { small = λ z. absurd (clash z refl) }
-
-  pub small_if : m.tapes ≡ 1 → SmallIf (leb (m.states * m.symbols) 256) m
-  small_if e = record { small = λ z. record { one_tape_holds = e; count_in = leb-true _ _ z } }
-
-  pub small_words : (s out words : List ℕ) → table_check m s ≡ Accepted → Small m → length out ≡ 256
-      → words ≡ fill_from (word_at s m.symbols) (m.states * m.symbols) 0 out → WordsIf true m s (take (m.states * m.symbols) words)
+  pub small_words : (s out words : List ℕ) → table_check m s ≡ Ok tt → Small m → length out ≡ 256
+      → words ≡ fill_from (word_at s m.symbols) (m.states * m.symbols) 0 out → WordsOk m s (take (m.states * m.symbols) words)
   unfolding word_at
   small_words s out words t small room e =
       let c : m.states * m.symbols ≤ 256 = small.count_in in
       let l : length words ≡ length out = ap length e ∙ length_fill _ _ 0 out in
       record {
-        words_ok = λ _. record {
-          checked = t;
-          one_tape_holds = small.one_tape_holds;
-          count = length-take-le _ words (omega arith);
-          holds = λ i h. get_or-take _ words i 0 h ∙ rw e (fill_in _ _ 0 out i 0 (omega arith) (omega arith) (omega arith));
-        };
+        checked = t;
+        one_tape_holds = small.one_tape_holds;
+        count = length-take-le _ words (omega arith);
+        holds = λ i h. get_or-take _ words i 0 h ∙ rw e (fill_in _ _ 0 out i 0 (omega arith) (omega arith) (omega arith));
       }

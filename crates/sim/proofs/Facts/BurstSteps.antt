@@ -1,5 +1,6 @@
 -- One ordinary step of a burst is one step of the run, for every table that has the entry which the burst follows. Assumes nothing.
-use Rattle.std.specs.Prelude.{◌≡◌, refl, Bool, true, false, List, ℕ, ◌+◌, ◌*◌, ◌-◌, ◌≤◌, min, max, get_or, set}
+use Rattle.symbol.specs.declared.State.{State}
+use Rattle.std.specs.Prelude.{◌≡◌, refl, Bool, true, false, List, ℕ, ◌+◌, ◌*◌, ◌-◌, ◌≤◌, min, max, get_or, set, Option}
 use Rattle.std.proofs.Math.Path.{sym}
 use Rattle.std.proofs.Common.{◌∙◌, arith, ne_eqb}
 use Rattle.notation.specs.Choice.{pick, both}
@@ -17,14 +18,13 @@ use Rattle.sim_burst.specs.Model.Burst.{Says, Ordinary, unasked, goes_on, rewrit
 use Rattle.run_checks.specs.declared.inner.look.Look.TheVariants.{Go}
 use Rattle.run_checks.proofs.Facts.LookCases.{judge_off, look_judged}
 use Rattle.sim.specs.declared.Simulator.{Simulator}
-use Rattle.run_rules.specs.declared.StopRule.{StopRule}
 use Rattle.sim.specs.Model.Engine.{Task, task, Conf, conf, tape0, tape1, tape2, stays_all, judge_of, look_with, look_of, rooms_of, roomy_of, step_of, run_of}
 use Rattle.sim.proofs.Facts.EngineCases.{stepped, run_next}
 use Rattle.sim.specs.Model.Bursts.{Misses, into, BurstAllowed}
 use Rattle.sim.proofs.Facts.OrdinaryStep.{not_blank_left, not_blank_right, beyond_none, go_leaves, go_reads, go_sees, moves_left, moves_right, writes_other, number-left, number_right, number-none, reads_there, reads_none, entry_of_one}
 
 -- a table s that is Known to the burst, and an engine v on which it may run
-module _ (Known : List ℕ → Type 0) (m : Machine) (s : List ℕ) (known : Known s) (p : Bool) (rule : StopRule) (stop : ℕ) (v : Simulator) (c1 c2 : List ℕ)
+module _ (Known : List ℕ → Type 0) (m : Machine) (s : List ℕ) (known : Known s) (p : Bool) (rule : Option State) (stop : ℕ) (v : Simulator) (c1 c2 : List ℕ)
     (burst_allowed : BurstAllowed m.tapes v) (miss : Misses rule stop) where
   abbrev job : Task
   job = task m s p rule

@@ -1,5 +1,5 @@
 -- The look, the step and the run, one fact for each way through the code. Assumes nothing.
-use Rattle.std.specs.Prelude.{◌≡◌, refl, Bool, true, false, List, ℕ, ◌+◌, ◌-◌, eqb}
+use Rattle.std.specs.Prelude.{◌≡◌, refl, Bool, true, false, List, ℕ, ◌+◌, ◌-◌, eqb, Some}
 use Rattle.std.proofs.Common.{ap, ◌∙◌, eq-eqb}
 use Rattle.notation.specs.Choice.{pick}
 use Rattle.notation.proofs.Facts.Tests.{both_split}
@@ -9,7 +9,6 @@ use Rattle.machine.specs.declared.Action.{Action}
 use Rattle.tape.specs.declared.Tape.{Tape}
 use Rattle.tape.specs.Model.Moves.{held, room_for, act_of}
 use Rattle.sim.specs.declared.Simulator.{Simulator}
-use Rattle.run_rules.specs.declared.StopRule.TheVariants as Rule
 pub use Rattle.run_checks.proofs.Facts.LookCases.{entry_is}
 use Rattle.run_checks.specs.declared.inner.look.Look.{Look}
 use Rattle.run_rules.proofs.Facts.RunCases as Course
@@ -68,7 +67,7 @@ abbrev once_end : End → Once
 once_end x = once x.at (status_of x.outcome)
 
 -- a run that stops after a step from this state is one step
-pub once-run : (m : Machine) (s : List ℕ) (σ : Conf) (x : End) → x ≡ run_of (task m s false (Rule.From σ.sim.state)) 1 σ
+pub once-run : (m : Machine) (s : List ℕ) (σ : Conf) (x : End) → x ≡ run_of (task m s false (Some σ.sim.state)) 1 σ
     → once x.at (status_of x.outcome) ≡ once_of m s σ
 unfolding once_of run_of run_with pick matches
 once-run m s σ x e = ap once_end e ∙ look (look_with m s false σ) refl
@@ -76,11 +75,11 @@ once-run m s σ x e = ap once_end e ∙ look (look_with m s false σ) refl
     stops : eqb σ.sim.state.0 σ.sim.state.0 ≡ true
     stops = eq-eqb σ.sim.state.0 σ.sim.state.0 refl
 
-    rooms : (a : Action) → look_with m s false σ ≡ Go a → (r : Bool) → roomy_of σ a ≡ r → once_end (run_of (task m s false (Rule.From σ.sim.state)) 1 σ) ≡ once_of m s σ
+    rooms : (a : Action) → look_with m s false σ ≡ Go a → (r : Bool) → roomy_of σ a ≡ r → once_end (run_of (task m s false (Some σ.sim.state)) 1 σ) ≡ once_of m s σ
     rooms a l true r = simp (l, r, stops)
     rooms a l false r = simp (l, r)
 
-    look : (l : Look) → look_with m s false σ ≡ l → once_end (run_of (task m s false (Rule.From σ.sim.state)) 1 σ) ≡ once_of m s σ
+    look : (l : Look) → look_with m s false σ ≡ l → once_end (run_of (task m s false (Some σ.sim.state)) 1 σ) ≡ once_of m s σ
     look Halt l = simp l
     look (Never p) l = simp l
     look (Go a) l = rooms a l (roomy_of σ a) refl

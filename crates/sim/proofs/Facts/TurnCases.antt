@@ -1,4 +1,6 @@
 -- What the choice before a step says about the run, and the cases of the loop. Assumes nothing.
+use Rattle.std.specs.declared.ops.ControlFlow.{ControlFlow}
+use Rattle.std.specs.declared.ops.ControlFlow.TheVariants.{Break, Continue}
 use Rattle.std.specs.Prelude.{◌≡◌, refl, Bool, true, false, List, ℕ, ◌+◌, ◌-◌, ◌≤◌, eqb, length}
 use Rattle.std.proofs.Common.{sym, ap, ◌∙◌, arith, eqb-true}
 use Rattle.std.proofs.Math.Path.{subst⁻¹}
@@ -12,9 +14,6 @@ use Rattle.machine.specs.declared.Action.{Action}
 use Rattle.tape.proofs.Facts.Moves.{act_safe}
 use Rattle.sim.specs.declared.Simulator.{Simulator}
 use Rattle.run_checks.specs.declared.inner.look.Look.{Look}
-use Rattle.run_checks.specs.declared.inner.look.Look.TheVariants as Look
-use Rattle.run_checks.specs.declared.inner.look.Choice.{Choice}
-use Rattle.run_checks.specs.declared.inner.look.Choice.TheVariants.{Stop, Go}
 use Rattle.run_checks.specs.Model.Look.{go_of}
 use Rattle.run_checks.proofs.Facts.LookCases.{go_fuel, go_on, go_full, choice_halt, choice_never, choice_go}
 use Rattle.sim.specs.Model.Engine.{Task, Conf, conf, tape0, tape1, tape2, look_with, look_of, roomy_of, step_of, matches, End, end, run_of}
@@ -23,9 +22,9 @@ use Rattle.sim.proofs.Facts.EngineCases.{run_halt, run_never, run_fuel, run_full
 
 -- ---- what the choice says about the run: it ends here, or it follows the entry
 
-pub data Chosen (k : Task) (f : ℕ) (σ : Conf) (c : Choice) : Type 0 where
-  ends : (o : Outcome) → c ≡ Stop o → run_of k f σ ≡ end σ o → Chosen k f σ c
-  goes : (a : Action) → c ≡ Go a → (f ≡ 0 → ⊥) → look_of k σ ≡ Look.Go a → roomy_of σ a ≡ true → Chosen k f σ c
+pub data Chosen (k : Task) (f : ℕ) (σ : Conf) (c : ControlFlow Outcome Action) : Type 0 where
+  ends : (o : Outcome) → c ≡ Break o → run_of k f σ ≡ end σ o → Chosen k f σ c
+  goes : (a : Action) → c ≡ Continue a → (f ≡ 0 → ⊥) → look_of k σ ≡ Look.Go a → roomy_of σ a ≡ true → Chosen k f σ c
 
 abbrev Here : (k : Task) (f : ℕ) (σ : Conf) → Type 0
 Here k f σ = Chosen k f σ (choice_of k.machine k.table k.proves f σ)
@@ -34,7 +33,7 @@ pub chosen : (k : Task) (f : ℕ) (σ : Conf) → Here k f σ
 unfolding look_with
 chosen k f σ = look (look_of k σ) refl
   where
-    made : (a : Action) (x : Choice) (r : Bool) → look_of k σ ≡ Look.Go a → r ≡ roomy_of σ a → x ≡ go_of a f σ.sim.steps r → choice_of k.machine k.table k.proves f σ ≡ x
+    made : (a : Action) (x : ControlFlow Outcome Action) (r : Bool) → look_of k σ ≡ Look.Go a → r ≡ roomy_of σ a → x ≡ go_of a f σ.sim.steps r → choice_of k.machine k.table k.proves f σ ≡ x
     made a x r e q g = sym (choice_go k.machine k.table k.proves f σ.sim.steps σ.sim.state (tape0 σ) (tape1 σ) (tape2 σ) (Look.Go a) (sym e) a x r q g refl)
 
     space : (a : Action) → look_of k σ ≡ Look.Go a → (f ≡ 0 → ⊥) → Here k f σ
@@ -88,25 +87,25 @@ pub record RunInv (k : Task) (stride fuel : ℕ) (σ : Conf) (v : Simulator) (c0
 pub len_then : (a b c : ℕ) → b ≡ c → a ≡ b → a ≡ c
 len_then a b c q p = p ∙ q
 
-stop_or_go : (c : Choice) (o : Outcome) (a : Action) → c ≡ Stop o → c ≡ Go a → ⊥
+stop_or_go : (c : ControlFlow Outcome Action) (o : Outcome) (a : Action) → c ≡ Break o → c ≡ Continue a → ⊥
 stop_or_go c o a p q = let z : ◌≡◌ {A = ℕ} 0 1 = cc in omega arith
 
 -- the cases of the choice c
-module _ (k : Task) (f : ℕ) (v : Simulator) (c0 c1 c2 : List ℕ) (c : Choice) (e : c ≡ choice_of k.machine k.table k.proves f (conf v c0 c1 c2)) where
+module _ (k : Task) (f : ℕ) (v : Simulator) (c0 c1 c2 : List ℕ) (c : ControlFlow Outcome Action) (e : c ≡ choice_of k.machine k.table k.proves f (conf v c0 c1 c2)) where
   abbrev at : Conf
   at = conf v c0 c1 c2
 
-  pub loop_stop : (o : Outcome) (x : End) → c ≡ Stop o → run_of k f at ≡ x → end at o ≡ x
+  pub loop_stop : (o : Outcome) (x : End) → c ≡ Break o → run_of k f at ≡ x → end at o ≡ x
   loop_stop o x z p = go (chosen k f at)
     where
       go : Here k f at → end at o ≡ x
       go (ends o' q r) =
-          let kc : c ≡ Stop o' = e ∙ q in
+          let kc : c ≡ Break o' = e ∙ q in
           let ko : o ≡ o' = cc in
           ap (end at) ko ∙ sym r ∙ p
       go (goes a q h l r) = absurd (stop_or_go c o a z (e ∙ q))
 
-  module _ (a : Action) (z : c ≡ Go a) where
+  module _ (a : Action) (z : c ≡ Continue a) where
     pub record Follow : Type 0 where
       pub fuel : f ≡ 0 → ⊥
       pub looks : look_of k at ≡ Look.Go a
@@ -118,7 +117,7 @@ module _ (k : Task) (f : ℕ) (v : Simulator) (c0 c1 c2 : List ℕ) (c : Choice)
         go : Here k f at → Follow
         go (ends o q r) = absurd (stop_or_go c o a (e ∙ q) z)
         go (goes a' q h l r) =
-            let kc : c ≡ Go a' = e ∙ q in
+            let kc : c ≡ Continue a' = e ∙ q in
             let ka : a ≡ a' = cc in
             record { fuel = h; looks = rw ka l; roomy = rw ka r }
 

@@ -1,5 +1,5 @@
 -- One ordinary step of a burst on several tapes is one step of the run. Assumes nothing.
-use Rattle.std.specs.Prelude.{◌≡◌, Bool, true, false, List, ℕ, ◌+◌, ◌-◌, ◌≤◌, eqb}
+use Rattle.std.specs.Prelude.{◌≡◌, Bool, true, false, List, ℕ, ◌+◌, ◌-◌, ◌≤◌, eqb, Option, Some}
 use Rattle.std.proofs.Math.Path.{refl, sym}
 use Rattle.std.proofs.Common.{ap, ◌∙◌, arith, eqb-true}
 use Rattle.std.proofs.lemmas.Bool.{eqb-false}
@@ -11,7 +11,6 @@ use Rattle.symbol.specs.declared.Dir.{Dir}
 use Rattle.symbol.specs.declared.Dir.TheVariants.{L, R, N}
 use Rattle.machine.specs.declared.Machine.{Machine}
 use Rattle.machine.specs.declared.Action.{Action}
-use Rattle.machine.specs.declared.Entry.TheVariants.{Defined}
 use Rattle.machine.specs.Layout.{stride_of}
 use Rattle.tape.specs.Model.Moves.{Held, room_for}
 use Rattle.run_checks.specs.declared.inner.look.Look.TheVariants.{Go}
@@ -20,7 +19,6 @@ use Rattle.run_checks.proofs.Facts.LookCases.{look_judged}
 use Rattle.sim_burst_wide.specs.declared.inner.WideBurstState.{WideBurstState}
 use Rattle.sim_burst_wide.specs.Model.{Moving, SafeAll, WideStep, Walk, here, more, Carried}
 use Rattle.sim.specs.declared.Simulator.{Simulator}
-use Rattle.run_rules.specs.declared.StopRule.{StopRule}
 use Rattle.sim.specs.Model.Engine.{Task, task, Conf, conf, tape0, tape1, tape2, look_with, look_of, rooms_of, roomy_of, step_of, run_of}
 use Rattle.sim.proofs.Facts.EngineCases.{stepped, run_next}
 use Rattle.sim.specs.Model.Turns.{RunOk}
@@ -51,7 +49,7 @@ judged p tapes q a r0 r1 r2 h n ordinary = by_test (eqb a.next.0 q.0)
 
 -- ---- one step
 
-module _ (m : Machine) (s : List ℕ) (p : Bool) (rule : StopRule) (stop stride : ℕ) (several : m.tapes ≡ 1 → ⊥) (stride_is : stride ≡ stride_of m) (miss : Misses rule stop) where
+module _ (m : Machine) (s : List ℕ) (p : Bool) (rule : Option State) (stop stride : ℕ) (several : m.tapes ≡ 1 → ⊥) (stride_is : stride ≡ stride_of m) (miss : Misses rule stop) where
   abbrev job : Task
   job = task m s p rule
 
@@ -63,7 +61,7 @@ module _ (m : Machine) (s : List ℕ) (p : Bool) (rule : StopRule) (stop stride 
     unfolding look_with entry_of
     looked =
         sym
-        (look_judged m s p σ.sim.state (tape0 σ) (tape1 σ) (tape2 σ) _ _ _ (Defined b.act) (rw (← stride_is) (sym b.says)) refl refl refl
+        (look_judged m s p σ.sim.state (tape0 σ) (tape1 σ) (tape2 σ) _ _ _ (Some b.act) (rw (← stride_is) (sym b.says)) refl refl refl
         b.act (Go b.act) (judged p m.tapes _ b.act _ _ _ _ several b.ordinary) refl)
 
     roomy : roomy_of σ b.act ≡ true

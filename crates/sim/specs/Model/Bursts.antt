@@ -1,39 +1,30 @@
 -- Bursts inside a run: when one may run on an engine's value, where it starts, and what the value after it keeps. Definitions only.
-use Rattle.std.specs.Prelude.{◌≡◌, Bool, true, false, List, ℕ, ◌+◌, ◌*◌, ◌≤◌, ◌<◌, length}
+use Rattle.symbol.specs.declared.State.{State}
+use Rattle.outcome.specs.declared.Refusal.{Refusal}
+use Rattle.std.specs.Prelude.{◌≡◌, Bool, true, false, List, ℕ, ◌+◌, ◌*◌, ◌≤◌, ◌<◌, length, Ok, Option, Result, ⊤}
 use Rattle.notation.specs.Limits.{steps_most}
 use Rattle.symbol.specs.Kinds.{state_of}
 use Rattle.machine.specs.declared.Machine.{Machine}
-use Rattle.machine.specs.declared.Checked.{Checked}
-use Rattle.machine.specs.declared.Checked.TheVariants.{Accepted}
 use Rattle.tape.specs.Fits.{TapeSafe}
 use Rattle.sim_burst.specs.declared.inner.step.BurstState.{BurstState}
-use Rattle.sim_burst.specs.Model.Words.{WordsOk}
 use Rattle.sim_burst_wide.specs.declared.inner.WideBurstState.{WideBurstState}
 use Rattle.sim.specs.declared.Simulator.{Simulator}
-use Rattle.run_rules.specs.declared.StopRule.{StopRule}
 use Rattle.sim.specs.Model.Engine.{task, Conf, conf, matches, run_of}
 use Rattle.sim.specs.Model.Operations.{run_check}
 use Rattle.sim.specs.Model.Turns.{RunOk}
 
 -- the rule matches no state but stop
-pub record Misses (rule : StopRule) (stop : ℕ) : Type 0 where
+pub record Misses (rule : Option State) (stop : ℕ) : Type 0 where
   pub misses : (q : ℕ) → (q ≡ stop → ⊥) → matches rule (state_of q) ≡ false
 
-pub record WordsIf (b : Bool) (m : Machine) (s words : List ℕ) : Type 0 where
-  pub words_ok : b ≡ true → WordsOk m s words
-
--- where the check passes, the run's check passes too, and the words, where packed is true, are those of the table
-pub record Cleared (checked : Checked) (m : Machine) (s : List ℕ) (packed : Bool) (words : List ℕ) (fuel : ℕ) (σ : Conf) : Type 0 where
-  pub runs : checked ≡ Accepted → run_check m s fuel σ ≡ Accepted
-  pub words_ok : checked ≡ Accepted → WordsIf packed m s words
+-- where the check passes, the run's check passes too
+pub record Cleared (checked : Result ⊤ Refusal) (m : Machine) (s : List ℕ) (fuel : ℕ) (σ : Conf) : Type 0 where
+  pub runs : checked ≡ Ok tt → run_check m s fuel σ ≡ Ok tt
 
 -- one tape, and at most 256 entries, so that their words fit in a local array
 pub record Small (m : Machine) : Type 0 where
   pub one_tape_holds : m.tapes ≡ 1
   pub count_in : m.states * m.symbols ≤ 256
-
-pub record SmallIf (b : Bool) (m : Machine) : Type 0 where
-  pub small : b ≡ true → Small m
 
 -- ---- one tape
 
@@ -80,7 +71,7 @@ pub record OneTapeOk (m : Machine) (v : Simulator) (c : List ℕ) (left : ℕ) :
 -- the run from v' with cells c' has the answer of the run from v with cells c, for every rule that matches no state but stop and
 -- for all contents of the other buffers
 pub record SameRunOne (m : Machine) (s : List ℕ) (proves : Bool) (stop : ℕ) (v : Simulator) (c : List ℕ) (left : ℕ) (v' : Simulator) (c' : List ℕ) (left' : ℕ) : Type 0 where
-  pub same : (rule : StopRule) → Misses rule stop → (c1 c2 : List ℕ)
+  pub same : (rule : Option State) → Misses rule stop → (c1 c2 : List ℕ)
       → run_of (task m s proves rule) left' (conf v' c' c1 c2) ≡ run_of (task m s proves rule) left (conf v c c1 c2)
   pub okay : (stride : ℕ) (c1 c2 : List ℕ) → RunOk m stride v c c1 c2 left → RunOk m stride v' c' c1 c2 left'
   pub less : left' ≤ left
@@ -113,7 +104,7 @@ into_wide steps x =
 -- the run from v' has the answer of the run from v, for every rule that matches no state but stop
 pub record SameRun (m : Machine) (s : List ℕ) (proves : Bool) (stop : ℕ) (v : Simulator) (c0 c1 c2 : List ℕ) (left : ℕ)
     (v' : Simulator) (d0 d1 d2 : List ℕ) (left' : ℕ) : Type 0 where
-  pub same : (rule : StopRule) → Misses rule stop
+  pub same : (rule : Option State) → Misses rule stop
       → run_of (task m s proves rule) left' (conf v' d0 d1 d2) ≡ run_of (task m s proves rule) left (conf v c0 c1 c2)
   pub okay : (stride : ℕ) → RunOk m stride v c0 c1 c2 left → RunOk m stride v' d0 d1 d2 left'
   pub less : left' ≤ left

@@ -1,10 +1,10 @@
 -- What a burst reaches: its start, and one more step. Assumes nothing.
-use Rattle.std.specs.Prelude.{◌≡◌, refl, Bool, true, List, ℕ, ◌+◌, ◌*◌, ◌-◌, ◌≤◌, ◌<◌, length, get_or, set}
-use Rattle.std.proofs.Common.{ap, ◌∙◌, arith, length-set}
-use Rattle.notation.specs.Limits.{cells_most}
+use Rattle.std.specs.Prelude.{◌≡◌, refl, Bool, List, ℕ, ◌+◌, ◌*◌, ◌≤◌, ◌<◌, length, get_or, set}
+use Rattle.std.proofs.Common.{ap, sym, ◌∙◌, arith, length-set}
 use Rattle.machine.specs.Layout.{entry_at}
 use Rattle.sim_burst.specs.declared.inner.step.BurstState.{BurstState}
-use Rattle.sim_burst.specs.Model.Burst.{Says, moved_to, Ordinary, WentIf, BurstOk, Step, Walk, here, more, Reached}
+use Rattle.sim_burst.specs.declared.inner.step.Decoded.{Decoded}
+use Rattle.sim_burst.specs.Model.Burst.{Says, moved_to, Ordinary, Went, EntryOf, RowOk, BurstOk, Step, Walk, here, more, Reached}
 
 module _ (Known : List ℕ → Type 0) (p : Bool) (stop k len : ℕ) where
   pub reached_start : (x : BurstState) (c : List ℕ) → BurstOk c k len x → Reached Known p stop k len x c x c
@@ -27,20 +27,24 @@ module _ (Known : List ℕ → Type 0) (p : Bool) (stop k len : ℕ) where
           state_in_holds = n;
         }
 
-    pub reached_again : (w dir next : ℕ) (z : BurstState) (in-it : Bool) → (y.left ≡ 0 → ⊥) → (y.state ≡ stop → ⊥)
-        → ((s : List ℕ) → Known s → Says (entry_at s (y.state * k + get_or d y.head 0)) w dir next) → next < 65536
-        → Ordinary p d len y.head (get_or d y.head 0) w dir next y.state
-        → WentIf in-it dir len y next z → in-it ≡ true
-        → Reached Known p stop k len x c z (set d y.head w)
-    reached_again w dir next z in-it pos on says small ordinary go f =
-        let st : Step Known p stop k len y d w next z.head
-        = record { ok = r.ok; fuel = pos; goes = on; dir = dir; says = says; ordinary = ordinary; moved = go.moved f; inside = go.inside f } in
-        rw (go.is f)
+    pub reached_again : (t : Decoded) (row i : ℕ) (z : BurstState) → (y.left ≡ 0 → ⊥) → (y.state ≡ stop → ⊥)
+        → RowOk Known k row y.state → i ≡ get_or d y.head 0 → EntryOf Known k (row + i) t
+        → Ordinary p d len y.head (get_or d y.head 0) t.write t.dir t.next y.state
+        → Went t.dir len y t.next z
+        → Reached Known p stop k len x c z (set d y.head t.write)
+    reached_again t row i z pos on at-row e entry ordinary go =
+        let says : (s : List ℕ) → Known s → Says (entry_at s (y.state * k + get_or d y.head 0)) t.write t.dir t.next
+        = λ s n.
+        let same : y.state * k + get_or d y.head 0 ≡ row + i = (λ j. sym (at-row.is s n) j + sym e j) in
+        rw same (entry.is s n).says in
+        let st : Step Known p stop k len y d t.write t.next z.head
+        = record { ok = r.ok; fuel = pos; goes = on; dir = t.dir; says = says; ordinary = ordinary; moved = go.moved; inside = go.inside } in
+        rw go.is
         (record {
-          ok = hot_ok z.head next w (go.inside f) small;
+          ok = hot_ok z.head t.next t.write go.inside entry.small;
           less = omega (arith, r.less);
-          lens = length-set d y.head w ∙ r.lens;
-          walk = more y d w next z.head r.walk st;
+          lens = length-set d y.head t.write ∙ r.lens;
+          walk = more y d t.write t.next z.head r.walk st;
         })
 
     walk_on : (z : BurstState) (e : List ℕ) → Walk Known p stop k len y d z e → Walk Known p stop k len x c z e
@@ -51,11 +55,12 @@ module _ (Known : List ℕ → Type 0) (p : Bool) (stop k len : ℕ) where
     pub reached_on : (z : BurstState) (e : List ℕ) → Reached Known p stop k len y d z e → Reached Known p stop k len x c z e
     reached_on z e t = record { ok = t.ok; less = omega (arith, r.less, t.less); lens = t.lens ∙ r.lens; walk = walk_on z e t.walk }
 
--- a step uses fuel
-pub went_less : (d len : ℕ) (x : BurstState) (next : ℕ) (y : BurstState) (in-it : Bool) → WentIf in-it d len x next y → in-it ≡ true → (x.left ≡ 0 → ⊥) → y.left < x.left
-went_less d len x next y in-it go f h = let l : y.left ≡ x.left - 1 = ap (λ (z : BurstState). z.left) (go.is f) in omega arith
+-- the row of a state, and that after a step
+module _ (Known : List ℕ → Type 0) (k : ℕ) where
+  pub row_start : (row q : ℕ) → row ≡ q * k → row ≤ 16776960 → RowOk Known k row q
+  row_start row q e l = record { small = omega arith; is = λ s n. e }
 
--- what the function `went` requires
-pub went_asks : (c : List ℕ) (k len : ℕ) (x : BurstState) → BurstOk c k len x → (x.left ≡ 0 → ⊥)
-    → (x.head < len) × (len ≤ cells_most) × (x.low ≤ x.head) × (x.head ≤ x.high) × (1 ≤ x.left)
-went_asks c k len x o h = let a = o.len_in in let b = o.cap in (o.head_in, omega arith, o.low_in, o.high_in, omega arith)
+  pub row_again : (i : ℕ) (t : Decoded) → EntryOf Known k i t → (len : ℕ) (x y : BurstState) → Went t.dir len x t.next y → RowOk Known k t.row y.state
+  row_again i t entry len x y go =
+      let q : y.state ≡ t.next = ap (λ (z : BurstState). z.state) go.is in
+      record { small = entry.row_small; is = λ s n. rw q (entry.is s n).row_is }

@@ -1,49 +1,40 @@
--- A table's words decode to its entries, and a burst over them keeps the row of its state. Assumes nothing.
-use Rattle.std.specs.Prelude.{◌≡◌, refl, Bool, true, not, List, ℕ, ◌+◌, ◌*◌, ◌≤◌, ◌<◌, eqb, length, get_or}
+-- A table's words decode to its entries. Assumes nothing.
+use Rattle.std.specs.Prelude.{◌≡◌, refl, true, not, List, ℕ, ◌*◌, ◌<◌, eqb, length, get_or, Option}
 use Rattle.std.proofs.Common.{sym, ap, ◌∙◌, arith}
 use Rattle.std.proofs.lemmas.Bool.{eqb-false, not-true}
 use Rattle.notation.proofs.Facts.Tests.{clash}
 use Rattle.symbol.specs.Kinds.{dir_number}
+use Rattle.machine.specs.declared.Action.{Action}
 use Rattle.machine.specs.declared.Machine.{Machine}
-use Rattle.machine.specs.declared.Entry.{Entry}
 use Rattle.machine.specs.Layout.{entry_count, entry_at}
 use Rattle.machine.proofs.Facts.CheckCases.{stride_one}
-use Rattle.machine.specs.Model.Packing.{undefined_word, action_word, pack_word, word_next, word_row}
+use Rattle.machine.specs.Model.Packing.{undefined_word, action_word, pack_word}
 use Rattle.machine.proofs.Facts.Packed.{Parts, word_parts, OneTapeEntry, nothing, action, entry_one_tape}
-use Rattle.sim_burst.specs.declared.inner.step.BurstState.{BurstState}
-use Rattle.sim_burst.specs.declared.inner.step.Decoded.{Decoded}
-use Rattle.sim_burst.specs.Model.Burst.{Says, Decodes, WentIf}
-use Rattle.sim_burst.specs.Model.Words.{decoded_word, Packs, RowOk, WordsOk}
+use Rattle.sim_burst.specs.Model.Burst.{Says}
+use Rattle.sim_burst.specs.Model.Words.{word_known, decoded_word, Packs, WordsOk}
 
 -- ---- one word
 
--- the word w decodes to the entry e, and has the row of the next state
-record Fit (e : Entry) (k w : ℕ) : Type 0 where
-  tells : Decodes e (decoded_word w)
-  row : (decoded_word w).known ≡ true → word_row w ≡ word_next w * k
+-- what the word w decodes to, where it is known, is the entry e, with the row of the next state
+record Fit (e : Option Action) (k w : ℕ) : Type 0 where
+  says : word_known w ≡ true → Says e (decoded_word w).write (decoded_word w).dir (decoded_word w).next
+  row : word_known w ≡ true → (decoded_word w).row ≡ (decoded_word w).next * k
 
-word_fit : (e : Entry) (k : ℕ) → OneTapeEntry e → Fit e k (pack_word e k)
-word_fit e k nothing =
-    record {
-      tells = record { says = λ z. absurd (clash z refl); small = omega arith };
-      row = λ z. absurd (clash z refl);
-    }
+word_fit : (e : Option Action) (k : ℕ) → OneTapeEntry e → Fit e k (pack_word e k)
+word_fit e k nothing = record { says = λ z. absurd (clash z refl); row = λ z. absurd (clash z refl) }
 word_fit e k (action a o) =
     record {
-      tells = record {
-        says = λ z.
-            let p = parts z in
-            record {
-              act = a;
-              is = refl;
-              writes = sym p.write_is;
-              moves = sym p.dir_is;
-              goes = sym p.next_is;
-              still1 = o.still1;
-              still2 = o.still2;
-            };
-        small = omega arith;
-      };
+      says = λ z.
+          let p = parts z in
+          record {
+            act = a;
+            is = refl;
+            writes = sym p.write_is;
+            moves = sym p.dir_is;
+            goes = sym p.next_is;
+            still1 = o.still1;
+            still2 = o.still2;
+          };
       row = λ z. let p = parts z in p.row_is ∙ ap (λ (n : ℕ). n * k) (sym p.next_is);
     }
   where
@@ -53,7 +44,7 @@ word_fit e k (action a o) =
 -- ---- the words of a table
 
 pub packs_of : (m : Machine) (s words : List ℕ) → WordsOk m s words → Packs words m.symbols s
-packs_of m s words ok = record { tells = λ i h. (fit i h).tells; rows = λ i h. (fit i h).row }
+packs_of m s words ok = record { tells = λ i h z. let f = fit i h in record { says = f.says z; row_is = f.row z } }
   where
     fit : (i : ℕ) → i < length words → Fit (entry_at s i) m.symbols (get_or words i 0)
     fit i h =
@@ -61,28 +52,3 @@ packs_of m s words ok = record { tells = λ i h. (fit i h).tells; rows = λ i h.
         let n : i < m.states * m.symbols = omega arith in
         let t : i < entry_count m = rw (← stride_one m.tapes m.symbols ok.one_tape_holds) n in
         rw (ok.holds i n) (word_fit (entry_at s i) m.symbols (entry_one_tape m s i ok.checked ok.one_tape_holds t))
-
--- ---- the burst
-
--- the decoded word is the entry of every table that has these words
-module _ (words : List ℕ) (k row r : ℕ) (t : Decoded) (here : row + r < length words) (is : t ≡ decoded_word (get_or words (row + r) 0)) (known : t.known ≡ true) where
-  known_word : (decoded_word (get_or words (row + r) 0)).known ≡ true
-  known_word = sym (ap (λ (u : Decoded). u.known) is) ∙ known
-
-  pub word_says : (q read : ℕ) → RowOk words k row q → r ≡ read → (s : List ℕ) → Packs words k s → Says (entry_at s (q * k + read)) t.write t.dir t.next
-  word_says q read ok e s p =
-      let n : q * k + read ≡ row + r = (λ i. sym (ok.is s p) i + sym e i) in
-      rw (n, is) ((p.tells (row + r) here).says known_word)
-
-  -- the row after the step
-  pub row_again : (d len : ℕ) (x y : BurstState) (in-it : Bool) (row' : ℕ) → WentIf in-it d len x t.next y → in-it ≡ true → row' ≡ word_row (get_or words (row + r) 0)
-      → row' ≤ 4294967295 → RowOk words k row' y.state
-  row_again d len x y in-it row' go f z l =
-      let n : y.state ≡ word_next (get_or words (row + r) 0) = ap (λ (h : BurstState). h.state) (go.is f) ∙ ap (λ (u : Decoded). u.next) is in
-      record { small = l; is = λ s p. z ∙ p.rows (row + r) here known_word ∙ ap (λ (m : ℕ). m * k) (sym n) }
-
-pub row_start : (words : List ℕ) (k row q : ℕ) → row ≡ q * k → row ≤ 16776960 → RowOk words k row q
-row_start words k row q e l = record { small = omega arith; is = λ s p. e }
-
-pub word_small : (w : ℕ) (t : Decoded) → t ≡ decoded_word w → t.next < 65536
-word_small w t e = let n : t.next ≡ word_next w = ap (λ (u : Decoded). u.next) e in omega arith

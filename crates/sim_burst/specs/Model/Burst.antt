@@ -1,11 +1,9 @@
 -- A burst of ordinary steps on one tape: its numbers, its tests before each step, and what it keeps. Definitions only.
-use Rattle.std.specs.Prelude.{◌≡◌, Bool, true, false, List, ℕ, ◌+◌, ◌*◌, ◌-◌, ◌≤◌, ◌<◌, min, max, length, get_or, set}
+use Rattle.std.specs.Prelude.{◌≡◌, Bool, true, false, List, ℕ, ◌+◌, ◌*◌, ◌-◌, ◌≤◌, ◌<◌, min, max, length, get_or, set, Option, Some}
 use Rattle.notation.specs.Limits.{cells_most}
 use Rattle.symbol.specs.Kinds.{dir_number}
 use Rattle.symbol.specs.declared.Dir.TheVariants.{N}
 use Rattle.machine.specs.declared.Action.{Action}
-use Rattle.machine.specs.declared.Entry.{Entry}
-use Rattle.machine.specs.declared.Entry.TheVariants.{Defined}
 use Rattle.machine.specs.Layout.{entry_at}
 use Rattle.sim_burst.specs.declared.inner.step.BurstState.{BurstState}
 use Rattle.sim_burst.specs.declared.inner.step.Decoded.{Decoded}
@@ -13,9 +11,9 @@ use Rattle.sim_burst.specs.declared.inner.step.Decoded.{Decoded}
 -- ---- one step
 
 -- the entry is of one tape: write w, make the move with number d, go to state next
-pub record Says (e : Entry) (w d next : ℕ) : Type 0 where
+pub record Says (e : Option Action) (w d next : ℕ) : Type 0 where
   pub act : Action
-  pub is : e ≡ Defined act
+  pub is : e ≡ Some act
   pub writes : act.write0.0 ≡ w
   pub moves : dir_number act.dir0 ≡ d
   pub goes : act.next.0 ≡ next
@@ -59,23 +57,26 @@ pub record RightSeen (c : List ℕ) (head len r : ℕ) : Type 0 where
   pub above : r < len → head < r
   pub seen : r < len → get_or c r 0 ≡ 0 → ⊥
 
-pub record OrdinaryIf (b proves : Bool) (c : List ℕ) (len head read w d next q : ℕ) : Type 0 where
-  pub ordinary : b ≡ true → Ordinary proves c len head read w d next q
-
--- the same, whatever the cells hold
+-- where b is true, the step is surely no proved loop, whatever the cells hold
 pub record OrdinaryByEntry (b proves : Bool) (read w d next q : ℕ) : Type 0 where
   pub ordinary : b ≡ true → (c : List ℕ) (len head : ℕ) → Ordinary proves c len head read w d next q
 
--- where b is true, the step from x stays on the cells and leads to y
-pub record WentIf (b : Bool) (d len : ℕ) (x : BurstState) (next : ℕ) (y : BurstState) : Type 0 where
-  pub moved : b ≡ true → Moved d x.head y.head
-  pub inside : b ≡ true → y.head < len
-  pub is : b ≡ true → y ≡ moved_to x y.head next
+-- the step from x stays on the cells and leads to y
+pub record Went (d len : ℕ) (x : BurstState) (next : ℕ) (y : BurstState) : Type 0 where
+  pub moved : Moved d x.head y.head
+  pub inside : y.head < len
+  pub is : y ≡ moved_to x y.head next
 
--- where t is known, it is what the entry e says; its next state is below 65536 in every case
-pub record Decodes (e : Entry) (t : Decoded) : Type 0 where
-  pub says : t.known ≡ true → Says e t.write t.dir t.next
+-- t is entry i of table s, and has the row of the next state
+pub record EntryIs (k : ℕ) (s : List ℕ) (i : ℕ) (t : Decoded) : Type 0 where
+  pub says : Says (entry_at s i) t.write t.dir t.next
+  pub row_is : t.row ≡ t.next * k
+
+-- t is entry i of every table that is Known; its numbers are small in every case
+pub record EntryOf (Known : List ℕ → Type 0) (k i : ℕ) (t : Decoded) : Type 0 where
+  pub is : (s : List ℕ) → Known s → EntryIs k s i t
   pub small : t.next < 65536
+  pub row_small : t.row ≤ 4294967295
 
 -- ---- a burst
 
@@ -113,6 +114,11 @@ pub record Reached (Known : List ℕ → Type 0) (proves : Bool) (stop k len : �
   pub less : y.left ≤ x.left
   pub lens : length d ≡ length c
   pub walk : Walk Known proves stop k len x c y d
+
+-- the row that a burst keeps is that of its state
+pub record RowOk (Known : List ℕ → Type 0) (k row q : ℕ) : Type 0 where
+  pub small : row ≤ 4294967295
+  pub is : (s : List ℕ) → Known s → row ≡ q * k
 
 -- the table s is the only Known one
 abbrev pub Is : List ℕ → List ℕ → Type 0

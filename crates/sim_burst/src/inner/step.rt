@@ -1,10 +1,8 @@
 // The tests of a burst on one tape before each step: whether the step may be a proved loop, and where it moves the
 // head.
-ghost use Rattle.std.specs.Prelude.{◌≡◌, ◌*◌, ◌≤◌, ◌<◌, length};
+ghost use Rattle.std.specs.Prelude.{◌≡◌, ◌*◌, ◌≤◌, ◌<◌, length, IfSome};
 ghost use Rattle.notation.specs.Limits.{cells_most};
-ghost use Rattle.sim_burst.specs.Model.Burst.{LeftSeen, RightSeen, OrdinaryIf, OrdinaryByEntry, WentIf};
-
-use notation::index;
+ghost use Rattle.sim_burst.specs.Model.Burst.{LeftSeen, RightSeen, Ordinary, OrdinaryByEntry, Went};
 
 // The numbers of a burst: the head, the lowest and the highest head so far, the state, and the fuel left.
 #[derive(Clone, Copy)]
@@ -16,28 +14,21 @@ pub struct BurstState {
     pub left: u64,
 }
 
-// A decoded entry. Where `known` is true, it is defined and moves no other tape. `dir` is the number of the move.
+// A decoded entry, which moves no other tape. `dir` is the number of the move, and `row` the number of the next state's
+// first entry. They are plain numbers, since docs/DECISIONS.md 5.1 keeps the hot loops to these.
 #[derive(Clone, Copy)]
 pub struct Decoded {
-    pub known: bool,
     pub write: u8,
     pub dir: u8,
     pub next: usize,
+    pub row: usize,
 }
 
-// A cell on each side of the head that was not blank when it was found, and whether the step is surely no proved loop.
+// A cell on each side of the head that was not blank when it was found.
 #[derive(Clone, Copy)]
-pub struct Hints {
+pub(crate) struct Hints {
     pub left: usize,
     pub right: usize,
-    pub ordinary: bool,
-}
-
-// The burst after a step, and whether the step stays on the cells.
-#[derive(Clone, Copy)]
-pub struct Landing {
-    pub inside: bool,
-    pub at: BurstState,
 }
 
 pub(crate) fn wide(x: u8) -> usize
@@ -59,14 +50,10 @@ fn scan_left(cells: &[u8], head: usize) -> usize
     requires { head ≤ length cells.now }
     ensures { LeftSeen cells.now head result }
 {
-    let mut i = head;
-    while i > 0 {
-        i -= 1;
-        if cells[i] != 0 {
-            return i;
-        }
-    }
-    head
+    cells[..head]
+        .iter()
+        .rposition(|&cell| cell != 0)
+        .unwrap_or(head)
 }
 
 // The nearest cell above `head` that is not blank, or `len` where there is none.
@@ -74,14 +61,10 @@ fn scan_right(cells: &[u8], head: usize, len: usize) -> usize
     requires { (head < len) × (len ≤ length cells.now) }
     ensures { RightSeen cells.now head len result }
 {
-    let mut i = head + 1;
-    while i < len {
-        if cells[i] != 0 {
-            return i;
-        }
-        i += 1;
-    }
-    len
+    cells[head + 1..len]
+        .iter()
+        .position(|&cell| cell != 0)
+        .map_or(len, |i| head + 1 + i)
 }
 
 // A cell below `head` that is not blank: the hint, where its cell still is not blank, else the result of a scan.
@@ -89,10 +72,8 @@ fn left_of(cells: &[u8], head: usize, hint: usize) -> usize
     requires { head ≤ length cells.now }
     ensures { LeftSeen cells.now head result }
 {
-    if hint < head {
-        if cells[hint] != 0 {
-            return hint;
-        }
+    if hint < head && cells[hint] != 0 {
+        return hint;
     }
     scan_left(cells, head)
 }
@@ -102,12 +83,8 @@ fn right_of(cells: &[u8], head: usize, len: usize, hint: usize) -> usize
     requires { (head < len) × (len ≤ length cells.now) }
     ensures { RightSeen cells.now head len result }
 {
-    if head < hint {
-        if hint < len {
-            if cells[hint] != 0 {
-                return hint;
-            }
-        }
+    if head < hint && hint < len && cells[hint] != 0 {
+        return hint;
     }
     scan_right(cells, head, len)
 }
@@ -117,97 +94,92 @@ pub(crate) fn unseen(len: usize) -> Hints {
     Hints {
         left: len,
         right: 0,
-        ordinary: true,
     }
 }
 
-// Whether the step is surely no proved loop, with the hints that were found on the way.
+// The hints, with what was found on the way, if the step is surely no proved loop.
 pub(crate) fn ordinary(
     cells: &[u8],
     len: usize,
     proves: bool,
     at: BurstState,
     read: u8,
-    decoded: Decoded,
+    entry: Decoded,
     hints: Hints,
-) -> Hints
+) -> Option<Hints>
     requires { (at.head < len) × (len ≤ length cells.now) }
-    ensures { OrdinaryIf result.ordinary proves cells.now len at.head read decoded.write decoded.dir decoded.next at.state }
+    ensures { IfSome result (λ _. Ordinary proves cells.now len at.head read entry.write entry.dir entry.next at.state) }
 {
-    let mut found = hints;
-    found.ordinary = true;
-    if decoded.next != at.state {
-        return found;
+    if entry.next != at.state {
+        return Some(hints);
     }
     if !proves {
-        return found;
+        return Some(hints);
     }
-    if decoded.dir == 2 {
-        found.ordinary = decoded.write != read;
-        return found;
+    if entry.dir == 2 {
+        if entry.write == read {
+            return None;
+        }
+        return Some(hints);
     }
     if read != 0 {
-        return found;
+        return Some(hints);
     }
-    if decoded.dir == 0 {
-        found.left = left_of(cells, at.head, hints.left);
-        found.ordinary = found.left < at.head;
-        return found;
+    if entry.dir == 0 {
+        let left = left_of(cells, at.head, hints.left);
+        if at.head <= left {
+            return None;
+        }
+        return Some(Hints { left, ..hints });
     }
-    found.right = right_of(cells, at.head, len, hints.right);
-    found.ordinary = found.right < len;
-    found
+    let right = right_of(cells, at.head, len, hints.right);
+    if len <= right {
+        return None;
+    }
+    Some(Hints { right, ..hints })
 }
 
 // Whether the step is surely no proved loop, whatever the cells hold. It tests the symbol read before it compares the
 // states: the symbol is available sooner, and so a wrongly predicted branch is found sooner.
-pub(crate) fn ordinary_by_entry(proves: bool, state: usize, read: u8, decoded: Decoded) -> bool
-    ensures { OrdinaryByEntry result proves read decoded.write decoded.dir decoded.next state }
+pub(crate) fn ordinary_by_entry(proves: bool, state: usize, read: u8, entry: Decoded) -> bool
+    ensures { OrdinaryByEntry result proves read entry.write entry.dir entry.next state }
 {
     if !proves {
         return true;
     }
-    if decoded.dir == 2 {
-        return decoded.next != state;
+    if entry.dir == 2 {
+        return entry.next != state;
     }
     if read != 0 {
         return true;
     }
-    decoded.next != state
+    entry.next != state
 }
 
 // The burst after the step, if the step stays on the cells. A move changes only the bound on its side.
-pub(crate) fn went(at: BurstState, dir: u8, len: usize, next: usize) -> Landing
+pub(crate) fn went(at: BurstState, len: usize, entry: Decoded) -> Option<BurstState>
     requires { (at.head < len) × (len ≤ cells_most) × (at.low ≤ at.head) × (at.head ≤ at.high) × (1 ≤ at.left) }
-    ensures { WentIf result.inside dir len at next result.at }
+    ensures { IfSome result (Went entry.dir len at entry.next) }
 {
-    let mut to = at;
-    to.state = next;
-    to.left = at.left - 1;
-    if dir == 0 {
+    let mut to = BurstState {
+        state: entry.next,
+        left: at.left - 1,
+        ..at
+    };
+    if entry.dir == 0 {
         if at.head == 0 {
-            return Landing { inside: false, at };
+            return None;
         }
         to.head = at.head - 1;
-        to.low = index::min(at.low, to.head);
-        return Landing {
-            inside: true,
-            at: to,
-        };
+        to.low = at.low.min(to.head);
+        return Some(to);
     }
-    if dir == 1 {
+    if entry.dir == 1 {
         if len <= at.head + 1 {
-            return Landing { inside: false, at };
+            return None;
         }
         to.head = at.head + 1;
-        to.high = index::max(at.high, to.head);
-        return Landing {
-            inside: true,
-            at: to,
-        };
+        to.high = at.high.max(to.head);
     }
-    Landing {
-        inside: true,
-        at: to,
-    }
+    Some(to)
 }

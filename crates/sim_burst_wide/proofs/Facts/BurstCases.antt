@@ -1,5 +1,5 @@
 -- A burst on several tapes, one fact for each way through the code, and its loop. Assumes nothing.
-use Rattle.std.specs.Prelude.{◌≡◌, Bool, true, List, eqb, ltb, set}
+use Rattle.std.specs.Prelude.{◌≡◌, Bool, List, ltb, set, Some}
 use Rattle.std.proofs.Math.Path.{refl, ap, subst⁻¹}
 use Rattle.std.proofs.Common.{sym, ◌∙◌, length-set}
 use Rattle.std.proofs.Math.Bool.{false}
@@ -8,11 +8,9 @@ use native.Mathlib.Omega.{arith}
 use borrow.Author.Tests.{lt-ltb, le-ltb, eq-eqb, ne_eqb, ltb-true, ltb-false}
 use Rattle.std.proofs.Math.ListN.{length}
 use Rattle.notation.specs.Choice.{pick, both}
-use Rattle.notation.proofs.Facts.Tests.{by_test, both_split, clash}
+use Rattle.notation.proofs.Facts.Tests.{by_test}
 use Rattle.symbol.specs.declared.Dir.TheVariants.{L, R, N}
 use Rattle.symbol.specs.Kinds.{dir_number}
-use Rattle.machine.specs.declared.Entry.{Entry}
-use Rattle.machine.specs.declared.Entry.TheVariants.{Defined}
 use Rattle.machine.specs.Layout.{entry_number, flag_at, byte_at, dir_of, action_at, entry_at}
 use Rattle.tape.specs.declared.Tape.{Tape}
 use Rattle.tape.specs.Fits.{TapeSafe}
@@ -21,21 +19,9 @@ use Rattle.tape.proofs.Facts.MoveCases.{act_none, act_inside, shift_left, shift_
 use Rattle.tape.proofs.Facts.Moves.{act_safe}
 use Rattle.sim_burst_wide.specs.declared.inner.WideBurstState.{WideBurstState}
 use Rattle.sim_burst_wide.specs.declared.inner.Decoded.{Decoded}
-use Rattle.sim_burst_wide.specs.declared.inner.MovedTape.{MovedTape}
-use Rattle.sim_burst_wide.specs.declared.inner.Next.{Next}
-use Rattle.sim_burst_wide.specs.Model.{followed, FreeIf, DecodedIf, wrote, TapeMoves, MovedTapeIf, Steps, NextIf, HeadsIn, SafeAll, here, more, Carried}
+use Rattle.sim_burst_wide.specs.Model.{followed, FreeIf, DecodedOf, wrote, TapeMoves, Steps, SafeAll, here, more, Carried}
 
 -- ---- what an entry says
-
-module _ (moves next q : ℕ) where
-  pub may_loop_out : FreeIf true moves next q
-  may_loop_out = record { small = λ z. absurd (clash refl z); free = λ z. absurd (clash refl z) }
-
-  pub may_loop_still : moves ≤ 26 → FreeIf (eqb next q) moves next q
-  may_loop_still l = record { small = λ _. l; free = λ z e _. absurd (clash (eq-eqb next q e) z) }
-
-pub decoded_none : (e : Entry) (q : ℕ) → DecodedIf e q (record { known = false; next = 0; write0 = 0; write1 = 0; write2 = 0; dir0 = 0; dir1 = 0; dir2 = 0 })
-decoded_none e q = record { says = λ z. absurd (clash z refl); ordinary = λ z. absurd (clash z refl) }
 
 number_two : (d : ℕ) → d < 3 → dir_of d ≡ N → d ≡ 2
 unfolding pick
@@ -45,15 +31,14 @@ number_two (suc (suc zero)) h e = refl
 number_two (suc (suc (suc d))) h e = absurd (omega arith)
 
 module _ (s : List ℕ) (i q : ℕ) (there : 8 * i + 8 ≤ length s) (defined : flag_at s i ≡ 1) where
-  is_defined : entry_at s i ≡ Defined (action_at s i)
+  is_defined : entry_at s i ≡ Some (action_at s i)
   unfolding entry_at pick both
   is_defined =
       let l : i < length s / 8 = omega arith in
       simp (lt-ltb _ _ l, eq-eqb _ _ defined)
 
   pub decoded_entry : (next : ℕ) (b : Bool) → next ≡ byte_at s i 1 + 256 * byte_at s i 2 → FreeIf b (byte_at s i 6) next q → b ≡ false
-      → DecodedIf (entry_at s i) q (record {
-        known = true;
+      → DecodedOf (entry_at s i) q (record {
         next = next;
         write0 = byte_at s i 3;
         write1 = byte_at s i 4;
@@ -65,8 +50,8 @@ module _ (s : List ℕ) (i q : ℕ) (there : 8 * i + 8 ≤ length s) (defined : 
   unfolding action_at
   decoded_entry next b e f z =
       record {
-        says = λ _. rw e is_defined;
-        ordinary = λ _ same. record {
+        says = rw e is_defined;
+        ordinary = λ same. record {
           moving = λ n0 n1 n2.
               let m : ℕ = byte_at s i 6 in
               let d0 : m % 3 ≡ 2 = number_two (m % 3) (omega arith) n0 in
@@ -97,58 +82,29 @@ module _ (t : Tape) where
   tape_moves_inside : (d : ℕ) (r : Tape) → t.head < t.len → leaves t (dir_of d) ≡ false → r ≡ shift_of t (dir_of d) → TapeMoves t d r
   tape_moves_inside d r h l e = record { inside = l; acts = λ c w. act_inside t c w (dir_of d) r _ _ h (sym (wrote_there t c w h)) refl l e }
 
-  pub moved_tape_off : (d : ℕ) (r : Tape) → MovedTapeIf t d (record { tape = r; inside = false })
-  moved_tape_off d r = record { tape_moves = λ z. absurd (clash z refl) }
-
-  pub moved_tape_left : (low : ℕ) → (t.head ≡ 0 → ⊥) → low ≡ min t.lowest (t.head - 1)
-      → MovedTapeIf t 0 (record { tape = record { len = t.len; origin = t.origin; head = t.head - 1; lowest = low; highest = t.highest }; inside = ltb t.head t.len })
+  pub moved_left : (low : ℕ) → (t.head ≡ 0 → ⊥) → t.head < t.len → low ≡ min t.lowest (t.head - 1)
+      → TapeMoves t 0 (record { len = t.len; origin = t.origin; head = t.head - 1; lowest = low; highest = t.highest })
   unfolding leaves pick
-  moved_tape_left low n e = record { tape_moves = λ z. tape_moves_inside 0 _ (ltb-true _ _ z) (ne_eqb _ _ n) (shift_left t L low refl e) }
+  moved_left low n h e = tape_moves_inside 0 _ h (ne_eqb _ _ n) (shift_left t L low refl e)
 
-  pub moved_tape_right : (high : ℕ) → high ≡ max t.highest (t.head + 1)
-      → MovedTapeIf t 1 (record { tape = record { len = t.len; origin = t.origin; head = t.head + 1; lowest = t.lowest; highest = high }; inside = ltb (t.head + 1) t.len })
+  pub moved_right : (high : ℕ) → t.head + 1 < t.len → high ≡ max t.highest (t.head + 1)
+      → TapeMoves t 1 (record { len = t.len; origin = t.origin; head = t.head + 1; lowest = t.lowest; highest = high })
   unfolding leaves pick
-  moved_tape_right high e = record {
-    tape_moves = λ z.
-        let h : t.head + 1 < t.len = ltb-true _ _ z in
-        tape_moves_inside 1 _ (omega arith) (ne_eqb (t.head + 1) t.len (λ q. omega arith)) (shift_right t R high refl e);
-  }
+  moved_right high h e = tape_moves_inside 1 _ (omega arith) (ne_eqb (t.head + 1) t.len (λ q. omega arith)) (shift_right t R high refl e)
 
-  pub moved_tape_none : (d : ℕ) → (d ≡ 0 → ⊥) → (d ≡ 1 → ⊥) → MovedTapeIf t d (record { tape = t; inside = true })
+  pub moved_none : (d : ℕ) → (d ≡ 0 → ⊥) → (d ≡ 1 → ⊥) → TapeMoves t d t
   unfolding leaves pick
-  moved_tape_none d a b =
+  moved_none d a b =
       let n : dir_of d ≡ N = simp (ne_eqb _ _ a, ne_eqb _ _ b) in
       let off : leaves t (dir_of d) ≡ false = rw n refl in
       record {
-        tape_moves = λ _. record {
-          inside = off;
-          acts = λ c w. by_test (ltb t.head t.len)
-              (λ z. (tape_moves_inside d t (ltb-true _ _ z) off (shift_none t (dir_of d) n)).acts c w)
-              (λ z. let h : t.len ≤ t.head = ltb-false _ _ z in ap (held t) (sym (wrote_none t c w h)) ∙ act_none t c w (dir_of d) h);
-        };
+        inside = off;
+        acts = λ c w. by_test (ltb t.head t.len)
+            (λ z. (tape_moves_inside d t (ltb-true _ _ z) off (shift_none t (dir_of d) n)).acts c w)
+            (λ z. let h : t.len ≤ t.head = ltb-false _ _ z in ap (held t) (sym (wrote_none t c w h)) ∙ act_none t c w (dir_of d) h);
       }
 
 -- ---- all tapes
-
-pub next_steps : (x : WideBurstState) (o : Decoded) (r0 r1 r2 : MovedTape) (b : Bool) → MovedTapeIf x.t0 o.dir0 r0 → MovedTapeIf x.t1 o.dir1 r1 → MovedTapeIf x.t2 o.dir2 r2
-    → b ≡ both r0.inside (both r1.inside r2.inside)
-    → NextIf x o (record { at = record { t0 = r0.tape; t1 = r1.tape; t2 = r2.tape; state = o.next; left = x.left - 1 }; inside = b })
-next_steps x o r0 r1 r2 b p0 p1 p2 e = record {
-  steps = λ z.
-      let q = both_split (sym e ∙ z) in
-      let q2 = both_split q.1 in
-      record { tape_moves0 = p0.tape_moves q.0; tape_moves1 = p1.tape_moves q2.0; tape_moves2 = p2.tape_moves q2.1; state_is = refl; left_is = refl };
-}
-
-pub heads_of : (x : WideBurstState) (c0 c1 c2 : List ℕ) → SafeAll x c0 c1 c2 → HeadsIn x
-heads_of x c0 c1 c2 ok = record {
-  head0 = ok.safe0.ok.head_in;
-  len0 = ok.safe0.ok.len_small;
-  head1 = ok.safe1.ok.head_in;
-  len1 = ok.safe1.ok.len_small;
-  head2 = ok.safe2.ok.head_in;
-  len2 = ok.safe2.ok.len_small;
-}
 
 -- ---- the loop
 
@@ -161,17 +117,16 @@ module _ (s : List ℕ) (stop k stride : ℕ) where
 
   -- one turn of the loop, from what the code has found
   pub carried_again : (x y : WideBurstState) (c0 c1 c2 d0 d1 d2 : List ℕ) → Carried s stop k stride x c0 c1 c2 y d0 d1 d2
-      → (o : Decoded) (n : Next) (e0 e1 e2 : List ℕ) → (y.left ≡ 0 → ⊥) → (y.state ≡ stop → ⊥)
-      → DecodedIf (entry_at s (entry_number k stride y.state (read_of (held y.t0 d0)) (read_of (held y.t1 d1)) (read_of (held y.t2 d2)))) y.state o
-      → o.known ≡ true → NextIf y o n → n.inside ≡ true
+      → (o : Decoded) (n : WideBurstState) (e0 e1 e2 : List ℕ) → (y.left ≡ 0 → ⊥) → (y.state ≡ stop → ⊥)
+      → DecodedOf (entry_at s (entry_number k stride y.state (read_of (held y.t0 d0)) (read_of (held y.t1 d1)) (read_of (held y.t2 d2)))) y.state o
+      → Steps y o n
       → e0 ≡ wrote y.t0 d0 o.write0 → e1 ≡ wrote y.t1 d1 o.write1 → e2 ≡ wrote y.t2 d2 o.write2
-      → Carried s stop k stride x c0 c1 c2 n.at e0 e1 e2
-  carried_again x y c0 c1 c2 d0 d1 d2 r o n e0 e1 e2 pos on says known next ins p0 p1 p2 =
-      let st : Steps y o n.at = next.steps ins in
-      let a0 = ap (held n.at.t0) p0 ∙ st.tape_moves0.acts d0 o.write0 in
-      let a1 = ap (held n.at.t1) p1 ∙ st.tape_moves1.acts d1 o.write1 in
-      let a2 = ap (held n.at.t2) p2 ∙ st.tape_moves2.acts d2 o.write2 in
-      let l : n.at.left ≡ y.left - 1 = st.left_is in
+      → Carried s stop k stride x c0 c1 c2 n e0 e1 e2
+  carried_again x y c0 c1 c2 d0 d1 d2 r o n e0 e1 e2 pos on says st p0 p1 p2 =
+      let a0 = ap (held n.t0) p0 ∙ st.tape_moves0.acts d0 o.write0 in
+      let a1 = ap (held n.t1) p1 ∙ st.tape_moves1.acts d1 o.write1 in
+      let a2 = ap (held n.t2) p2 ∙ st.tape_moves2.acts d2 o.write2 in
+      let l : n.left ≡ y.left - 1 = st.left_is in
       record {
         safe = record {
           safe0 = rw p0 (still_safe _ _ d0 o.write0 _ r.safe.safe0 st.tape_moves0);
@@ -182,12 +137,12 @@ module _ (s : List ℕ) (stop k stride : ℕ) where
         lens0 = ap length p0 ∙ wrote_length y.t0 d0 o.write0 ∙ r.lens0;
         lens1 = ap length p1 ∙ wrote_length y.t1 d1 o.write1 ∙ r.lens1;
         lens2 = ap length p2 ∙ wrote_length y.t2 d2 o.write2 ∙ r.lens2;
-        walk = more y d0 d1 d2 n.at e0 e1 e2 r.walk (record {
+        walk = more y d0 d1 d2 n e0 e1 e2 r.walk (record {
           fuel = pos;
           goes = on;
           act = followed o;
-          says = says.says known;
-          ordinary = says.ordinary known;
+          says = says.says;
+          ordinary = says.ordinary;
           inside0 = st.tape_moves0.inside;
           inside1 = st.tape_moves1.inside;
           inside2 = st.tape_moves2.inside;
@@ -198,12 +153,3 @@ module _ (s : List ℕ) (stop k stride : ℕ) where
           left_is = st.left_is;
         });
       }
-
-pub next_less : (y : WideBurstState) (o : Decoded) (n : Next) → NextIf y o n → n.inside ≡ true → (y.left ≡ 0 → ⊥) → n.at.left < y.left
-next_less y o n next ins pos = let l : n.at.left ≡ y.left - 1 = (next.steps ins).left_is in omega arith
-
-pub decoded_read : (s : List ℕ) (x : WideBurstState) (c0 c1 c2 : List ℕ) (k stride r0 r1 r2 i : ℕ) (o : Decoded)
-    → r0 ≡ read_of (held x.t0 c0) → r1 ≡ read_of (held x.t1 c1) → r2 ≡ read_of (held x.t2 c2)
-    → i ≡ entry_number k stride x.state r0 r1 r2 → DecodedIf (entry_at s i) x.state o
-    → DecodedIf (entry_at s (entry_number k stride x.state (read_of (held x.t0 c0)) (read_of (held x.t1 c1)) (read_of (held x.t2 c2)))) x.state o
-decoded_read s x c0 c1 c2 k stride r0 r1 r2 i o q0 q1 q2 e f = rw (← q0, ← q1, ← q2, ← e) f

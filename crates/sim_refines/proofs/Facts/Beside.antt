@@ -1,5 +1,5 @@
 -- Two engines side by side that differ only past the tapes' lengths run and step alike. Assumes nothing.
-use Rattle.std.specs.Prelude.{◌≡◌, refl, Bool, true, false, List, eqb}
+use Rattle.std.specs.Prelude.{◌≡◌, refl, Bool, true, false, List, eqb, None, Option, Some}
 use Rattle.std.proofs.Math.Path.{ap, subst⁻¹}
 use Rattle.std.proofs.Common.{◌∙◌}
 use Prim.Native.Nat.{ℕ, ◌+◌}
@@ -10,8 +10,6 @@ use Rattle.outcome.specs.declared.NonHaltProof.TheVariants.{StayLoop, ChainToInf
 use Rattle.outcome.specs.declared.Status.TheVariants as Step
 use Rattle.machine.specs.declared.Machine.{Machine}
 use Rattle.machine.specs.declared.Action.{Action}
-use Rattle.machine.specs.declared.Entry.{Entry}
-use Rattle.machine.specs.declared.Entry.TheVariants.{Undefined, Defined}
 use Rattle.tape.specs.Model.Moves.{Held, read_of}
 use Rattle.tape.specs.Fits.{TapeSafe}
 use Rattle.tape.proofs.Facts.Moves.{act_safe}
@@ -39,11 +37,11 @@ read_alike : (g h : Held) → Alike g h → read_of g ≡ read_of h
 read_alike g h a = alike_reads read_of g h a (read_same h.tape g.cells h.cells a.cells)
 
 -- besides the symbols read, a look depends only on whether the cells beyond the head are blank
-look_on_same : (x : Entry) (p : Bool) (tapes : ℕ) (q : State) (r0 r1 r2 : ℕ) (g h : Held) → ((d : Dir) → blank_beyond g d ≡ blank_beyond h d)
+look_on_same : (x : Option Action) (p : Bool) (tapes : ℕ) (q : State) (r0 r1 r2 : ℕ) (g h : Held) → ((d : Dir) → blank_beyond g d ≡ blank_beyond h d)
     → look_on x p tapes q r0 r1 r2 g ≡ look_on x p tapes q r0 r1 r2 h
 unfolding look_on judge_of loop_of
-look_on_same Undefined p tapes q r0 r1 r2 g h e = refl
-look_on_same (Defined a) p tapes q r0 r1 r2 g h e =
+look_on_same None p tapes q r0 r1 r2 g h e = refl
+look_on_same (Some a) p tapes q r0 r1 r2 g h e =
     ap (λ (b : Bool). pick (both p (eqb a.next.0 q.0))
     (pick (stays_all a r0 r1 r2) (Never (StayLoop q)) (pick (both (eqb tapes 1) (both (eqb r0 0) b)) (Never (ChainToInfinity q a.dir0)) (Go a)))
     (Go a)) (e a.dir0)

@@ -1,14 +1,13 @@
 -- A fresh engine fits and holds the table machine's start: "the start state, heads at 0, tape 0 holding the word from 0 rightward, all else blank".
 -- Assumes nothing.
-use Rattle.std.specs.Prelude.{◌≡◌, refl, Bool, true, false, List, [], ℕ, ◌+◌, ◌≤◌, ◌<◌, length, get_or}
+use Rattle.outcome.specs.declared.Refusal.{Refusal}
+use Rattle.std.specs.Prelude.{◌≡◌, refl, Bool, true, false, List, [], ℕ, ◌+◌, ◌≤◌, ◌<◌, length, get_or, Err, Ok, Result, ⊤}
 use Rattle.std.proofs.Common.{sym, ap, ◌∙◌, arith}
 use Rattle.std.proofs.Math.Path.{subst, subst⁻¹}
 use Rattle.notation.specs.Choice.{pick}
 use Rattle.notation.proofs.Facts.Tests.{pick_cases}
 use Rattle.symbol.specs.Kinds.{state_of}
 use Rattle.machine.specs.declared.Machine.{Machine}
-use Rattle.machine.specs.declared.Checked.{Checked}
-use Rattle.machine.specs.declared.Checked.TheVariants.{Accepted, Refused}
 use Rattle.machine.proofs.Facts.Check.{ranges}
 use Rattle.machine.proofs.Facts.Word.{word_says}
 use Rattle.table_machine.specs.TableMachine.{blank_tape, start}
@@ -18,7 +17,6 @@ use Rattle.tape.proofs.Facts.Moves.{fresh_fits}
 use Rattle.run_checks.specs.Model.Sizes as Sizes
 use Rattle.run_checks.proofs.Facts.SizesCases.{blank_room}
 use Rattle.sim.specs.declared.Simulator.{Simulator}
-use Rattle.sim.specs.declared.Fresh.TheVariants as New
 use Rattle.sim.specs.Model.Engine.{Conf, conf, tape0, tape1, tape2}
 use Rattle.sim.specs.Model.Operations.{has1, has2, hand_back, sim_fits, fresh_check, made, made_with, fresh_on, Made, new_answer}
 use Rattle.sim.proofs.Facts.OperationCases.{FreshPassed, fresh_says}
@@ -63,16 +61,16 @@ module _ (m : Machine) (w c0 c1 c2 : List ℕ) (room0 : 32 + length w ≤ length
 
 -- ---- what `new` gives
 
-accepted-fresh : (c : Checked) (c0 c1 c2 : List ℕ) (d : Made) (v : Simulator) (d0 d1 d2 : List ℕ) → fresh_on c c0 c1 c2 d ≡ made (New.Made v) d0 d1 d2
-    → (c ≡ Accepted) × (d ≡ made (New.Made v) d0 d1 d2)
-accepted-fresh (Refused why) c0 c1 c2 d v d0 d1 d2 e =
+accepted-fresh : (c : Result ⊤ Refusal) (c0 c1 c2 : List ℕ) (d : Made) (v : Simulator) (d0 d1 d2 : List ℕ) → fresh_on c c0 c1 c2 d ≡ made (Ok v) d0 d1 d2
+    → (c ≡ Ok tt) × (d ≡ made (Ok v) d0 d1 d2)
+accepted-fresh (Err why) c0 c1 c2 d v d0 d1 d2 e =
     let k = ap (λ (g : Made). g.answer) e in
     let z : ◌≡◌ {A = ℕ} 0 1 = cc in absurd (omega arith)
-accepted-fresh Accepted c0 c1 c2 d v d0 d1 d2 e = (refl, e)
+accepted-fresh (Ok tt) c0 c1 c2 d v d0 d1 d2 e = (refl, e)
 
-module _ (m : Machine) (s w c0 c1 c2 : List ℕ) (v : Simulator) (d0 d1 d2 : List ℕ) (done : new_answer m s w c0 c1 c2 ≡ made (New.Made v) d0 d1 d2) where
-  pub new_accepted : (fresh_check m s w (length c0) (length c1) (length c2) ≡ Accepted)
-      × (made_with m (fresh_of w c0) (Sizes.blank_tape (has1 m) c1) (Sizes.blank_tape (has2 m) c2) ≡ made (New.Made v) d0 d1 d2)
+module _ (m : Machine) (s w c0 c1 c2 : List ℕ) (v : Simulator) (d0 d1 d2 : List ℕ) (done : new_answer m s w c0 c1 c2 ≡ made (Ok v) d0 d1 d2) where
+  pub new_accepted : (fresh_check m s w (length c0) (length c1) (length c2) ≡ Ok tt)
+      × (made_with m (fresh_of w c0) (Sizes.blank_tape (has1 m) c1) (Sizes.blank_tape (has2 m) c2) ≡ made (Ok v) d0 d1 d2)
   unfolding new_answer
   new_accepted = accepted-fresh _ _ _ _ _ _ _ _ _ done
 

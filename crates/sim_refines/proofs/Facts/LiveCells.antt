@@ -1,8 +1,7 @@
 -- Bytes past a tape's length are never read: two buffers of one length that agree up to there give the same answers, and still agree after. Assumes nothing.
 use Rattle.std.proofs.Math.Path.{◌≡◌, refl, sym, ap, subst⁻¹}
 use Rattle.std.proofs.Common.{◌∙◌, arith, ltb-true, length-set, get_or-set_same, get_or-set_other}
-use Rattle.std.specs.Prelude.{Bool, true, false, List, eqb, ℤ, length, get_or, set}
-use Rattle.std.proofs.Math.Option.{some}
+use Rattle.std.specs.Prelude.{Bool, true, false, List, eqb, ℤ, length, get_or, set, None, Some}
 use Prim.Native.Nat.{ℕ, zero, suc, ◌+◌, ◌-◌, ◌≤◌, ◌<◌, ◌^◌}
 use Rattle.std.proofs.Math.Decide.{ℕ_discrete}
 use Rattle.std.proofs.Math.Dec.{ltb}
@@ -12,11 +11,10 @@ use Rattle.notation.specs.Scan.{all_in, first_fail}
 use Rattle.notation.specs.ScanDown.{last_fail, count_fails}
 use Rattle.notation.specs.Position.{◌⊖◌, up, dn}
 use Rattle.symbol.specs.Kinds.{symbol_in}
-use Rattle.symbol.specs.Model.{raised_of, found_of}
+use Rattle.symbol.specs.Model.{raised_of}
 use Rattle.symbol.specs.declared.Dir.{Dir}
 use Rattle.symbol.specs.declared.Dir.TheVariants.{L, R, N}
 use Rattle.tape.specs.declared.Tape.{Tape}
-use Rattle.tape.specs.declared.Spot.TheVariants.{At, Nowhere}
 use Rattle.tape_cells.specs.Growth.{extra}
 use Rattle.tape_cells.proofs.Facts.Growth.{extra-within}
 use Rattle.tape.specs.Model.Moves.{Held, held, read_of, leaves, grown_by, grow_of, shift_of, shifted, move_of, act_of}
@@ -45,12 +43,12 @@ module _ (p q : ℕ → Bool) where
   first_same : (n i : ℕ) → ((j : ℕ) → i ≤ j → j < i + n → p j ≡ q j) → first_fail p n i ≡ first_fail q n i
   unfolding first_fail
   first_same zero i h = refl
-  first_same (suc n) i h = λ x. pick (h i (omega arith) (omega arith) x) (first_same n (i + 1) (λ j a b. h j (omega arith) (omega arith)) x) (some i)
+  first_same (suc n) i h = λ x. pick (h i (omega arith) (omega arith) x) (first_same n (i + 1) (λ j a b. h j (omega arith) (omega arith)) x) (Some i)
 
   last_same : (n : ℕ) → ((j : ℕ) → j < n → p j ≡ q j) → last_fail p n ≡ last_fail q n
   unfolding last_fail
   last_same zero h = refl
-  last_same (suc n) h = λ x. pick (h n (omega arith) x) (last_same n (λ j l. h j (omega arith)) x) (some n)
+  last_same (suc n) h = λ x. pick (h n (omega arith) x) (last_same n (λ j l. h j (omega arith)) x) (Some n)
 
   count_same : (n : ℕ) → ((j : ℕ) → j < n → p j ≡ q j) → count_fails p n ≡ count_fails q n
   unfolding count_fails
@@ -89,8 +87,8 @@ module _ (t : Tape) (c d : List ℕ) (same : SameFirst t.len c d) where
 
   pub non_blank_same : non_blank_of (held t c) ≡ non_blank_of (held t d)
   unfolding non_blank_of first_written last_written
-  non_blank_same = λ i. span_of t.origin (found_of (first_same (blank_at c) (blank_at d) (t.len - 0) 0 (λ j a b. blank_same j (omega arith)) i))
-      (found_of (last_same (blank_at c) (blank_at d) t.len blank_same i))
+  non_blank_same = λ i. span_of t.origin ((first_same (blank_at c) (blank_at d) (t.len - 0) 0 (λ j a b. blank_same j (omega arith)) i))
+      (last_same (blank_at c) (blank_at d) t.len blank_same i)
 
   pub counts_same : count_of (held t c) ≡ count_of (held t d)
   unfolding count_of
@@ -104,11 +102,11 @@ module _ (t : Tape) (c d : List ℕ) (same : SameFirst t.len c d) where
   unfolding find_of first_written last_written
   find_same z L =
       let n : ℕ = cells_below (up z) (dn z) (t.origin + 1) t.len in
-      ap (λ x. spot_of t.origin (found_of x)) (last_same (blank_at c) (blank_at d) n (λ j l. blank_same j (omega arith)))
+      ap (λ x. spot_of t.origin (x)) (last_same (blank_at c) (blank_at d) n (λ j l. blank_same j (omega arith)))
   find_same z R =
       let n : ℕ = cells_below (up z) (dn z) t.origin t.len in
-      ap (λ x. spot_of t.origin (found_of x)) (first_same (blank_at c) (blank_at d) (t.len - n) n (λ j a b. blank_same j (omega arith)))
-  find_same z N = ap (λ x. pick (eqb x 0) Nowhere (At z)) (cell_same z)
+      ap (λ x. spot_of t.origin (x)) (first_same (blank_at c) (blank_at d) (t.len - n) n (λ j a b. blank_same j (omega arith)))
+  find_same z N = ap (λ x. pick (eqb x 0) None (Some z)) (cell_same z)
 
 -- ---- tapes of the same numbers, with the same cells up to their length, and buffers of the same length
 

@@ -1,5 +1,5 @@
 -- The engine's look before a step is the table machine's verdict. Assumes nothing.
-use Rattle.std.specs.Prelude.{◌≡◌, refl, Bool, true, eqb}
+use Rattle.std.specs.Prelude.{◌≡◌, refl, Bool, true, eqb, None, Option, Some}
 use Rattle.std.proofs.Math.Path.{sym}
 use Rattle.std.proofs.Common.{◌∙◌}
 use borrow.Author.Tests.{eqb-true, eq-eqb}
@@ -9,8 +9,6 @@ use Rattle.symbol.specs.declared.Dir.{Dir}
 use Rattle.symbol.specs.declared.Dir.TheVariants.{L, R, N}
 use Rattle.machine.specs.declared.Machine.{Machine}
 use Rattle.machine.specs.declared.Action.{Action}
-use Rattle.machine.specs.declared.Entry.{Entry}
-use Rattle.machine.specs.declared.Entry.TheVariants.{Undefined, Defined}
 use Rattle.table_machine.specs.TableMachine.{read_t, entry, Stays, Walks, stays, walks, goes}
 use Rattle.tape.specs.Model.Moves.{read_of}
 use Rattle.tape.specs.Model.Questions.{blank_beyond}
@@ -100,7 +98,7 @@ module _ (m : Machine) (σ : Conf) (f : EngineFits m σ) (a : Action) where
 
 module _ (k : Task) (σ : Conf) (f : EngineFits k.machine σ) where
   -- an entry that keeps the state, where the never test is made
-  loop_sees : k.proves ≡ true → (a : Action) → entry (table_in k) (held_by k σ) ≡ Defined a → a.next.0 ≡ σ.sim.state.0
+  loop_sees : k.proves ≡ true → (a : Action) → entry (table_in k) (held_by k σ) ≡ Some a → a.next.0 ≡ σ.sim.state.0
       → Sees k (held_by k σ) (loop_of k.machine.tapes σ.sim.state a (read_of (tape0 σ)) (read_of (tape1 σ)) (read_of (tape2 σ)) (tape0 σ))
   unfolding loop_of
   loop_sees p a e q = pick_cases (stays_on σ a) _ _ (Sees k (held_by k σ))
@@ -110,7 +108,7 @@ module _ (k : Task) (σ : Conf) (f : EngineFits k.machine σ) where
       (λ w. goes_on a e (λ _. goes a e (λ h. clash (stays_holds k.machine σ f a h) t) (λ d h. clash (walks_holds k.machine σ f a d h) w))))
 
   -- any entry
-  judge_sees : (a : Action) → entry (table_in k) (held_by k σ) ≡ Defined a
+  judge_sees : (a : Action) → entry (table_in k) (held_by k σ) ≡ Some a
       → Sees k (held_by k σ) (judge_of k.proves k.machine.tapes σ.sim.state a (read_of (tape0 σ)) (read_of (tape1 σ)) (read_of (tape2 σ)) (tape0 σ))
   unfolding judge_of
   judge_sees a e = pick_cases (both k.proves (eqb a.next.0 σ.sim.state.0)) _ _ (Sees k (held_by k σ))
@@ -122,7 +120,7 @@ module _ (k : Task) (σ : Conf) (f : EngineFits k.machine σ) where
   unfolding look_with look_on
   look_sees = by (entry_of k.machine k.table σ.sim.state (read_of (tape0 σ)) (read_of (tape1 σ)) (read_of (tape2 σ))) (entry_read k.machine k.table σ f)
     where
-      by : (x : Entry) → entry (table_in k) (held_by k σ) ≡ x
+      by : (x : Option Action) → entry (table_in k) (held_by k σ) ≡ x
           → Sees k (held_by k σ) (look_on x k.proves k.machine.tapes σ.sim.state (read_of (tape0 σ)) (read_of (tape1 σ)) (read_of (tape2 σ)) (tape0 σ))
-      by Undefined e = no_entry e
-      by (Defined a) e = judge_sees a e
+      by None e = no_entry e
+      by (Some a) e = judge_sees a e

@@ -1,23 +1,20 @@
 -- "Bytes of the lent buffer past the length are never read": by the operations run, fast run and step. Assumes nothing.
+use Rattle.symbol.specs.declared.State.{State}
+use Rattle.outcome.specs.declared.Refusal.{Refusal}
 use Rattle.std.proofs.Math.Path.{◌≡◌, refl, ap, subst⁻¹}
 use Rattle.std.proofs.Common.{sym, arith, leb-true, ltb-true, lt-ltb}
-use Rattle.std.specs.Prelude.{Bool, List, ℕ, ltb, leb, length}
+use Rattle.std.specs.Prelude.{Bool, List, ℕ, ltb, leb, length, Err, Ok, Option, Result, ⊤}
 use Rattle.std.proofs.Math.Bool.{true, false}
 use Rattle.notation.specs.Choice.{pick, both}
 use Rattle.notation.proofs.Facts.Tests.{clash, both_split}
 use Rattle.notation.specs.Limits.{steps_most, cells_most}
 use Rattle.outcome.specs.declared.Refusal.TheVariants as Why
 use Rattle.machine.specs.declared.Machine.{Machine}
-use Rattle.machine.specs.declared.Checked.{Checked}
-use Rattle.machine.specs.declared.Checked.TheVariants.{Accepted, Refused}
 use Rattle.machine.specs.Model.Check.{demand, checked_on, table_check}
 use Rattle.tape.specs.declared.Tape.{Tape}
 use Rattle.tape.specs.Model.Moves.{Held, held, no_tape}
 use Rattle.tape.specs.Fits.{tape_fits, TapeSafe}
 use Rattle.tape.proofs.Facts.Moves.{fits_safe, none_safe}
-use Rattle.run_rules.specs.declared.StopRule.{StopRule}
-use Rattle.run_rules.specs.declared.Answer.TheVariants as Ans
-use Rattle.sim.specs.declared.StepAnswer.TheVariants as StepAns
 use Rattle.sim.specs.declared.Simulator.{Simulator}
 use Rattle.sim.specs.Model.Engine.{task, Conf, tape0, tape1, tape2, run_of, once_of}
 use Rattle.sim.specs.Model.Operations.{has1, has2, if_has, bare_sim, bare_of, hand_back, back_of, sizes_fit, sim_fits, value_check, engine_check, fuel_fits, fuel_check, run_check, words_right, fast_check, answer_of, run_answer, fast_answer, StepGiven, step_back, step_on, step_answer}
@@ -111,7 +108,7 @@ module _ (m : Machine) (σ τ : Conf) (a : SameLive m σ τ) where
 
   value_check_same : value_check m σ ≡ value_check m τ
   unfolding value_check
-  value_check_same = λ i. demand (sizes_fit m (a.length0 i) (a.length1 i) (a.length2 i)) Why.BufferSize (demand (sim_fits_same i) Why.Misfit Accepted)
+  value_check_same = λ i. demand (sizes_fit m (a.length0 i) (a.length1 i) (a.length2 i)) Why.BufferSize (demand (sim_fits_same i) Why.Misfit (Ok tt))
 
   pub engine_check_same : (s : List ℕ) → engine_check m s σ ≡ engine_check m s τ
   unfolding engine_check
@@ -119,7 +116,7 @@ module _ (m : Machine) (σ τ : Conf) (a : SameLive m σ τ) where
 
   fuel_check_same : (fuel : ℕ) → fuel_check m fuel σ ≡ fuel_check m fuel τ
   unfolding fuel_check
-  fuel_check_same fuel = λ i. checked_on (value_check_same i) (demand (fuel_fits (a.value i).steps fuel) Why.StepLimit Accepted)
+  fuel_check_same fuel = λ i. checked_on (value_check_same i) (demand (fuel_fits (a.value i).steps fuel) Why.StepLimit (Ok tt))
 
   run_check_same : (s : List ℕ) (fuel : ℕ) → run_check m s fuel σ ≡ run_check m s fuel τ
   unfolding run_check
@@ -131,19 +128,19 @@ module _ (m : Machine) (σ τ : Conf) (a : SameLive m σ τ) where
 
   -- ---- the run, the fast run and the step
 
-  answer_same : (s : List ℕ) (c : Checked) → (c ≡ Accepted → Passed m s τ) → (p : Bool) (rule : StopRule) (fuel : ℕ)
+  answer_same : (s : List ℕ) (c : Result ⊤ Refusal) → (c ≡ Ok tt → Passed m s τ) → (p : Bool) (rule : Option State) (fuel : ℕ)
       → SameGiven m (answer_of c m s p rule fuel σ) (answer_of c m s p rule fuel τ)
-  answer_same s (Refused why) passed p rule fuel = record { answer = refl; at = a }
-  answer_same s Accepted passed p rule fuel =
+  answer_same s (Err why) passed p rule fuel = record { answer = refl; at = a }
+  answer_same s (Ok tt) passed p rule fuel =
       let e : SameEnd (run_of (task m s p rule) fuel (bare_of m σ)) (run_of (task m s p rule) fuel (bare_of m τ)) = run_beside (task m s p rule) fuel (bare_of m σ) (bare_of m τ) (bare_beside s (passed refl)) in
-      record { answer = ap Ans.Done e.outcome; at = back_same _ _ e.at }
+      record { answer = ap Ok e.outcome; at = back_same _ _ e.at }
 
-  pub run_same : (s : List ℕ) (rule : StopRule) (fuel : ℕ) → SameGiven m (run_answer m s rule fuel σ) (run_answer m s rule fuel τ)
+  pub run_same : (s : List ℕ) (rule : Option State) (fuel : ℕ) → SameGiven m (run_answer m s rule fuel σ) (run_answer m s rule fuel τ)
   unfolding run_answer
   run_same s rule fuel = subst⁻¹ (λ c. SameGiven m (answer_of c m s true rule fuel σ) (run_answer m s rule fuel τ)) (run_check_same s fuel)
       (answer_same s (run_check m s fuel τ) (λ e. (run_says m s fuel τ e).0) true rule fuel)
 
-  pub fast_same : (s words : List ℕ) (rule : StopRule) (fuel : ℕ) → SameGiven m (fast_answer m s words rule fuel σ) (fast_answer m s words rule fuel τ)
+  pub fast_same : (s words : List ℕ) (rule : Option State) (fuel : ℕ) → SameGiven m (fast_answer m s words rule fuel σ) (fast_answer m s words rule fuel τ)
   unfolding fast_answer
   fast_same s words rule fuel = subst⁻¹ (λ c. SameGiven m (answer_of c m s true rule fuel σ) (fast_answer m s words rule fuel τ)) (fast_check_same s words fuel)
       (answer_same s (fast_check m s words fuel τ) (λ e. (run_says m s fuel τ (sym (fast_runs m s words fuel τ _ refl e))).0) true rule fuel)
@@ -152,11 +149,11 @@ module _ (m : Machine) (σ τ : Conf) (a : SameLive m σ τ) where
   unfolding step_answer
   step_same s = subst⁻¹ (λ c. SameStepGiven m (on c σ) (step_answer m s τ)) (run_check_same s 1) (by (run_check m s 1 τ) (λ e. (run_says m s 1 τ e).0))
     where
-      on : Checked → Conf → StepGiven
+      on : Result ⊤ Refusal → Conf → StepGiven
       on c σ = step_on c σ (step_back m σ (once_of m s (bare_of m σ)))
 
-      by : (c : Checked) → (c ≡ Accepted → Passed m s τ) → SameStepGiven m (on c σ) (on c τ)
-      by (Refused why) passed = record { answer = refl; at = a }
-      by Accepted passed =
+      by : (c : Result ⊤ Refusal) → (c ≡ Ok tt → Passed m s τ) → SameStepGiven m (on c σ) (on c τ)
+      by (Err why) passed = record { answer = refl; at = a }
+      by (Ok tt) passed =
           let e : SameOnce (once_of m s (bare_of m σ)) (once_of m s (bare_of m τ)) = once_beside m s (bare_of m σ) (bare_of m τ) (bare_beside s (passed refl)) in
-          record { answer = ap StepAns.Done e.status; at = back_same _ _ e.at }
+          record { answer = ap Ok e.status; at = back_same _ _ e.at }

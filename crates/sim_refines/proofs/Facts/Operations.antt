@@ -1,5 +1,7 @@
 -- The operations run, fast run and step do what the table machine does. Assumes nothing.
-use Rattle.std.specs.Prelude.{◌≡◌, List, ℕ, ◌+◌, ◌≤◌}
+use Rattle.symbol.specs.declared.State.{State}
+use Rattle.outcome.specs.declared.Refusal.{Refusal}
+use Rattle.std.specs.Prelude.{◌≡◌, List, ℕ, ◌+◌, ◌≤◌, Err, None, Ok, Option, Result, Some, ⊤}
 use Rattle.std.proofs.Math.Path.{refl, sym, subst}
 use Rattle.std.proofs.Common.{ap, ◌∙◌, arith}
 use Rattle.std.proofs.Math.Bool.{true, false}
@@ -13,20 +15,12 @@ use Rattle.outcome.specs.declared.Status.{Status}
 use Rattle.outcome.specs.declared.Status.TheVariants as Step
 use Rattle.machine.specs.declared.Machine.{Machine}
 use Rattle.machine.specs.declared.Action.{Action}
-use Rattle.machine.specs.declared.Entry.TheVariants.{Defined}
-use Rattle.machine.specs.declared.Checked.{Checked}
-use Rattle.machine.specs.declared.Checked.TheVariants.{Accepted, Refused}
 use Rattle.table_laws.specs.WellFormed.{Bytes}
 use Rattle.table_machine.specs.TableMachine.{Config, run, entry, step, Halted}
 use Rattle.table_machine.specs.Tables.{table_of}
 use Rattle.table_machine.proofs.Facts.Table.{accepted_table}
 use Rattle.table_machine.proofs.Facts.Run.{not_defined, step-act}
-use Rattle.run_rules.specs.declared.StopRule.{StopRule}
-use Rattle.run_rules.specs.declared.StopRule.TheVariants as Rule
-use Rattle.run_rules.specs.declared.Answer.TheVariants as Ans
-use Rattle.sim.specs.declared.StepAnswer.TheVariants as StepAns
 use Rattle.run_checks.specs.declared.inner.look.Look.{Look}
-use Rattle.run_checks.specs.declared.inner.look.Look.TheVariants.{Never}
 use Rattle.sim.specs.Model.Engine.{task, Conf, End, end, on_look, look_with, roomy_of, step_of, run_of, Once, once, once_of}
 use Rattle.sim.specs.Model.Operations.{bare_sim, bare_of, back_of, run_check, words_right, fast_check, Given, given, ran_back, run_on, run_answer, fast_answer, StepGiven, step_given, step_back, step_on, step_answer}
 use Rattle.sim.proofs.Facts.OperationCases.{Passed, run_says, fast_right}
@@ -41,28 +35,28 @@ use Rattle.sim_refines.proofs.Facts.MissingTapes.{config_bare, bare_back, bare_f
 
 -- ---- the run
 
-accepted-run : (c : Checked) (σ : Conf) (d : Given) (τ : Conf) (o : Outcome) → run_on c σ d ≡ given τ (Ans.Done o) → (c ≡ Accepted) × (d ≡ given τ (Ans.Done o))
-accepted-run (Refused why) σ d τ o e =
+accepted-run : (c : Result ⊤ Refusal) (σ : Conf) (d : Given) (τ : Conf) (o : Outcome) → run_on c σ d ≡ given τ (Ok o) → (c ≡ Ok tt) × (d ≡ given τ (Ok o))
+accepted-run (Err why) σ d τ o e =
     let k = ap (λ (g : Given). g.answer) e in
     let z : ◌≡◌ {A = ℕ} 0 1 = cc in absurd (omega arith)
-accepted-run Accepted σ d τ o e = (refl, e)
+accepted-run (Ok tt) σ d τ o e = (refl, e)
 
 -- the fast run: with the table's words it answers as `run` does, refusals included; with other words it is refused
-module _ (m : Machine) (s words : List ℕ) (rule : StopRule) (fuel : ℕ) (σ : Conf) where
+module _ (m : Machine) (s words : List ℕ) (rule : Option State) (fuel : ℕ) (σ : Conf) where
   pub fast_agrees : words_right m s words ≡ true → fast_answer m s words rule fuel σ ≡ run_answer m s rule fuel σ
   unfolding fast_answer run_answer fast_check run_check pick
   fast_agrees w = rw w refl
 
-  pub fast_done : (τ : Conf) (o : Outcome) → fast_answer m s words rule fuel σ ≡ given τ (Ans.Done o) → run_answer m s rule fuel σ ≡ given τ (Ans.Done o)
+  pub fast_done : (τ : Conf) (o : Outcome) → fast_answer m s words rule fuel σ ≡ given τ (Ok o) → run_answer m s rule fuel σ ≡ given τ (Ok o)
   unfolding fast_answer
   fast_done τ o e = sym (fast_agrees (fast_right m s words fuel σ _ refl (accepted-run _ _ _ _ _ e).0)) ∙ e
 
-module _ (m : Machine) (s : List ℕ) (bytes : Bytes s) (rule : StopRule) (fuel : ℕ) (σ τ : Conf) (o : Outcome)
-    (done : run_answer m s rule fuel σ ≡ given τ (Ans.Done o)) where
+module _ (m : Machine) (s : List ℕ) (bytes : Bytes s) (rule : Option State) (fuel : ℕ) (σ τ : Conf) (o : Outcome)
+    (done : run_answer m s rule fuel σ ≡ given τ (Ok o)) where
   abbrev ending : End
   ending = run_of (task m s true rule) fuel (bare_of m σ)
 
-  accepted : (run_check m s fuel σ ≡ Accepted) × (ran_back m σ ending ≡ given τ (Ans.Done o))
+  accepted : (run_check m s fuel σ ≡ Ok tt) × (ran_back m σ ending ≡ given τ (Ok o))
   unfolding run_answer
   accepted = accepted-run _ _ _ _ _ done
 
@@ -99,17 +93,17 @@ module _ (m : Machine) (s : List ℕ) (bytes : Bytes s) (rule : StopRule) (fuel 
 
 -- ---- one step
 
-accepted-step : (c : Checked) (σ : Conf) (d : StepGiven) (τ : Conf) (x : Status) → step_on c σ d ≡ step_given τ (StepAns.Done x) → (c ≡ Accepted) × (d ≡ step_given τ (StepAns.Done x))
-accepted-step (Refused why) σ d τ x e =
+accepted-step : (c : Result ⊤ Refusal) (σ : Conf) (d : StepGiven) (τ : Conf) (x : Status) → step_on c σ d ≡ step_given τ (Ok x) → (c ≡ Ok tt) × (d ≡ step_given τ (Ok x))
+accepted-step (Err why) σ d τ x e =
     let k = ap (λ (g : StepGiven). g.answer) e in
     let z : ◌≡◌ {A = ℕ} 0 1 = cc in absurd (omega arith)
-accepted-step Accepted σ d τ x e = (refl, e)
+accepted-step (Ok tt) σ d τ x e = (refl, e)
 
-module _ (m : Machine) (s : List ℕ) (bytes : Bytes s) (σ τ : Conf) (x : Status) (done : step_answer m s σ ≡ step_given τ (StepAns.Done x)) where
+module _ (m : Machine) (s : List ℕ) (bytes : Bytes s) (σ τ : Conf) (x : Status) (done : step_answer m s σ ≡ step_given τ (Ok x)) where
   abbrev made-step : Once
   made-step = once_of m s (bare_of m σ)
 
-  step-accepted : (run_check m s 1 σ ≡ Accepted) × (step_back m σ made-step ≡ step_given τ (StepAns.Done x))
+  step-accepted : (run_check m s 1 σ ≡ Ok tt) × (step_back m σ made-step ≡ step_given τ (Ok x))
   unfolding step_answer
   step-accepted = accepted-step _ _ _ _ _ done
 
@@ -136,7 +130,7 @@ module _ (m : Machine) (s : List ℕ) (bytes : Bytes s) (σ τ : Conf) (x : Stat
 
   stepped : Stepped made-step
   unfolding once_of pick bare_sim
-  stepped = by (look_with m s false (bare_of m σ)) refl (look_sees (task m s false Rule.Never) (bare_of m σ) bare_engine)
+  stepped = by (look_with m s false (bare_of m σ)) refl (look_sees (task m s false None) (bare_of m σ) bare_engine)
     where
       still : Kept m (bare_of m σ) (bare_of m σ)
       still = kept_none m (bare_of m σ) bare_engine
@@ -144,7 +138,7 @@ module _ (m : Machine) (s : List ℕ) (bytes : Bytes s) (σ τ : Conf) (x : Stat
       back_same : config_of m (back_of m σ (bare_of m σ)) ≡ config_of m σ
       back_same = config_back (bare_of m σ) bare_engine ∙ config_bare m σ
 
-      room : (a : Action) → entry (table_of m s) (config_of m (bare_of m σ)) ≡ Defined a → Stepped (pick (roomy_of (bare_of m σ) a) (once (step_of (bare_of m σ) a) Step.Running) (once (bare_of m σ) Step.Full))
+      room : (a : Action) → entry (table_of m s) (config_of m (bare_of m σ)) ≡ Some a → Stepped (pick (roomy_of (bare_of m σ) a) (once (step_of (bare_of m σ) a) Step.Running) (once (bare_of m σ) Step.Full))
       room a e = pick_cases (roomy_of (bare_of m σ) a) _ _ Stepped
           (λ r.
           let t = accepted_table m s bytes step_passed.0.table in
@@ -156,7 +150,7 @@ module _ (m : Machine) (s : List ℕ) (bytes : Bytes s) (σ τ : Conf) (x : Stat
           })
           (λ r. record { kept = still; holds = full a (sym (ap (entry (table_of m s)) (config_bare m σ)) ∙ e) r back_same })
 
-      by : (l : Look) → look_with m s false (bare_of m σ) ≡ l → Sees (task m s false Rule.Never) (config_of m (bare_of m σ)) l
+      by : (l : Look) → look_with m s false (bare_of m σ) ≡ l → Sees (task m s false None) (config_of m (bare_of m σ)) l
           → Stepped (on_look l (once (bare_of m σ) Step.Halted) (λ p. once (bare_of m σ) Step.Halted)
           (λ a. pick (roomy_of (bare_of m σ) a) (once (step_of (bare_of m σ) a) Step.Running) (once (bare_of m σ) Step.Full)))
       by l q (no_entry h) = record { kept = still; holds = halted (sym (ap (entry (table_of m s)) (config_bare m σ)) ∙ h) back_same }

@@ -1,5 +1,7 @@
 -- "Bytes .. past a call's final length stay": a fresh tape, a write, a growth, a step, a run, and the operations as they are called. Assumes nothing.
-use Rattle.std.specs.Prelude.{◌≡◌, refl, Bool, false, List, [], ℕ, zero, suc, ◌≤◌, ◌<◌, ltb, length}
+use Rattle.symbol.specs.declared.State.{State}
+use Rattle.outcome.specs.declared.Refusal.{Refusal}
+use Rattle.std.specs.Prelude.{◌≡◌, refl, Bool, false, List, [], ℕ, zero, suc, ◌≤◌, ◌<◌, ltb, length, Err, Ok, Option, Result, ⊤}
 use Rattle.std.proofs.Common.{◌∙◌, arith, ltb-true, get_or-set_other}
 use Rattle.std.proofs.Math.Bool.{true}
 use Rattle.notation.specs.Choice.{pick}
@@ -9,8 +11,6 @@ use Rattle.symbol.specs.declared.Dir.TheVariants.{L, R, N}
 use Rattle.outcome.specs.declared.Status.TheVariants as Step
 use Rattle.machine.specs.declared.Machine.{Machine}
 use Rattle.machine.specs.declared.Action.{Action}
-use Rattle.machine.specs.declared.Checked.{Checked}
-use Rattle.machine.specs.declared.Checked.TheVariants.{Accepted, Refused}
 use Rattle.tape.specs.declared.Tape.{Tape}
 use Rattle.tape_cells.specs.Growth.{extra}
 use Rattle.tape.specs.Model.Moves.{Held, held, no_tape, fresh_of, write_of, leaves, grown_by, grow_of, shift_of, shifted, move_of, act_of}
@@ -18,7 +18,6 @@ use Rattle.tape.proofs.Facts.Cells.{fresh_past, grown_past}
 use Rattle.run_checks.specs.Model.Sizes as Sizes
 use Rattle.run_checks.specs.declared.inner.look.Look.{Look}
 use Rattle.run_checks.specs.declared.inner.look.Look.TheVariants.{Halt, Never, Go}
-use Rattle.run_rules.specs.declared.StopRule.{StopRule}
 use Rattle.sim.specs.Model.Engine.{Task, task, Conf, tape0, tape1, tape2, End, on_look, look_with, look_of, matches, halted_end, never_end, fuel_end, full_end, stopped_end, roomy_of, step_of, run_with, run_of, Once, once, once_of}
 use Rattle.sim.specs.Model.Operations.{bare_sim, bare_of, hand_back, back_of, answer_of, run_check, fast_check, run_answer, fast_answer, step_answer, step_on, step_back}
 use Rattle.sim_refines.specs.Meaning.{has}
@@ -169,15 +168,15 @@ pub kept_all : (σ : Conf) → PastKept σ.c0 σ.c1 σ.c2 σ
 kept_all σ = record { past0 = λ i l. refl; past1 = λ i l. refl; past2 = λ i l. refl }
 
 module _ (m : Machine) (s : List ℕ) (σ : Conf) where
-  answer_kept : (c : Checked) (p : Bool) (rule : StopRule) (fuel : ℕ) → PastKept σ.c0 σ.c1 σ.c2 (answer_of c m s p rule fuel σ).at
-  answer_kept (Refused why) p rule fuel = kept_all σ
-  answer_kept Accepted p rule fuel = ran_kept _ _ _ m σ (kept_all σ) (task m s p rule) fuel
+  answer_kept : (c : Result ⊤ Refusal) (p : Bool) (rule : Option State) (fuel : ℕ) → PastKept σ.c0 σ.c1 σ.c2 (answer_of c m s p rule fuel σ).at
+  answer_kept (Err why) p rule fuel = kept_all σ
+  answer_kept (Ok tt) p rule fuel = ran_kept _ _ _ m σ (kept_all σ) (task m s p rule) fuel
 
-  pub run_kept : (rule : StopRule) (fuel : ℕ) → PastKept σ.c0 σ.c1 σ.c2 (run_answer m s rule fuel σ).at
+  pub run_kept : (rule : Option State) (fuel : ℕ) → PastKept σ.c0 σ.c1 σ.c2 (run_answer m s rule fuel σ).at
   unfolding run_answer
   run_kept rule fuel = answer_kept (run_check m s fuel σ) true rule fuel
 
-  pub fast_kept : (words : List ℕ) (rule : StopRule) (fuel : ℕ) → PastKept σ.c0 σ.c1 σ.c2 (fast_answer m s words rule fuel σ).at
+  pub fast_kept : (words : List ℕ) (rule : Option State) (fuel : ℕ) → PastKept σ.c0 σ.c1 σ.c2 (fast_answer m s words rule fuel σ).at
   unfolding fast_answer
   fast_kept words rule fuel = answer_kept (fast_check m s words fuel σ) true rule fuel
 
@@ -185,6 +184,6 @@ module _ (m : Machine) (s : List ℕ) (σ : Conf) where
   unfolding step_answer
   step_kept = by (run_check m s 1 σ)
     where
-      by : (c : Checked) → PastKept σ.c0 σ.c1 σ.c2 (step_on c σ (step_back m σ (once_of m s (bare_of m σ)))).at
-      by (Refused why) = kept_all σ
-      by Accepted = back_kept _ _ _ m σ (kept_all σ) _ (once_goes m s (bare_of m σ))
+      by : (c : Result ⊤ Refusal) → PastKept σ.c0 σ.c1 σ.c2 (step_on c σ (step_back m σ (once_of m s (bare_of m σ)))).at
+      by (Err why) = kept_all σ
+      by (Ok tt) = back_kept _ _ _ m σ (kept_all σ) _ (once_goes m s (bare_of m σ))

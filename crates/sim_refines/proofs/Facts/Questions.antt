@@ -1,6 +1,6 @@
 -- The answers to the questions on one tape agree with the table machine's tape at every position. `cell_of` gives its cells by definition.
 -- Assumes nothing.
-use Rattle.std.specs.Prelude.{◌≡◌, refl, ◌↔◌, List, ℕ, suc, ◌+◌, ◌≤◌, ◌<◌, ◌^◌, ℤ, pos, negsuc, ◌+ℤ◌, length, get_or}
+use Rattle.std.specs.Prelude.{◌≡◌, refl, ◌↔◌, List, ℕ, suc, ◌+◌, ◌≤◌, ◌<◌, ◌^◌, ℤ, pos, negsuc, ◌+ℤ◌, length, get_or, None, Option}
 use Rattle.std.proofs.Common.{sym, ◌∙◌, arith, ne_eqb}
 use Rattle.std.proofs.Math.Decide.{dec_lt}
 use Rattle.std.proofs.lemmas.Bool.{eqb-false}
@@ -11,9 +11,6 @@ use Rattle.notation.specs.ScanDown.{count_fails}
 use Rattle.symbol.specs.Model.{raised_of}
 use Rattle.symbol.specs.declared.Dir.{Dir}
 use Rattle.tape.specs.declared.Span.{Span}
-use Rattle.tape.specs.declared.Span.TheVariants.{Empty}
-use Rattle.tape.specs.declared.Spot.{Spot}
-use Rattle.tape.specs.declared.Spot.TheVariants.{Nowhere}
 use Rattle.tape.specs.Model.Moves.{Held}
 use Rattle.tape.specs.Model.Questions.{cell_of, blank_at, non_blank_of, count_of, window_cell, window_from, window_of, find_of}
 use Rattle.tape.proofs.Facts.CellPlaces.{Place, below, inside, past, place, cell_in, cell_below, cell_past, cell_of_index}
@@ -29,13 +26,13 @@ module _ (h : Held) (z : ℤ) (d : Dir) where
   pub find_is : Finds (tape_of h).cell z d (find_of h z d)
   find_is = find_says h z d
 
-  pub find_exact : (find_of h z d ≡ Nowhere) ↔ ((y : ℤ) → Toward d z y → (tape_of h).cell y ≡ 0)
+  pub find_exact : (find_of h z d ≡ None) ↔ ((y : ℤ) → Toward d z y → (tape_of h).cell y ≡ 0)
   find_exact = (λ e. says (rw e at find_is), λ r. holds r find_is)
     where
-      says : Finds (tape_of h).cell z d Nowhere → (y : ℤ) → Toward d z y → (tape_of h).cell y ≡ 0
+      says : Finds (tape_of h).cell z d None → (y : ℤ) → Toward d z y → (tape_of h).cell y ≡ 0
       says (no_cell r) = r
 
-      holds : ((y : ℤ) → Toward d z y → (tape_of h).cell y ≡ 0) → {x : Spot} → Finds (tape_of h).cell z d x → x ≡ Nowhere
+      holds : ((y : ℤ) → Toward d z y → (tape_of h).cell y ≡ 0) → {x : Option ℤ} → Finds (tape_of h).cell z d x → x ≡ None
       holds r (no_cell q) = refl
       holds r (nearest y t w q) = absurd (w (r y t))
 
@@ -45,13 +42,13 @@ module _ (h : Held) where
   pub non_blank_is : Spans (tape_of h).cell (non_blank_of h)
   non_blank_is = non_blank_says h
 
-  pub non_blank_exact : (non_blank_of h ≡ Empty) ↔ ((y : ℤ) → (tape_of h).cell y ≡ 0)
+  pub non_blank_exact : (non_blank_of h ≡ None) ↔ ((y : ℤ) → (tape_of h).cell y ≡ 0)
   non_blank_exact = (λ e. says (rw e at non_blank_is), λ r. holds r non_blank_is)
     where
-      says : Spans (tape_of h).cell Empty → (y : ℤ) → (tape_of h).cell y ≡ 0
+      says : Spans (tape_of h).cell None → (y : ℤ) → (tape_of h).cell y ≡ 0
       says (no_cells r) = r
 
-      holds : ((y : ℤ) → (tape_of h).cell y ≡ 0) → {x : Span} → Spans (tape_of h).cell x → x ≡ Empty
+      holds : ((y : ℤ) → (tape_of h).cell y ≡ 0) → {x : Option Span} → Spans (tape_of h).cell x → x ≡ None
       holds r (no_cells q) = refl
       holds r (range a b v w p q) = absurd (v (r a))
 

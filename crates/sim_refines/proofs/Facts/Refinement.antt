@@ -1,5 +1,5 @@
 -- THE PLAIN ENGINE REFINES THE TABLE MACHINE: the proof of Statement's claim. Assumes nothing.
-use Rattle.std.specs.Prelude.{◌≡◌, false}
+use Rattle.std.specs.Prelude.{◌≡◌, false, Some}
 use Rattle.std.proofs.Math.Path.{refl, sym, ap, subst}
 use Rattle.std.proofs.Common.{◌∙◌}
 use Rattle.std.proofs.Math.Bool.{true}
@@ -12,7 +12,6 @@ use Rattle.outcome.specs.declared.Outcome.{Outcome}
 use Rattle.outcome.specs.declared.Outcome.TheVariants.{NeverHalts, Stopped}
 use Rattle.machine.specs.declared.Machine.{Machine}
 use Rattle.machine.specs.declared.Action.{Action}
-use Rattle.machine.specs.declared.Entry.TheVariants.{Defined}
 use Rattle.table_machine.specs.TableMachine.{Config, entry, run, Halted, halts}
 use Rattle.table_machine.specs.Tables.{TableOf}
 use Rattle.table_machine.proofs.Facts.Run.{not_defined, step-act}
@@ -71,7 +70,7 @@ module _ (k : Task) (fuel : ℕ) (σ : Conf) (f : EngineFits k.machine σ) where
   loops_here : (p : NonHaltProof) → k.proves ≡ true → Judged k (held_by k σ) (NeverHalts σ.sim.steps p) → Refines k fuel σ (never_end σ p)
   loops_here p t v = ends_here (verdict _ t v (λ n e. let z : ◌≡◌ {A = ℕ} 0 1 = cc in absurd (omega arith)))
 
-  module _ (a : Action) (reads : entry (table_in k) (held_by k σ) ≡ Defined a) (u : Unproved k (held_by k σ)) where
+  module _ (a : Action) (reads : entry (table_in k) (held_by k σ) ≡ Some a) (u : Unproved k (held_by k σ)) where
     spent_here : 0 ≡ fuel → Refines k fuel σ (fuel_end σ)
     spent_here z = ends_here (by_test k.proves (λ t. verdict _ t (u t) (λ n e. z)) (λ t. spent t (λ h. not_defined _ a h reads) z))
 
@@ -81,7 +80,7 @@ module _ (k : Task) (fuel : ℕ) (σ : Conf) (f : EngineFits k.machine σ) where
 -- ---- a step, and a run from there
 
 module _ (k : Task) (σ : Conf) (f : EngineFits k.machine σ) (table : TableOf k.machine (table_in k)) (small : σ.sim.steps + 1 ≤ 2 ^ 62)
-    (a : Action) (reads : entry (table_in k) (held_by k σ) ≡ Defined a) (u : Unproved k (held_by k σ)) (roomy : roomy_of σ a ≡ true) where
+    (a : Action) (reads : entry (table_in k) (held_by k σ) ≡ Some a) (u : Unproved k (held_by k σ)) (roomy : roomy_of σ a ≡ true) where
   step_kept : Kept k.machine σ (step_of σ a)
   step_kept = step_keeps k.machine k.table σ f table a reads roomy small
 

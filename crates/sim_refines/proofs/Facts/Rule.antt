@@ -1,5 +1,6 @@
 -- "a `from` state, one not below n never matching": with such a rule the run and the fast run answer as without a rule. Assumes nothing.
-use Rattle.std.specs.Prelude.{◌≡◌, Bool, false, List}
+use Rattle.outcome.specs.declared.Refusal.{Refusal}
+use Rattle.std.specs.Prelude.{◌≡◌, Bool, false, List, Err, None, Ok, Result, Some, ⊤}
 use Rattle.std.proofs.Math.Path.{refl, sym, ap}
 use Rattle.std.proofs.Common.{◌∙◌, arith}
 use Rattle.std.proofs.Math.Bool.{true}
@@ -10,12 +11,9 @@ use Rattle.notation.proofs.Facts.Tests.{by_test, pick_false}
 use Rattle.symbol.specs.declared.State.{State}
 use Rattle.machine.specs.declared.Machine.{Machine}
 use Rattle.machine.specs.declared.Action.{Action}
-use Rattle.machine.specs.declared.Checked.{Checked}
-use Rattle.machine.specs.declared.Checked.TheVariants.{Accepted, Refused}
 use Rattle.table_laws.specs.WellFormed.{Bytes}
 use Rattle.table_machine.specs.Tables.{table_of, TableOf}
 use Rattle.table_machine.proofs.Facts.Table.{accepted_table}
-use Rattle.run_rules.specs.declared.StopRule.TheVariants as Rule
 use Rattle.run_checks.specs.declared.inner.look.Look.{Look}
 use Rattle.sim.specs.Model.Engine.{Task, task, Conf, on_look, matches, halted_end, never_end, full_end, stopped_end, roomy_of, step_of, run_with, run_of}
 use Rattle.sim.specs.Model.Operations.{bare_sim, bare_of, run_check, fast_check, ran_back, answer_of, run_answer, fast_answer}
@@ -30,12 +28,12 @@ use Rattle.sim_refines.proofs.Facts.MissingTapes.{bare_fits}
 
 module _ (m : Machine) (s : List ℕ) (table : TableOf m (table_of m s)) (proves : Bool) (p : State) (off : m.states ≤ p.0) where
   abbrev ruled : Task
-  ruled = task m s proves (Rule.From p)
+  ruled = task m s proves (Some p)
 
   abbrev free : Task
-  free = task m s proves Rule.Never
+  free = task m s proves None
 
-  unmatched : (σ : Conf) → EngineFits m σ → matches (Rule.From p) σ.sim.state ≡ false
+  unmatched : (σ : Conf) → EngineFits m σ → matches (Some p) σ.sim.state ≡ false
   unfolding matches
   unmatched σ f = ne_eqb p.0 σ.sim.state.0 (λ e. omega (arith, f.state_in_holds))
 
@@ -51,9 +49,9 @@ module _ (m : Machine) (s : List ℕ) (table : TableOf m (table_of m s)) (proves
       by : ((a : Action) → EngineFits m (step_of σ a) → (step_of σ a).sim.steps + fuel ≤ 2 ^ 62 → run_of ruled fuel (step_of σ a) ≡ run_of free fuel (step_of σ a))
           → {x : Look} → Sees free (config_of m σ) x
           → on_look x (halted_end σ) (never_end σ)
-          (λ a. pick (roomy_of σ a) (pick (matches (Rule.From p) σ.sim.state) (stopped_end (step_of σ a)) (run_of ruled fuel (step_of σ a))) (full_end σ))
+          (λ a. pick (roomy_of σ a) (pick (matches (Some p) σ.sim.state) (stopped_end (step_of σ a)) (run_of ruled fuel (step_of σ a))) (full_end σ))
           ≡ on_look x (halted_end σ) (never_end σ)
-          (λ a. pick (roomy_of σ a) (pick (matches Rule.Never σ.sim.state) (stopped_end (step_of σ a)) (run_of free fuel (step_of σ a))) (full_end σ))
+          (λ a. pick (roomy_of σ a) (pick (matches None σ.sim.state) (stopped_end (step_of σ a)) (run_of free fuel (step_of σ a))) (full_end σ))
       by on (no_entry h) = refl
       by on (loops q t v) = refl
       by on (goes_on a e u) = by_test (roomy_of σ a)
@@ -66,17 +64,17 @@ module _ (m : Machine) (s : List ℕ) (table : TableOf m (table_of m s)) (proves
 -- ---- the operations
 
 module _ (m : Machine) (s : List ℕ) (bytes : Bytes s) (p : State) (fuel : ℕ) (σ : Conf) (off : m.states ≤ p.0) where
-  same_answer : (c : Checked) → (c ≡ Accepted → run_check m s fuel σ ≡ Accepted) → answer_of c m s true (Rule.From p) fuel σ ≡ answer_of c m s true Rule.Never fuel σ
+  same_answer : (c : Result ⊤ Refusal) → (c ≡ Ok tt → run_check m s fuel σ ≡ Ok tt) → answer_of c m s true (Some p) fuel σ ≡ answer_of c m s true None fuel σ
   unfolding bare_sim
-  same_answer (Refused why) h = refl
-  same_answer Accepted h =
+  same_answer (Err why) h = refl
+  same_answer (Ok tt) h =
       let x = run_says m s fuel σ (h refl) in
       ap (ran_back m σ) (same_run m s (accepted_table m s bytes x.0.table) true p off fuel (bare_of m σ) (bare_fits m σ x.0.fits) x.1)
 
-  pub run_off : run_answer m s (Rule.From p) fuel σ ≡ run_answer m s Rule.Never fuel σ
+  pub run_off : run_answer m s (Some p) fuel σ ≡ run_answer m s None fuel σ
   unfolding run_answer
   run_off = same_answer (run_check m s fuel σ) (λ e. e)
 
-  pub fast_off : (words : List ℕ) → fast_answer m s words (Rule.From p) fuel σ ≡ fast_answer m s words Rule.Never fuel σ
+  pub fast_off : (words : List ℕ) → fast_answer m s words (Some p) fuel σ ≡ fast_answer m s words None fuel σ
   unfolding fast_answer
   fast_off words = same_answer (fast_check m s words fuel σ) (λ e. sym (fast_runs m s words fuel σ _ refl e))

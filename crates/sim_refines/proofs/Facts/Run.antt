@@ -1,5 +1,6 @@
 -- What follows for a run: `never` is sound, a run without fuel gives the verdict, and two runs in a row are one. Assumes nothing.
-use Rattle.std.specs.Prelude.{◌≡◌, refl, ◌↔◌, Bool, true, false, List, ℕ, zero, suc, ◌+◌, ◌-◌, ◌≤◌, ◌<◌, ◌^◌}
+use Rattle.symbol.specs.declared.State.{State}
+use Rattle.std.specs.Prelude.{◌≡◌, refl, ◌↔◌, Bool, true, false, List, ℕ, zero, suc, ◌+◌, ◌-◌, ◌≤◌, ◌<◌, ◌^◌, Ok, Option}
 use Rattle.std.proofs.Common.{subst, zero-add, suc-add, arith}
 use Rattle.std.proofs.Math.Decide.{dec_lt}
 use Rattle.notation.specs.Choice.{pick}
@@ -8,7 +9,6 @@ use Rattle.outcome.specs.declared.Outcome.{Outcome}
 use Rattle.outcome.specs.declared.Outcome.TheVariants.{OutOfFuel, NeverHalts}
 use Rattle.machine.specs.declared.Machine.{Machine}
 use Rattle.machine.specs.declared.Action.{Action}
-use Rattle.machine.specs.declared.Checked.TheVariants.{Accepted}
 use Rattle.machine.specs.Model.Check.{table_check}
 use Rattle.table_laws.specs.WellFormed.{Bytes}
 use Rattle.table_machine.specs.TableMachine.{run, Halted, halts}
@@ -17,7 +17,6 @@ use Rattle.table_machine.proofs.Facts.Run.{run_add}
 use Rattle.table_machine.proofs.Facts.Verdict.{verdict_unique}
 use Rattle.table_machine.proofs.Facts.Never.{never_sound_bare}
 use Rattle.table_machine.proofs.Facts.Table.{accepted_table}
-use Rattle.run_rules.specs.declared.StopRule.{StopRule}
 use Rattle.run_checks.specs.declared.inner.look.Look.{Look}
 use Rattle.run_checks.specs.declared.inner.look.Look.TheVariants.{Halt, Never, Go}
 use Rattle.sim.specs.Model.Engine.{Task, task, Conf, End, on_look, matches, halted_end, never_end, fuel_end, full_end, stopped_end, roomy_of, look_of, step_of, run_with, run_of}
@@ -47,7 +46,7 @@ module _ (k : Task) (proves : k.proves ≡ true) (σ : Conf) (fits : EngineFits 
 never_verdict : {k : Task} {fuel made n : ℕ} {σ e : Conf} {p : NonHaltProof} → Answers k fuel made σ e (NeverHalts n p) → Judged k (held_by k e) (NeverHalts n p)
 never_verdict (verdict _ t v g) = v
 
-module _ (m : Machine) (s : List ℕ) (bytes : Bytes s) (accepted : table_check m s ≡ Accepted) (proves : Bool) (rule : StopRule) (fuel : ℕ) (σ : Conf)
+module _ (m : Machine) (s : List ℕ) (bytes : Bytes s) (accepted : table_check m s ≡ Ok tt) (proves : Bool) (rule : Option State) (fuel : ℕ) (σ : Conf)
     (fits : EngineFits m σ) (small : σ.sim.steps + fuel ≤ 2 ^ 62) (n : ℕ) (p : NonHaltProof) (says : (run_of (task m s proves rule) fuel σ).outcome ≡ NeverHalts n p) where
   refined : Refines (task m s proves rule) fuel σ (run_of (task m s proves rule) fuel σ)
   refined = plain_refines m s bytes accepted proves rule fuel σ fits small

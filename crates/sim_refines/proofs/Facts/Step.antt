@@ -1,5 +1,5 @@
 -- A step of the engine is a step of the table machine, and the engine fits after it. Assumes nothing.
-use Rattle.std.specs.Prelude.{◌≡◌, refl, Bool, false, List, ℕ, ◌+◌, ◌≤◌, ◌<◌, ◌^◌, length}
+use Rattle.std.specs.Prelude.{◌≡◌, refl, Bool, false, List, ℕ, ◌+◌, ◌≤◌, ◌<◌, ◌^◌, length, Some}
 use Rattle.std.proofs.Common.{sym, ◌∙◌, arith, ltb-false, le-ltb}
 use Rattle.std.proofs.Math.Path.{ap, subst⁻¹}
 use Rattle.std.proofs.Math.Bool.{true}
@@ -9,7 +9,6 @@ use Rattle.symbol.specs.declared.Dir.{Dir}
 use Rattle.symbol.specs.declared.Dir.TheVariants.{N}
 use Rattle.machine.specs.declared.Machine.{Machine}
 use Rattle.machine.specs.declared.Action.{Action}
-use Rattle.machine.specs.declared.Entry.TheVariants.{Defined}
 use Rattle.table_laws.specs.WellFormed.{ActionOf}
 use Rattle.table_machine.specs.TableMachine.{blank_tape, read_t, update, entry, act}
 use Rattle.table_machine.specs.Tables.{table_of, TableOf, Bare}
@@ -57,7 +56,7 @@ module _ (m : Machine) (s : List ℕ) (σ : Conf) (f : EngineFits m σ) where
   entry_read = λ i. table_of m s σ.sim.state.0 (read_if true m.symbols (tape0 σ) f.fits0 i) (read_if (has m 1) m.symbols (tape1 σ) f.fits1 i)
       (read_if (has m 2) m.symbols (tape2 σ) f.fits2 i)
 
-  module _ (table : TableOf m (table_of m s)) (a : Action) (reads : entry (table_of m s) (config_of m σ) ≡ Defined a) (roomy : roomy_of σ a ≡ true) where
+  module _ (table : TableOf m (table_of m s)) (a : Action) (reads : entry (table_of m s) (config_of m σ) ≡ Some a) (roomy : roomy_of σ a ≡ true) where
     of_machine : ActionOf m a
     of_machine = table _ _ _ _ a reads
 

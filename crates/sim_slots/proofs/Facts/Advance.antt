@@ -1,18 +1,16 @@
 -- After an advance an engine still fits, its buffers have the same lengths, and it has made at most as many steps as the fuel. Assumes nothing.
-use Rattle.std.specs.Prelude.{◌≡◌, refl, Bool, List, ℕ, ◌+◌, ◌-◌, ◌≤◌, ◌^◌, length}
+use Rattle.std.specs.Prelude.{◌≡◌, refl, Bool, List, ℕ, ◌+◌, ◌-◌, ◌≤◌, ◌^◌, length, None, Ok}
 use Rattle.std.proofs.Common.{ap, ◌∙◌, arith, le-leb}
 use Rattle.std.proofs.Math.Bool.{false}
 use Rattle.notation.specs.Choice.{pick}
 use Rattle.notation.proofs.Facts.Tests.{both_true, pick_cases, pick_true, pick_false}
 use Rattle.notation.specs.Limits.{steps_most}
 use Rattle.machine.specs.declared.Machine.{Machine}
-use Rattle.machine.specs.declared.Checked.TheVariants.{Accepted}
 use Rattle.tape.specs.declared.Tape.{Tape}
 use Rattle.tape.specs.Model.Moves.{no_tape}
 use Rattle.tape.specs.Fits.{tape_fits}
 use Rattle.run_checks.specs.declared.inner.look.Look.{Look}
 use Rattle.run_checks.specs.declared.inner.look.Look.TheVariants.{Halt, Never, Go}
-use Rattle.run_rules.specs.declared.StopRule.TheVariants as Rule
 use Rattle.sim.specs.Model.Engine.{Task, task, Conf, conf, on_look, halted_end, never_end, fuel_end, look_of, run_with, run_of}
 use Rattle.sim.specs.Model.Operations.{has1, has2, sizes_fit, bare_sim, bare_of, hand_back, back_of, value_check, engine_check, fuel_fits, fuel_check, run_check}
 use Rattle.sim.proofs.Facts.OperationCases.{Passed, engine_says}
@@ -53,8 +51,8 @@ back_passed m s n σ e p g l = record {
 -- ---- a run as an advance makes it
 
 module _ (m : Machine) (s : List ℕ) (proves : Bool) (n : ℕ) (σ : Conf) (p : Passed m s σ) (limit : σ.sim.steps + n ≤ steps_most) where
-  went : Goes m n (bare_of m σ) (run_of (task m s proves Rule.Never) n (bare_of m σ)).at
-  went = run_goes (task m s proves Rule.Never) p.table n (bare_of m σ) (bare-keeps m s σ p)
+  went : Goes m n (bare_of m σ) (run_of (task m s proves None) n (bare_of m σ)).at
+  went = run_goes (task m s proves None) p.table n (bare_of m σ) (bare-keeps m s σ p)
 
   pub ran_passed : Passed m s (ran_from m s proves n σ).at
   unfolding ran_from
@@ -80,22 +78,14 @@ module _ (m : Machine) (s : List ℕ) (proves : Bool) (n : ℕ) (σ : Conf) (p :
   unfolding ran_from
   ran_length2 = went.length2
 
-  pub ran_lacks1 : has1 m ≡ false → ((ran_from m s proves n σ).at.sim.t1 ≡ σ.sim.t1) × ((ran_from m s proves n σ).at.c1 ≡ σ.c1)
-  unfolding ran_from hand_back
-  ran_lacks1 e = (pick_false (has1 m) _ _ e, went.left1 e)
-
-  pub ran_lacks2 : has2 m ≡ false → ((ran_from m s proves n σ).at.sim.t2 ≡ σ.sim.t2) × ((ran_from m s proves n σ).at.c2 ≡ σ.c2)
-  unfolding ran_from hand_back
-  ran_lacks2 e = (pick_false (has2 m) _ _ e, went.left2 e)
-
 -- ---- the advance
 
 pub advance_at : (m : Machine) (s : List ℕ) (n : ℕ) (σ : Conf) → (advance_of m s n σ).1 ≡ (ran_from m s false n σ).at
 unfolding advance_of
 advance_at m s n σ = refl
 
-module _ (m : Machine) (s : List ℕ) (n : ℕ) (σ : Conf) (checked : engine_check m s σ ≡ Accepted) (limit : σ.sim.steps + n ≤ 2 ^ 62) where
-  pub advance_fits : engine_check m s (advance_of m s n σ).1 ≡ Accepted
+module _ (m : Machine) (s : List ℕ) (n : ℕ) (σ : Conf) (checked : engine_check m s σ ≡ Ok tt) (limit : σ.sim.steps + n ≤ 2 ^ 62) where
+  pub advance_fits : engine_check m s (advance_of m s n σ).1 ≡ Ok tt
   unfolding advance_of
   advance_fits = check_holds m s _ (ran_passed m s false n σ (engine_says m s σ checked) limit)
 
@@ -141,16 +131,16 @@ back_bare m σ = λ i. conf (record {
 
 pub no_fuel_at : (m : Machine) (s : List ℕ) (proves : Bool) (σ : Conf) → (ran_from m s proves 0 σ).at ≡ σ
 unfolding ran_from
-no_fuel_at m s proves σ = ap (back_of m σ) (stays_at (task m s proves Rule.Never) (bare_of m σ)) ∙ back_bare m σ
+no_fuel_at m s proves σ = ap (back_of m σ) (stays_at (task m s proves None) (bare_of m σ)) ∙ back_bare m σ
 
 -- ---- a run's check, from the engine's check and the step limit
 
-pub run_holds : (m : Machine) (s : List ℕ) (n : ℕ) (σ : Conf) → Passed m s σ → σ.sim.steps + n ≤ steps_most → run_check m s n σ ≡ Accepted
+pub run_holds : (m : Machine) (s : List ℕ) (n : ℕ) (σ : Conf) → Passed m s σ → σ.sim.steps + n ≤ steps_most → run_check m s n σ ≡ Ok tt
 unfolding run_check fuel_check value_check fuel_fits pick
 run_holds m s n σ p l =
     let b = both_true (le-leb n steps_most (omega arith)) (le-leb σ.sim.steps (steps_most - n) (omega arith)) in
     rw (p.table, p.sizes, p.fits, b) refl
 
 -- a checked engine meets what an advance requires
-pub advance_asks : (m : Machine) (s : List ℕ) (n : ℕ) (σ : Conf) → engine_check m s σ ≡ Accepted → σ.sim.steps + n ≤ 2 ^ 62 → run_check m s n σ ≡ Accepted
+pub advance_asks : (m : Machine) (s : List ℕ) (n : ℕ) (σ : Conf) → engine_check m s σ ≡ Ok tt → σ.sim.steps + n ≤ 2 ^ 62 → run_check m s n σ ≡ Ok tt
 advance_asks m s n σ c l = run_holds m s n σ (engine_says m s σ c) l

@@ -1,16 +1,14 @@
 -- THE SLOT'S ROUND TRIP: the engine read from a slot is the engine written, in the buffers of any other of the same sizes. Assumes nothing.
-use Rattle.std.specs.Prelude.{◌≡◌, refl, Bool, false, List, ℕ, ◌+◌, ◌≤◌, ltb, leb, length, take}
+use Rattle.std.specs.Prelude.{◌≡◌, refl, Bool, false, List, ℕ, ◌+◌, ◌≤◌, ltb, leb, length, take, None, Ok, Some}
 use Rattle.std.proofs.Common.{sym, ◌∙◌, arith, eq-eqb}
 use Rattle.std.proofs.Math.Path.{ap, subst⁻¹}
 use Rattle.std.proofs.Math.Bool.{true}
-use Rattle.std.proofs.Math.Option.{none, some}
 use Rattle.std.proofs.Math.Seq.{paste}
 use Rattle.notation.specs.Choice.{pick}
 use Rattle.notation.proofs.Facts.Tests.{both_true, by_test, clash, pick_true, pick_false}
 use Rattle.notation.specs.Limits.{steps_most}
 use Rattle.symbol.specs.Kinds.{state_of}
 use Rattle.machine.specs.declared.Machine.{Machine}
-use Rattle.machine.specs.declared.Checked.TheVariants.{Accepted}
 use Rattle.tape.specs.declared.Tape.{Tape}
 use Rattle.tape.specs.Fits.{tape_fits}
 use Rattle.sim.specs.declared.Simulator.{Simulator}
@@ -45,9 +43,9 @@ pub record InBuffers (m : Machine) (s : List ℕ) (u t v : Conf) : Type 0 where
   pub length2 : length v.c2 ≡ length t.c2
   pub lacks1 : has1 m ≡ false → (v.sim.t1 ≡ t.sim.t1) × (v.c1 ≡ t.c1)
   pub lacks2 : has2 m ≡ false → (v.sim.t2 ≡ t.sim.t2) × (v.c2 ≡ t.c2)
-  pub checked : engine_check m s v ≡ Accepted
+  pub checked : engine_check m s v ≡ Ok tt
 
-pub check_holds : (m : Machine) (s : List ℕ) (σ : Conf) → Passed m s σ → engine_check m s σ ≡ Accepted
+pub check_holds : (m : Machine) (s : List ℕ) (σ : Conf) → Passed m s σ → engine_check m s σ ≡ Ok tt
 unfolding engine_check value_check pick
 check_holds m s σ p = rw (p.table, p.sizes, p.fits) refl
 
@@ -153,11 +151,11 @@ module _ (m : Machine) (s : List ℕ) (u t : Conf) (old : List ℕ) (fu : Passed
   v : Conf
   v = filled m slot w t.c0 t.c1 t.c2
 
-  found : unpack_of m slot u.sim.steps t ≡ some v
+  found : unpack_of m slot u.sim.steps t ≡ Some v
   unfolding unpack_of v w
-  found = pick_true _ (some v) none holds
+  found = pick_true _ (Some v) None holds
 
-  v_checked : engine_check m s v ≡ Accepted
+  v_checked : engine_check m s v ≡ Ok tt
   unfolding v filled fill_if pick
   v_checked = check_holds m s v (record {
     table = fu.table;
@@ -190,8 +188,8 @@ module _ (m : Machine) (s : List ℕ) (u t : Conf) (old : List ℕ) (fu : Passed
     checked = v_checked;
   }
 
-pub unpack_pack : (m : Machine) (s : List ℕ) (u t : Conf) (old : List ℕ) → engine_check m s u ≡ Accepted → engine_check m s t ≡ Accepted → SameSizes m u t
-    → length old ≡ slot_size m u → (v : Conf) × (unpack_of m (pack_of m u old) u.sim.steps t ≡ some v) × InBuffers m s u t v
+pub unpack_pack : (m : Machine) (s : List ℕ) (u t : Conf) (old : List ℕ) → engine_check m s u ≡ Ok tt → engine_check m s t ≡ Ok tt → SameSizes m u t
+    → length old ≡ slot_size m u → (v : Conf) × (unpack_of m (pack_of m u old) u.sim.steps t ≡ Some v) × InBuffers m s u t v
 unpack_pack m s u t old cu ct same long =
     let fu = engine_says m s u cu in
     let ft = engine_says m s t ct in

@@ -1,7 +1,7 @@
 -- After a run a fitting engine still fits, its buffers have the same lengths, and its step count has risen by at most the fuel. Assumes nothing.
 use Rattle.std.proofs.Math.Path.{◌≡◌, refl}
 use Rattle.std.proofs.Common.{sym, ap, ◌∙◌, arith}
-use Rattle.std.specs.Prelude.{Bool, true, false, List, ltb, eqb, length}
+use Rattle.std.specs.Prelude.{Bool, true, false, List, ltb, eqb, length, None, Ok, Option, Some}
 use Prim.Native.Nat.{ℕ, zero, suc, ◌+◌, ◌*◌, ◌/◌, ◌≤◌, ◌<◌}
 use borrow.Author.Tests.{ltb-true, eqb-true, lt-ltb}
 use Rattle.notation.specs.Choice.{pick, both}
@@ -9,9 +9,6 @@ use Rattle.notation.proofs.Facts.Tests.{both_split, pick_cases}
 use Rattle.symbol.specs.declared.Dir.{Dir}
 use Rattle.machine.specs.declared.Machine.{Machine}
 use Rattle.machine.specs.declared.Action.{Action}
-use Rattle.machine.specs.declared.Entry.{Entry}
-use Rattle.machine.specs.declared.Entry.TheVariants.{Undefined, Defined}
-use Rattle.machine.specs.declared.Checked.TheVariants.{Accepted}
 use Rattle.machine.specs.Layout.{entry_count, flag_at, action_at, entry_at}
 use Rattle.machine.specs.Model.Check.{table_check}
 use Rattle.machine.proofs.Facts.Check.{ranges, PassedEntry, defined_passed}
@@ -43,15 +40,15 @@ module _ (m : Machine) (s : List ℕ) where
     write2_in = p.write2_in;
   }
 
-  module _ (accepted : table_check m s ≡ Accepted) where
+  module _ (accepted : table_check m s ≡ Ok tt) where
     inside : (i : ℕ) → i < length s / 8 → flag_at s i ≡ 1 → Lawful m (action_at s i)
     inside i l f =
         let n : length s ≡ 8 * entry_count m = (ranges m s accepted).size in
         passed_lawful i (defined_passed m s i accepted (omega arith) f)
 
-    pub entry_lawful : (i : ℕ) (a : Action) → entry_at s i ≡ Defined a → Lawful m a
+    pub entry_lawful : (i : ℕ) (a : Action) → entry_at s i ≡ Some a → Lawful m a
     unfolding entry_at
-    entry_lawful i a = pick_cases (both (ltb i (length s / 8)) (eqb (flag_at s i) 1)) (Defined (action_at s i)) Undefined (λ x. x ≡ Defined a → Lawful m a)
+    entry_lawful i a = pick_cases (both (ltb i (length s / 8)) (eqb (flag_at s i) 1)) (Some (action_at s i)) None (λ x. x ≡ Some a → Lawful m a)
         (λ t e.
         let p = both_split t in
         let k : action_at s i ≡ a = cc in
@@ -66,11 +63,11 @@ loop_follows tapes q a b r0 r1 r2 h = pick_cases _ _ _ (λ (x : Look). x ≡ Go 
     (λ t e. let z : ◌≡◌ {A = ℕ} 0 1 = cc in absurd (omega arith))
     (λ t. pick_cases _ _ _ (λ (x : Look). x ≡ Go a → b ≡ a) (λ u e. let z : ◌≡◌ {A = ℕ} 0 1 = cc in absurd (omega arith)) (λ u e. cc))
 
-look_follows : (x : Entry) (p : Bool) (tapes : ℕ) (q : _) (a : Action) (r0 r1 r2 : ℕ) (h : Held) → look_on x p tapes q r0 r1 r2 h ≡ Go a → x ≡ Defined a
+look_follows : (x : Option Action) (p : Bool) (tapes : ℕ) (q : _) (a : Action) (r0 r1 r2 : ℕ) (h : Held) → look_on x p tapes q r0 r1 r2 h ≡ Go a → x ≡ Some a
 unfolding look_on judge_of
-look_follows Undefined p tapes q a r0 r1 r2 h = λ e. let z : ◌≡◌ {A = ℕ} 0 1 = cc in absurd (omega arith)
-look_follows (Defined b) p tapes q a r0 r1 r2 h = pick_cases _ _ _ (λ (x : Look). x ≡ Go a → Defined b ≡ Defined a)
-    (λ t e. ap Defined (loop_follows tapes q a b r0 r1 r2 h e)) (λ t e. cc)
+look_follows None p tapes q a r0 r1 r2 h = λ e. let z : ◌≡◌ {A = ℕ} 0 1 = cc in absurd (omega arith)
+look_follows (Some b) p tapes q a r0 r1 r2 h = pick_cases _ _ _ (λ (x : Look). x ≡ Go a → Some b ≡ Some a)
+    (λ t e. ap Some (loop_follows tapes q a b r0 r1 r2 h e)) (λ t e. cc)
 
 -- ---- the invariant: the tapes that the machine has fit, the others have 0 for their numbers
 
@@ -149,7 +146,7 @@ step_goes m σ a l k r =
 
 -- ---- the run
 
-module _ (k : Task) (accepted : table_check k.machine k.table ≡ Accepted) where
+module _ (k : Task) (accepted : table_check k.machine k.table ≡ Ok tt) where
   abbrev Here : ℕ → Conf → End → Type 0
   Here f σ e = Goes k.machine f σ e.at
 

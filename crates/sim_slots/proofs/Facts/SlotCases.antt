@@ -1,14 +1,12 @@
 -- The functions on slots: what they require of one another, and their returns. Assumes nothing.
-use Rattle.std.specs.Prelude.{◌≡◌, refl, Bool, true, false, List, ℕ, ◌+◌, ◌-◌, ◌≤◌, ◌<◌, leb, length, take, drop}
+use Rattle.std.specs.Prelude.{◌≡◌, refl, Bool, true, false, List, ℕ, ◌+◌, ◌-◌, ◌≤◌, ◌<◌, leb, length, take, drop, None, Ok, Option, Some}
 use Rattle.std.proofs.Math.Path.{sym, ap}
 use Rattle.std.proofs.Common.{◌∙◌, arith, leb-true, ne_eqb, eq-eqb, lt-ltb, le-leb, length-drop, length-take-le}
-use Rattle.std.proofs.Math.Option.{Option, none, some}
 use Rattle.std.proofs.Math.Seq.{paste}
 use Rattle.notation.specs.Choice.{pick, both}
 use Rattle.notation.proofs.Facts.Tests.{both_no, both_go, both_split, pick_true, pick_false}
 use Rattle.notation.specs.Limits.{steps_most, cells_most}
 use Rattle.machine.specs.declared.Machine.{Machine}
-use Rattle.machine.specs.declared.Checked.TheVariants.{Accepted}
 use Rattle.tape.specs.declared.Tape.{Tape}
 use Rattle.tape.specs.Model.Moves.{Held, held}
 use Rattle.tape.specs.Fits.{tape_fits, TapeFits}
@@ -18,7 +16,6 @@ use Rattle.sim.specs.declared.Simulator.{Simulator}
 use Rattle.sim.specs.Model.Engine.{Conf, conf}
 use Rattle.sim.specs.Model.Operations.{has1, has2, if_has, sizes_fit, sim_fits, engine_check}
 use Rattle.sim.proofs.Facts.OperationCases.{engine_says}
-use Rattle.sim_slots.specs.declared.inner.Found.TheVariants.{Nothing, Holds}
 use Rattle.sim_slots.specs.Model.Slots.{size_if, size_of, slot_size, put_sim, put_held, put_if, pack_of, part_of, part0, part1, part2, sim_in, holds_one, fill_if, filled, unpack_of}
 use Rattle.sim_slots.specs.Invariants.{PutOk, PutIf, SaveOk, FillOk, FillIf, FilledOk, Restored, restored, restored_on}
 use Rattle.sim_slots.proofs.Facts.FitCases.{Fitted, fitted}
@@ -44,7 +41,7 @@ sizes_small m n0 n1 n2 e =
 
 -- ---- saving
 
-pub save_asks : (m : Machine) (s : List ℕ) (σ : Conf) (b : List ℕ) → engine_check m s σ ≡ Accepted → length b ≡ slot_size m σ → SaveOk m σ b
+pub save_asks : (m : Machine) (s : List ℕ) (σ : Conf) (b : List ℕ) → engine_check m s σ ≡ Ok tt → length b ≡ slot_size m σ → SaveOk m σ b
 save_asks m s σ b e l = let p = engine_says m s σ e in record { sizes = p.sizes; fits = p.fits; long = l }
 
 put_ok : (k : ℕ) (h : Held) (p at : ℕ) (b : List ℕ) → tape_fits k h.tape h.cells ≡ true → length h.cells ≤ cells_most → p + 20 ≤ at → at + length h.cells ≤ length b → PutOk h p at b
@@ -112,15 +109,6 @@ fill_some has t part c c' e q = q ∙ sym (pick_true has (paste c 0 part t.len) 
 pub part_is : (at n : ℕ) (b : List ℕ) → take (at + n - at) (drop at b) ≡ part_of at n b
 part_is at n b = let k : at + n - at ≡ n = omega arith in ap (λ i. take i (drop at b)) k
 
-pub part_fits_is : (k : ℕ) (t : Tape) (at n : ℕ) (b : List ℕ) (r : Bool) → r ≡ tape_fits k t (take (at + n - at) (drop at b)) → r ≡ tape_fits k t (part_of at n b)
-part_fits_is k t at n b r e = e ∙ ap (tape_fits k t) (part_is at n b)
-
-pub fill_is : (at n j : ℕ) (b c c' : List ℕ) → c' ≡ paste c 0 (take (at + n - at) (drop at b)) j → c' ≡ paste c 0 (part_of at n b) j
-fill_is at n j b c c' e = e ∙ ap (λ p. paste c 0 p j) (part_is at n b)
-
-pub part_long : (at n j : ℕ) (b : List ℕ) → at + n ≤ length b → j ≤ n → j ≤ length (take (at + n - at) (drop at b))
-part_long at n j b l h = omega (arith, length-take-le (at + n - at) (drop at b) (omega (arith, length-drop at b)))
-
 -- ---- what is restored
 
 module _ (m : Machine) (b : List ℕ) (step : ℕ) (v : Simulator) (n0 n1 n2 : ℕ) where
@@ -173,14 +161,14 @@ module _ (m : Machine) (b : List ℕ) (step : ℕ) (u v : Simulator) (c0 c1 c2 :
   test : r ≡ holds_one m b step (sim_in m b u) (length c0) (length c1) (length c2)
   test = holds ∙ ap (λ (x : Simulator). holds_one m b step x (length c0) (length c1) (length c2)) read
 
-  pub restored_none : r ≡ false → restored Nothing c0 c1 c2 ≡ restored_on (unpack_of m b step σ) σ
+  pub restored_none : r ≡ false → restored None c0 c1 c2 ≡ restored_on (unpack_of m b step σ) σ
   unfolding unpack_of
   restored_none e = ap (λ x. restored_on x σ) (sym (pick_false _ _ _ (sym test ∙ e)))
 
-  pub restored_some : (d0 d1 d2 : List ℕ) → r ≡ true → conf v d0 d1 d2 ≡ filled m b v c0 c1 c2 → restored (Holds v) d0 d1 d2 ≡ restored_on (unpack_of m b step σ) σ
+  pub restored_some : (d0 d1 d2 : List ℕ) → r ≡ true → conf v d0 d1 d2 ≡ filled m b v c0 c1 c2 → restored (Some v) d0 d1 d2 ≡ restored_on (unpack_of m b step σ) σ
   unfolding unpack_of
   restored_some d0 d1 d2 e q =
-      (λ i. restored_on (some (q i)) σ) ∙ ap (λ (x : Simulator). restored_on (some (filled m b x c0 c1 c2)) σ) read
+      (λ i. restored_on (Some (q i)) σ) ∙ ap (λ (x : Simulator). restored_on (Some (filled m b x c0 c1 c2)) σ) read
       ∙ ap (λ x. restored_on x σ) (sym (pick_true _ _ _ (sym test ∙ e)))
 
 -- ---- the whole, from the parts that the code made
@@ -220,19 +208,19 @@ module _ (m : Machine) (v : Simulator) (b : List ℕ) (n0 n1 n2 p1 p2 : ℕ) (q1
 -- ---- what a restore's answer says
 
 module _ (x : Option Conf) (σ : Conf) (d0 d1 d2 : List ℕ) where
-  pub found_none : restored Nothing d0 d1 d2 ≡ restored_on x σ → (x ≡ none) × (d0 ≡ σ.c0) × (d1 ≡ σ.c1) × (d2 ≡ σ.c2)
+  pub found_none : restored None d0 d1 d2 ≡ restored_on x σ → (x ≡ None) × (d0 ≡ σ.c0) × (d1 ≡ σ.c1) × (d2 ≡ σ.c2)
   found_none = by x
     where
-      by : (x : Option Conf) → restored Nothing d0 d1 d2 ≡ restored_on x σ → (x ≡ none) × (d0 ≡ σ.c0) × (d1 ≡ σ.c1) × (d2 ≡ σ.c2)
-      by none e = (refl, ap (λ (g : Restored). g.c0) e, ap (λ (g : Restored). g.c1) e, ap (λ (g : Restored). g.c2) e)
-      by (some y) e = let k = ap (λ (g : Restored). g.found) e in let z : ◌≡◌ {A = ℕ} 0 1 = cc in absurd (omega arith)
+      by : (x : Option Conf) → restored None d0 d1 d2 ≡ restored_on x σ → (x ≡ None) × (d0 ≡ σ.c0) × (d1 ≡ σ.c1) × (d2 ≡ σ.c2)
+      by None e = (refl, ap (λ (g : Restored). g.c0) e, ap (λ (g : Restored). g.c1) e, ap (λ (g : Restored). g.c2) e)
+      by (Some y) e = let k = ap (λ (g : Restored). g.found) e in let z : ◌≡◌ {A = ℕ} 0 1 = cc in absurd (omega arith)
 
-  pub found_some : (v : Simulator) → restored (Holds v) d0 d1 d2 ≡ restored_on x σ → x ≡ some (conf v d0 d1 d2)
+  pub found_some : (v : Simulator) → restored (Some v) d0 d1 d2 ≡ restored_on x σ → x ≡ Some (conf v d0 d1 d2)
   found_some v = by x
     where
-      by : (x : Option Conf) → restored (Holds v) d0 d1 d2 ≡ restored_on x σ → x ≡ some (conf v d0 d1 d2)
-      by none e = let k = ap (λ (g : Restored). g.found) e in let z : ◌≡◌ {A = ℕ} 0 1 = cc in absurd (omega arith)
-      by (some y) e =
+      by : (x : Option Conf) → restored (Some v) d0 d1 d2 ≡ restored_on x σ → x ≡ Some (conf v d0 d1 d2)
+      by None e = let k = ap (λ (g : Restored). g.found) e in let z : ◌≡◌ {A = ℕ} 0 1 = cc in absurd (omega arith)
+      by (Some y) e =
           let k = ap (λ (g : Restored). g.found) e in
           let s : v ≡ y.sim = cc in
-          λ i. some (conf (sym s i) (sym (ap (λ (g : Restored). g.c0) e) i) (sym (ap (λ (g : Restored). g.c1) e) i) (sym (ap (λ (g : Restored). g.c2) e) i))
+          λ i. Some (conf (sym s i) (sym (ap (λ (g : Restored). g.c0) e) i) (sym (ap (λ (g : Restored). g.c1) e) i) (sym (ap (λ (g : Restored). g.c2) e) i))

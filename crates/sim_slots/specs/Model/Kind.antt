@@ -1,8 +1,8 @@
 -- THE PLAIN ENGINE AS A TIMELINE'S ENGINE: its operations' models, by name. Definitions only.
-use Rattle.std.specs.Prelude.{List, ℕ}
+use Rattle.sim.specs.declared.Simulator.{Simulator}
+use Rattle.outcome.specs.declared.Refusal.{Refusal}
+use Rattle.std.specs.Prelude.{List, ℕ, Err, Ok, Result}
 use Rattle.machine.specs.declared.Machine.{Machine}
-use Rattle.sim.specs.declared.Fresh.{Fresh}
-use Rattle.sim.specs.declared.Fresh.TheVariants as New
 use Rattle.sim.specs.Model.Engine.{Conf, conf}
 use Rattle.sim.specs.Model.Operations.{Made, new_answer, engine_check}
 use Rattle.timeline_rule.specs.Model.Timeline.{Reply, refused, answered}
@@ -16,9 +16,9 @@ pub record Lent : Type 0 where
   pub c1 : List ℕ
   pub c2 : List ℕ
 
-abbrev pub reply_on : Fresh → (c0 c1 c2 : List ℕ) → Reply Conf
-reply_on (New.Refused why) c0 c1 c2 = refused why
-reply_on (New.Made v) c0 c1 c2 = answered (conf v c0 c1 c2)
+abbrev pub reply_on : Result Simulator Refusal → (c0 c1 c2 : List ℕ) → Reply Conf
+reply_on (Err why) c0 c1 c2 = refused why
+reply_on (Ok v) c0 c1 c2 = answered (conf v c0 c1 c2)
 
 abbrev pub made_on : Made → Reply Conf
 made_on g = reply_on g.answer g.c0 g.c1 g.c2

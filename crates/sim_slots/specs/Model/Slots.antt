@@ -1,6 +1,5 @@
 -- A slot of the plain engine, as bytes: "A slot is 128 bytes more than the cells buffers." Definitions only.
-use Rattle.std.specs.Prelude.{Bool, List, ℕ, ◌+◌, eqb, length, take, drop}
-use Rattle.std.proofs.Math.Option.{Option, none, some}
+use Rattle.std.specs.Prelude.{Bool, List, ℕ, ◌+◌, eqb, length, take, drop, None, Option, Some}
 use Rattle.std.proofs.Math.Seq.{paste}
 use Rattle.notation.specs.Choice.{pick, both}
 use Rattle.symbol.specs.Kinds.{state_of}
@@ -103,7 +102,7 @@ filled m b v c0 c1 c2 =
     (fill_if (has2 m) v.t2 (part2 m (length c0) (length c1) (length c2) b) c2)
 
 abbrev pub taken_if : Bool → Conf → Option Conf
-taken_if holds σ = pick holds (some σ) none
+taken_if holds σ = pick holds (Some σ) None
 
 -- the engine in a slot's bytes, read into the buffers of σ, if it is of step `step` and fits
 unfoldable pub unpack_of : Machine → List ℕ → (step : ℕ) → Conf → Option Conf

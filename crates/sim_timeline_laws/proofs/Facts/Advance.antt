@@ -1,5 +1,5 @@
 -- An advance of the engine makes all the steps of its meaning, or stops at the first that is full. Assumes nothing.
-use Rattle.std.specs.Prelude.{◌≡◌, true, false, List}
+use Rattle.std.specs.Prelude.{◌≡◌, true, false, List, None}
 use Rattle.std.proofs.Math.Path.{refl, subst, subst⁻¹}
 use Rattle.std.proofs.Common.{sym, ap, ◌∙◌, add-one, arith}
 use Prim.Native.Nat.{ℕ, zero, suc, ◌+◌, ◌≤◌, ◌^◌}
@@ -12,7 +12,6 @@ use Rattle.machine.specs.declared.Action.{Action}
 use Rattle.table_machine.specs.TableMachine.{Config, Halted, Verdict, halts}
 use Rattle.table_machine.specs.Tables.{table_of, TableOf}
 use Rattle.run_checks.specs.declared.inner.look.Look.{Look}
-use Rattle.run_rules.specs.declared.StopRule.TheVariants as Rule
 use Rattle.sim.specs.Model.Engine.{Task, task, Conf, End, on_look, matches, halted_end, never_end, fuel_end, full_end, stopped_end, roomy_of, step_of, run_with, run_of}
 use Rattle.sim.specs.Model.Operations.{bare_sim, bare_of, back_of}
 use Rattle.sim.proofs.Facts.OperationCases.{Passed}
@@ -33,10 +32,10 @@ use Rattle.sim_timeline_laws.proofs.Facts.Step.{step_mean, step_room, step_full,
 module _ (m : Machine) (s : List ℕ) (table : TableOf m (table_of m s)) where
   -- a run without the never test, and one with it
   abbrev quiet : Task
-  quiet = task m s false Rule.Never
+  quiet = task m s false None
 
   abbrev proving : Task
-  proving = task m s true Rule.Never
+  proving = task m s true None
 
   abbrev config_in : Mean → Config
   config_in x = x.config
@@ -103,11 +102,11 @@ module _ (m : Machine) (s : List ℕ) (table : TableOf m (table_of m s)) where
           → {x : Look} → Sees quiet (held_by quiet σ) x
           → Ran (suc n) σ
           (on_look x (halted_end σ) (never_end σ)
-          (λ a. pick (roomy_of σ a) (pick (matches Rule.Never σ.sim.state) (stopped_end (step_of σ a)) (run_of quiet n (step_of σ a))) (full_end σ)))
+          (λ a. pick (roomy_of σ a) (pick (matches None σ.sim.state) (stopped_end (step_of σ a)) (run_of quiet n (step_of σ a))) (full_end σ)))
       by on (no_entry h) = ran_halted (suc n) σ f h
       by on (loops p t v) = absurd (clash t refl)
       by on (goes_on a e u) = pick_cases (roomy_of σ a) _ _ (Ran (suc n) σ)
-          (λ r. pick_cases (matches Rule.Never σ.sim.state) _ _ (Ran (suc n) σ)
+          (λ r. pick_cases (matches None σ.sim.state) _ _ (Ran (suc n) σ)
           (λ t. absurd (clash t refl))
           (λ t.
           let k = step_keeps m s σ f table a e r (omega arith) in

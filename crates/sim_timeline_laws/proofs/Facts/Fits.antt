@@ -1,10 +1,8 @@
 -- The engines of one list of calls: those that pass the check, with buffers as long as those of e. An advance or a slot leads to another of them. Assumes nothing.
-use Rattle.std.specs.Prelude.{◌≡◌, List, ℕ, ◌+◌, ◌≤◌, length}
+use Rattle.std.specs.Prelude.{◌≡◌, List, ℕ, ◌+◌, ◌≤◌, length, Ok, Some}
 use Rattle.std.proofs.Common.{sym, ◌∙◌, leb-true, lt-ltb}
-use Rattle.std.proofs.Math.Option.{some}
 use Rattle.notation.specs.Limits.{steps_most}
 use Rattle.machine.specs.declared.Machine.{Machine}
-use Rattle.machine.specs.declared.Checked.TheVariants.{Accepted}
 use Rattle.sim.specs.Model.Engine.{Conf}
 use Rattle.sim.specs.Model.Operations.{engine_check}
 use Rattle.sim.proofs.Facts.OperationCases.{engine_says}
@@ -19,7 +17,7 @@ use Rattle.sim_timeline_laws.proofs.Facts.Meaning.{taken_same, same_mean}
 
 -- u passes the check of every operation, and its buffers are as long as those of e
 pub record FitsLike (m : Machine) (s : List ℕ) (e u : Conf) : Type 0 where
-  pub accepted : engine_check m s u ≡ Accepted
+  pub accepted : engine_check m s u ≡ Ok tt
   pub same0 : length u.c0 ≡ length e.c0
   pub same1 : length u.c1 ≡ length e.c1
   pub same2 : length u.c2 ≡ length e.c2
@@ -78,7 +76,7 @@ module _ (m : Machine) (s : List ℕ) (e : Conf) where
     }
 
     pub packed_back : length old ≡ slot_size m e
-        → (v : Conf) × (unpack_of m (pack_of m u old) u.sim.steps t ≡ some v) × SameEngine m v u × (mean_of m v ≡ mean_of m u) × FitsLike m s e v
+        → (v : Conf) × (unpack_of m (pack_of m u old) u.sim.steps t ≡ Some v) × SameEngine m v u × (mean_of m v ≡ mean_of m u) × FitsLike m s e v
     packed_back long =
         let r = unpack_pack m s u t old fu.accepted ft.accepted same_sizes (long ∙ sym (same_slot u fu)) in
         let same : SameEngine m r.0 u = kept_same r.0 r.2 in

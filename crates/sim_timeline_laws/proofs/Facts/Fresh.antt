@@ -1,11 +1,10 @@
 -- A fresh engine passes the check of every operation. Assumes nothing.
-use Rattle.std.specs.Prelude.{◌≡◌, refl, Bool, true, false, List, [], ℕ, leb, length}
+use Rattle.std.specs.Prelude.{◌≡◌, refl, Bool, true, false, List, [], ℕ, leb, length, Ok}
 use Rattle.std.proofs.Common.{sym, ap, ◌∙◌}
 use Rattle.notation.specs.Choice.{pick}
 use Rattle.notation.proofs.Facts.Tests.{both_split, both_true, pick_cases}
 use Rattle.notation.specs.Limits.{cells_most}
 use Rattle.machine.specs.declared.Machine.{Machine}
-use Rattle.machine.specs.declared.Checked.TheVariants.{Accepted}
 use Rattle.machine.specs.Model.Check.{within, table_check}
 use Rattle.machine.proofs.Facts.Check.{demand_says, on_says}
 use Rattle.machine.specs.Model.Word.{word_check}
@@ -13,7 +12,6 @@ use Rattle.tape.specs.Model.Moves.{Held, held, no_tape, fresh_of}
 use Rattle.tape.proofs.Facts.Cells.{length_fresh}
 use Rattle.run_checks.specs.Model.Sizes.{sizes_fit, fresh_sizes, fresh_check}
 use Rattle.sim.specs.declared.Simulator.{Simulator}
-use Rattle.sim.specs.declared.Fresh.TheVariants as New
 use Rattle.sim.specs.Model.Engine.{conf}
 use Rattle.sim.specs.Model.Operations.{has1, has2, if_has, blank_tape, made, Made, new_answer}
 use Rattle.sim.proofs.Facts.OperationCases.{Passed, fresh_says}
@@ -26,7 +24,7 @@ unfolding pick
 has_most true n e = (both_split e).1
 has_most false n e = refl
 
-sizes_asked : (m : Machine) (s w : List ℕ) (n0 n1 n2 : ℕ) → fresh_check m s w n0 n1 n2 ≡ Accepted → fresh_sizes m (length w) n0 n1 n2 ≡ true
+sizes_asked : (m : Machine) (s w : List ℕ) (n0 n1 n2 : ℕ) → fresh_check m s w n0 n1 n2 ≡ Ok tt → fresh_sizes m (length w) n0 n1 n2 ≡ true
 unfolding fresh_check
 sizes_asked m s w n0 n1 n2 e =
     let t = on_says (table_check m s) _ e in
@@ -44,8 +42,8 @@ sizes-within m n n0 n1 n2 e =
 length_blank : (has : Bool) (c : List ℕ) → length (blank_tape has c).cells ≡ length c
 length_blank has c = pick_cases has (fresh_of [] c) (held no_tape c) (λ (h : Held). length h.cells ≡ length c) (λ e. length_fresh [] c) (λ e. refl)
 
-module _ (m : Machine) (s w c0 c1 c2 : List ℕ) (v : Simulator) (d0 d1 d2 : List ℕ) (done : new_answer m s w c0 c1 c2 ≡ made (New.Made v) d0 d1 d2) where
-  abbrev accepted : fresh_check m s w (length c0) (length c1) (length c2) ≡ Accepted
+module _ (m : Machine) (s w c0 c1 c2 : List ℕ) (v : Simulator) (d0 d1 d2 : List ℕ) (done : new_answer m s w c0 c1 c2 ≡ made (Ok v) d0 d1 d2) where
+  abbrev accepted : fresh_check m s w (length c0) (length c1) (length c2) ≡ Ok tt
   accepted = (new_accepted m s w c0 c1 c2 v d0 d1 d2 done).0
 
   -- the buffers are as long as those that were lent

@@ -1,15 +1,14 @@
 -- EVERY PLAIN ENGINE THAT THE CHECK ACCEPTS IS AN INSTANCE of the timeline's theory, and a fresh one holds the word's configuration. Assumes nothing.
-use Rattle.std.specs.Prelude.{◌≡◌, refl, Bool, false, List, ℕ}
+use Rattle.sim.specs.declared.Simulator.{Simulator}
+use Rattle.outcome.specs.declared.Refusal.{Refusal}
+use Rattle.std.specs.Prelude.{◌≡◌, refl, Bool, false, List, ℕ, Err, Ok, Result}
 use Rattle.std.proofs.Common.{◌∙◌, arith, le-ltb}
 use Rattle.machine.specs.declared.Machine.{Machine}
-use Rattle.machine.specs.declared.Checked.TheVariants.{Accepted}
 use Rattle.table_laws.specs.WellFormed.{Bytes}
 use Rattle.table_machine.specs.TableMachine.{blank_tape, start}
 use Rattle.table_machine.specs.Tables.{table_of, TableOf, Bare}
 use Rattle.table_machine.proofs.Facts.Table.{accepted_table}
 use Rattle.tape.specs.Model.Moves.{Held}
-use Rattle.sim.specs.declared.Fresh.{Fresh}
-use Rattle.sim.specs.declared.Fresh.TheVariants as New
 use Rattle.sim.specs.Model.Engine.{Conf, conf, tape1, tape2}
 use Rattle.sim.specs.Model.Operations.{Made, made, new_answer, engine_check}
 use Rattle.sim.proofs.Facts.OperationCases.{engine_says}
@@ -38,7 +37,7 @@ held-bare m e = record {
 
 -- ---- the instance
 
-module _ (m : Machine) (s : List ℕ) (e : Conf) (bytes : Bytes s) (accepted : engine_check m s e ≡ Accepted) where
+module _ (m : Machine) (s : List ℕ) (e : Conf) (bytes : Bytes s) (accepted : engine_check m s e ≡ Ok tt) where
   abbrev table : TableOf m (table_of m s)
   table = accepted_table m s bytes (engine_says m s e accepted).table
 
@@ -62,9 +61,9 @@ plain_instances m s bytes e q = instance_of m s e bytes q
 made_holds : (m : Machine) (s w : List ℕ) (b : Lent) (g : Made) → new_answer m s w b.c0 b.c1 b.c2 ≡ g → (e : Conf) → made_on g ≡ answered e → config_of m e ≡ start m.start w
 made_holds m s w b g q e r = by g.answer (q ∙ refl) r
   where
-    by : (f : Fresh) → new_answer m s w b.c0 b.c1 b.c2 ≡ made f g.c0 g.c1 g.c2 → reply_on f g.c0 g.c1 g.c2 ≡ answered e → config_of m e ≡ start m.start w
-    by (New.Refused why) q r = let z : ◌≡◌ {A = ℕ} 0 1 = cc in absurd (omega arith)
-    by (New.Made v) q r =
+    by : (f : Result Simulator Refusal) → new_answer m s w b.c0 b.c1 b.c2 ≡ made f g.c0 g.c1 g.c2 → reply_on f g.c0 g.c1 g.c2 ≡ answered e → config_of m e ≡ start m.start w
+    by (Err why) q r = let z : ◌≡◌ {A = ℕ} 0 1 = cc in absurd (omega arith)
+    by (Ok v) q r =
         let z : conf v g.c0 g.c1 g.c2 ≡ e = cc in
         rw (← z) (new_holds m s w b.c0 b.c1 b.c2 v g.c0 g.c1 g.c2 q)
 

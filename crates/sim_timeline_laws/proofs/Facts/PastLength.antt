@@ -1,27 +1,25 @@
 -- "Bytes .. past a call's final length stay": a timeline's call over the plain engine, through restoring and running. Assumes nothing.
-use Rattle.std.specs.Prelude.{◌≡◌, refl, Bool, true, false, List, eqb, ltb, length, get_or}
+use Rattle.outcome.specs.declared.Refusal.{Refusal}
+use Rattle.std.specs.Prelude.{◌≡◌, refl, Bool, true, false, List, eqb, ltb, length, get_or, Err, None, Ok, Option, Result, Some, ⊤}
 use Rattle.std.proofs.Common.{sym, ap, ◌∙◌, subst, arith, get_or-drop}
 use Rattle.std.proofs.Math.Path.{subst⁻¹}
-use Rattle.std.proofs.Math.Option.{Option, none, some}
 use Prim.Native.Nat.{ℕ, zero, suc, ◌+◌, ◌-◌, max}
 use Rattle.std.proofs.Math.Seq.{paste}
 use Rattle.std.proofs.lemmas.List.Edits.{drop-paste}
 use Rattle.notation.proofs.Facts.Tests.{both_split, pick_cases}
 use Rattle.machine.specs.declared.Machine.{Machine}
-use Rattle.machine.specs.declared.Checked.{Checked}
-use Rattle.machine.specs.declared.Checked.TheVariants.{Accepted, Refused}
 use Rattle.tape.specs.declared.Tape.{Tape}
 use Rattle.tape.specs.Fits.{tape_fits}
 use Rattle.tape.proofs.Facts.Fits.{fits_says}
 use Rattle.tape.specs.Model.Moves.{held}
-use Rattle.run_rules.specs.declared.StopRule.TheVariants as Rule
 use Rattle.sim.specs.declared.Simulator.{Simulator}
 use Rattle.sim.specs.Model.Engine.{Conf, task}
 use Rattle.sim.specs.Model.Operations.{has1, has2, sim_fits}
 use Rattle.sim_refines.specs.Lent.{PastStays, PastKept}
 use Rattle.sim_refines.proofs.Facts.PastLength.{kept_all, ran_kept}
 use Rattle.timeline_rule.specs.Model.Engine.{Ops}
-use Rattle.timeline_rule.specs.Model.Timeline.{Reply, TimelineOver, Call, target, ended, turned, record_due, stride, advance_to, go_on, from_slot, go_back, stay, go_to, call_check, on_check, call}
+use Rattle.timeline_rule.specs.declared.Call.{Call}
+use Rattle.timeline_rule.specs.Model.Timeline.{Reply, TimelineOver, target, ended, turned, record_due, stride, advance_to, go_on, from_slot, go_back, stay, go_to, call_check, on_check, call}
 use Rattle.timeline_rule.proofs.Facts.Loop.{record_engine}
 use Rattle.timeline_rule.specs.Model.Kind.{TimelineOf, ops_for, call_on}
 use Rattle.sim_slots.specs.Model.Advance.{ran_from, advance_of}
@@ -44,11 +42,11 @@ module _ {Out : Type 0} (O : Ops Out) (Q : O.State → Type 0) (on : (n : ℕ) (
       there : Q (turned O t w).engine
       there = on _ _ (subst⁻¹ Q (record_engine O w) q)
 
-  module _ (w : TimelineOver O) (q : Q w.engine) (back : (i p : ℕ) (r : O.State) → O.restore i p w.engine w.store ≡ some r → Q r) where
+  module _ (w : TimelineOver O) (q : Q w.engine) (back : (i p : ℕ) (r : O.State) → O.restore i p w.engine w.store ≡ Some r → Q r) where
     from_keeps : (t i p : ℕ) (x : Option O.State) → O.restore i p w.engine w.store ≡ x → Q (from_slot O t w x).1.engine
     unfolding go_on
-    from_keeps t i p none e = q
-    from_keeps t i p (some r) e = way_keeps _ t _ (back i p r e)
+    from_keeps t i p None e = q
+    from_keeps t i p (Some r) e = way_keeps _ t _ (back i p r e)
 
     to_keeps : (t : ℕ) → Q (go_to O t w).1.engine
     unfolding go_to stay go_back go_on
@@ -64,15 +62,15 @@ module _ {Out : Type 0} (O : Ops Out) (Q : O.State → Type 0) (on : (n : ℕ) (
         t : ℕ
         t = target (O.now w.engine) c
 
-        by : (r : Checked) → Q (on_check O r w (go_to O (max t w.times.first) w)).1.engine
-        by (Refused why) = q
-        by Accepted = to_keeps (max t w.times.first)
+        by : (r : Result ⊤ Refusal) → Q (on_check O r w (go_to O (max t w.times.first) w)).1.engine
+        by (Err why) = q
+        by (Ok tt) = to_keeps (max t w.times.first)
 
 -- ---- an advance, and a slot that is read into the buffers
 
 advance_kept : (c0 c1 c2 : List ℕ) (m : Machine) (s : List ℕ) (n : ℕ) (σ : Conf) → PastKept c0 c1 c2 σ → PastKept c0 c1 c2 (advance_of m s n σ).1
 unfolding advance_of ran_from
-advance_kept c0 c1 c2 m s n σ p = ran_kept c0 c1 c2 m σ p (task m s false Rule.Never) n
+advance_kept c0 c1 c2 m s n σ p = ran_kept c0 c1 c2 m σ p (task m s false None) n
 
 module _ (k : ℕ) (t : Tape) (part c : List ℕ) where
   pour_stays : tape_fits k t part ≡ true → PastStays c (held t (paste c 0 part t.len))
@@ -100,12 +98,12 @@ module _ (m : Machine) (b : List ℕ) (v : Simulator) (c0 c1 c2 : List ℕ) wher
         past2 = fill_stays m.symbols v.t2 _ c2 (has2 m) f.fits2;
       }
 
-unpack_kept : (m : Machine) (b : List ℕ) (step : ℕ) (σ r : Conf) → unpack_of m b step σ ≡ some r → PastKept σ.c0 σ.c1 σ.c2 r
+unpack_kept : (m : Machine) (b : List ℕ) (step : ℕ) (σ r : Conf) → unpack_of m b step σ ≡ Some r → PastKept σ.c0 σ.c1 σ.c2 r
 unfolding unpack_of holds_one
 unpack_kept m b step σ r =
     let v : Simulator = sim_in m b σ.sim in
-    pick_cases (holds_one m b step v (length σ.c0) (length σ.c1) (length σ.c2)) (some (filled m b v σ.c0 σ.c1 σ.c2)) none
-    (λ (x : Option Conf). x ≡ some r → PastKept σ.c0 σ.c1 σ.c2 r)
+    pick_cases (holds_one m b step v (length σ.c0) (length σ.c1) (length σ.c2)) (Some (filled m b v σ.c0 σ.c1 σ.c2)) None
+    (λ (x : Option Conf). x ≡ Some r → PastKept σ.c0 σ.c1 σ.c2 r)
     (λ h e.
     let is : filled m b (sim_in m b σ.sim) σ.c0 σ.c1 σ.c2 ≡ r = cc in
     subst (PastKept σ.c0 σ.c1 σ.c2) is (filled_kept m b (sim_in m b σ.sim) σ.c0 σ.c1 σ.c2 (both_split h).1))

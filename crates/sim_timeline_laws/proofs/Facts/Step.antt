@@ -1,5 +1,5 @@
 -- A step of the engine is a step of its meaning, and it has room exactly where the step of the meaning has. Assumes nothing.
-use Rattle.std.specs.Prelude.{◌≡◌, Bool, false, List, ℕ, length}
+use Rattle.std.specs.Prelude.{◌≡◌, Bool, false, List, ℕ, length, Option, Some}
 use Rattle.std.proofs.Math.Path.{refl, sym}
 use Rattle.std.proofs.Common.{ap, ◌∙◌, subst, arith, ltb-false}
 use Rattle.std.proofs.Math.Bool.{true}
@@ -8,8 +8,6 @@ use Rattle.notation.proofs.Facts.Tests.{clash, by_test, both_split, both_true}
 use Rattle.symbol.specs.declared.Dir.TheVariants.{N}
 use Rattle.machine.specs.declared.Machine.{Machine}
 use Rattle.machine.specs.declared.Action.{Action}
-use Rattle.machine.specs.declared.Entry.{Entry}
-use Rattle.machine.specs.declared.Entry.TheVariants.{Defined}
 use Rattle.table_laws.specs.WellFormed.{ActionOf}
 use Rattle.table_machine.specs.TableMachine.{entry, step, Halted}
 use Rattle.table_machine.specs.Tables.{table_of, TableOf}
@@ -26,10 +24,10 @@ use Rattle.sim_timeline_laws.proofs.Facts.Extent.{extent_act, extent_room, exten
 
 -- ---- a step with an entry
 
-one_entry : (x : Entry) (a b : Action) → x ≡ Defined a → x ≡ Defined b → a ≡ b
+one_entry : (x : Option Action) (a b : Action) → x ≡ Some a → x ≡ Some b → a ≡ b
 one_entry x a b p q = cc
 
-module _ (m : Machine) (s : List ℕ) (table : TableOf m (table_of m s)) (σ : Conf) (f : EngineFits m σ) (a : Action) (reads : entry (table_of m s) (config_of m σ) ≡ Defined a) where
+module _ (m : Machine) (s : List ℕ) (table : TableOf m (table_of m s)) (σ : Conf) (f : EngineFits m σ) (a : Action) (reads : entry (table_of m s) (config_of m σ) ≡ Some a) where
   of_machine : ActionOf m a
   of_machine = table _ _ _ _ a reads
 

@@ -1,8 +1,10 @@
 -- Little-endian numbers in bytes: a number that is written is read back, and the other bytes stay. Assumes nothing.
-use Rattle.std.specs.Prelude.{ℕ, ◌+◌, ◌/◌, ◌%◌, ◌≤◌, ◌<◌, ◌≡◌, List, ◌++◌, length, take, drop, get_or, set}
-use Rattle.std.proofs.Common.{◌∙◌, arith, length-set, length-append, get_or-set_same, get_or-set_other, get_or-take, length-take-le}
+use Rattle.std.specs.Prelude.{ℕ, refl, ◌+◌, ◌/◌, ◌%◌, ◌≤◌, ◌<◌, ◌≡◌, List, [], ◌∷◌, ◌++◌, ◌^◌, length, take, drop, get_or, set}
+use Rattle.std.proofs.Common.{◌∙◌, ap, arith, length-set, length-append, get_or-set_same, get_or-set_other, get_or-take, length-take-le}
 use Rattle.std.proofs.Math.ListN.{get_or-append}
 use Rattle.std.proofs.Math.Seq.{paste}
+use Rattle.std.proofs.lemmas.List.Edits.{paste_none, paste_more, paste-paste}
+use Rattle.std.specs.Int.{to_le_bytes, w16, w32, w64}
 use Rattle.store_bytes.specs.Bytes.{get16, get32, get64, put16, put32, put64, Agree, Apart}
 
 -- ---- reading a number that was written. No bound on x is needed: the top byte takes the rest.
@@ -94,3 +96,77 @@ paste_agree d at s n lo hi h k j l m =
     let g : j < length (take at d ++ take n s) = omega (arith, length-append (take at d) (take n s)) in
     get_or-append (take at d ++ take n s) (drop (at + n) d) 0 j g
     ∙ (get_or-append (take at d) (take n s) 0 j (omega arith) ∙ get_or-take at d j 0 (omega arith))
+
+-- ---- a number written as its bytes, as the library gives them
+
+abbrev b2 : ℕ → List ℕ
+b2 x = (x % 256) ∷ (x / 256) ∷ []
+
+abbrev b4 : ℕ → List ℕ
+b4 x = b2 (x % 65536) ++ b2 (x / 65536)
+
+put_two : (s : List ℕ) (at x : ℕ) → at + 2 ≤ length s → put16 s at x ≡ paste s at (b2 x) 2
+unfolding put16
+put_two s at x h = ap (λ l. set l (at + 1) (x / 256)) one ∙ paste_more s at (b2 x) 1 0 (omega (arith, h)) (omega arith)
+  where
+    one : set s at (x % 256) ≡ paste s at (b2 x) 1
+    one = ap (λ l. set l at (x % 256)) (paste_none s at (b2 x))
+        ∙ (ap (λ i. set (paste s at (b2 x) 0) i (x % 256)) (let e : at ≡ at + 0 = omega arith in e) ∙ paste_more s at (b2 x) 0 0 (omega (arith, h)) (omega arith))
+
+put_four : (s : List ℕ) (at x : ℕ) → at + 4 ≤ length s → put32 s at x ≡ paste s at (b4 x) 4
+unfolding put32
+put_four s at x h = put_two (put16 s at (x % 65536)) (at + 2) (x / 65536) (omega (arith, h, length-put16 s at (x % 65536)))
+    ∙ (ap (λ l. paste l (at + 2) (b2 (x / 65536)) 2) (put_two s at (x % 65536) (omega (arith, h)))
+    ∙ paste-paste s at (b2 (x % 65536)) (b2 (x / 65536)) 2 2 refl refl (omega (arith, h)))
+
+pub put_16_bytes : (s : List ℕ) (at x : ℕ) → at + 2 ≤ length s → x < 2 ^ 16 → put16 s at x ≡ paste s at (to_le_bytes w16 x) 2
+put_16_bytes s at x h f = put_two s at x h ∙ (λ i. paste s at ((x % 256) ∷ high i ∷ []) 2)
+  where
+    high : x / 256 ≡ x / 256 % 256
+    high = omega (arith, f)
+
+pub put_32_bytes : (s : List ℕ) (at x : ℕ) → at + 4 ≤ length s → x < 2 ^ 32 → put32 s at x ≡ paste s at (to_le_bytes w32 x) 4
+put_32_bytes s at x h f = put_four s at x h ∙ (λ i. paste s at (x0 i ∷ x1 i ∷ x2 i ∷ x3 i ∷ []) 4)
+  where
+    x0 : x % 65536 % 256 ≡ x % 256
+    x0 = omega arith
+
+    x1 : x % 65536 / 256 ≡ x / 256 % 256
+    x1 = omega arith
+
+    x2 : x / 65536 % 256 ≡ x / 65536 % 256
+    x2 = refl
+
+    x3 : x / 65536 / 256 ≡ x / 16777216 % 256
+    x3 = omega (arith, f)
+
+pub put_64_bytes : (s : List ℕ) (at x : ℕ) → at + 8 ≤ length s → x < 2 ^ 64 → put64 s at x ≡ paste s at (to_le_bytes w64 x) 8
+unfolding put64
+put_64_bytes s at x h f = put_four (put32 s at (x % 4294967296)) (at + 4) (x / 4294967296) (omega (arith, h, length-put32 s at (x % 4294967296)))
+    ∙ (ap (λ l. paste l (at + 4) (b4 (x / 4294967296)) 4) (put_four s at (x % 4294967296) (omega (arith, h)))
+    ∙ (paste-paste s at (b4 (x % 4294967296)) (b4 (x / 4294967296)) 4 4 refl refl (omega (arith, h))
+    ∙ (λ i. paste s at (x0 i ∷ x1 i ∷ x2 i ∷ x3 i ∷ x4 i ∷ x5 i ∷ x6 i ∷ x7 i ∷ []) 8)))
+  where
+    x0 : x % 4294967296 % 65536 % 256 ≡ x % 256
+    x0 = omega arith
+
+    x1 : x % 4294967296 % 65536 / 256 ≡ x / 256 % 256
+    x1 = omega arith
+
+    x2 : x % 4294967296 / 65536 % 256 ≡ x / 65536 % 256
+    x2 = omega arith
+
+    x3 : x % 4294967296 / 65536 / 256 ≡ x / 16777216 % 256
+    x3 = omega arith
+
+    x4 : x / 4294967296 % 65536 % 256 ≡ x / 4294967296 % 256
+    x4 = omega arith
+
+    x5 : x / 4294967296 % 65536 / 256 ≡ x / 1099511627776 % 256
+    x5 = omega arith
+
+    x6 : x / 4294967296 / 65536 % 256 ≡ x / 281474976710656 % 256
+    x6 = omega arith
+
+    x7 : x / 4294967296 / 65536 / 256 ≡ x / 72057594037927936 % 256
+    x7 = omega (arith, f)

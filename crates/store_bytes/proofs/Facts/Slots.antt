@@ -1,13 +1,13 @@
 -- Slots in one byte slice: the lemmas on save and move that the laws of a store need, once for both engines. Assumes nothing.
 use Prim.Native.Nat.{ℕ, suc, ◌+◌, ◌-◌, ◌*◌, ◌≤◌, ◌<◌}
 use Rattle.std.specs.Prelude.{◌≡◌, length}
-use Rattle.std.proofs.Math.Path.{refl, sym}
-use Rattle.std.proofs.Common.{◌∙◌, ap, div-mul-le_self, arith, take-take, take-add, drop_at, drop-drop, take_all}
+use Rattle.std.proofs.Math.Path.{sym}
+use Rattle.std.proofs.Common.{◌∙◌, ap, div-mul-le_self, arith, take-take, take-add, drop_at, drop-drop, take_all, take-append-drop}
 use mathlib.Core.List.{List, ◌++◌, append_assoc}
 use Rattle.std.proofs.Math.Nat.{mul-le-mul_right}
 use Rattle.std.proofs.Math.Decide.{dec_lt}
 use Rattle.std.proofs.Math.ListN.{take, drop, length-drop}
-use Rattle.std.proofs.Math.Seq.{paste, paste-zero, length-paste, length_paste_head, length-take-le, take-length}
+use Rattle.std.proofs.Math.Seq.{paste, length-paste, length_paste_head, length-take-le, take-length}
 use Rattle.std.proofs.lemmas.List.Edits.{take-paste, drop-paste}
 use Rattle.std.proofs.lemmas.List.{take-append-le}
 use Rattle.store_bytes.specs.Model.{slot_count, slot_of, put_slot, move_slot}
@@ -38,24 +38,6 @@ paste_after d at s n a m h k l = ap (take m)
 
     late : (l : List ℕ) → drop a l ≡ drop (a - (at + n)) (drop (at + n) l)
     late l = ap (λ i. drop i l) sum ∙ sym (drop-drop (a - (at + n)) (at + n) l)
-
--- a copy of j elements, then a copy of the next n, is a copy of j + n
-pub paste_more : (d : List ℕ) (at : ℕ) (s : List ℕ) (j n : ℕ) (t : List ℕ) → at + j ≤ length d → j ≤ length s → take n t ≡ take n (drop j s)
-    → paste (paste d at s j) (at + j) t n ≡ paste d at s (j + n)
-paste_more d at s j n t h k e =
-    ap (λ l. l ++ take n t ++ drop (at + j + n) (paste d at s j)) (take-paste d at s j (omega arith) k)
-    ∙ (ap (λ l. take at d ++ take j s ++ take n t ++ l) rest
-    ∙ ap (λ l. l ++ drop (at + (j + n)) d) head)
-  where
-    sum : at + j + n ≡ at + (j + n)
-    sum = omega arith
-
-    rest : drop (at + j + n) (paste d at s j) ≡ drop (at + (j + n)) d
-    rest = sym (drop-drop n (at + j) (paste d at s j))
-        ∙ (ap (drop n) (drop-paste d at s j (omega arith) k) ∙ (drop-drop n (at + j) d ∙ ap (λ i. drop i d) sum))
-
-    head : take at d ++ take j s ++ take n t ≡ take at d ++ take (j + n) s
-    head = append_assoc (take at d) (take j s) (take n t) ∙ ap (λ l. take at d ++ l) (ap (λ l. take j s ++ l) e ∙ sym (take-add j n s))
 
 module _ (size : ℕ) where
   pub slot_inside : (i : ℕ) (t : List ℕ) → i < slot_count size t → i * size + size ≤ length t
@@ -98,46 +80,23 @@ module _ (size : ℕ) where
     unfolding move_slot
     move_other = put_other k (slot_of size i t) t m (slot_length i t l)
 
--- The store after the first j bytes of slot `from` are copied to slot `to`.
-unfoldable pub copied : ℕ → ℕ → ℕ → List ℕ → ℕ → List ℕ
-copied size from to d j = paste d (to * size) (slot_of size from d) j
+-- a copy into the part before f is a copy into the whole
+pub paste_front : (d : List ℕ) (f at n : ℕ) (s : List ℕ) → at + n ≤ f → f ≤ length d → n ≤ length s → paste (take f d) at s n ++ drop f d ≡ paste d at s n
+paste_front d f at n s h k l =
+    append_assoc (take at (take f d) ++ take n s) (drop (at + n) (take f d)) (drop f d)
+    ∙ (ap (λ l. l ++ take n s ++ (drop (at + n) (take f d) ++ drop f d)) (take-take at f d (omega arith))
+    ∙ ap (λ l. take at d ++ take n s ++ l) rest)
+  where
+    room : ℕ
+    room = f - (at + n)
 
--- The loop that copies slot `from` to slot `to` below it.
-module _ (size from to : ℕ) (d : List ℕ) (fits : from * size + size ≤ length d) (below : to < from) where
-  lower : to * size + size ≤ from * size
-  lower = omega (arith, mul-le-mul_right size below)
+    up : at + n + room ≡ f
+    up = omega (arith, h)
 
-  whole : length (slot_of size from d) ≡ size
-  unfolding slot_of
-  whole = length-take-le size (drop (from * size) d) (omega (arith, length-drop (from * size) d, fits))
-
-  pub copied_none : d ≡ copied size from to d 0
-  unfolding copied
-  copied_none = paste-zero d (to * size) (slot_of size from d)
-
-  -- the next n bytes are the same in the slot and in the store: the bytes copied so far lie before them
-  reads : (j n : ℕ) → j + n ≤ size → take n (drop (from * size + j) (copied size from to d j)) ≡ take n (drop j (slot_of size from d))
-  unfolding copied slot_of
-  reads j n l =
-      paste_after d (to * size) (slot_of size from d) j (from * size + j) n (omega (arith, lower, fits)) (omega (arith, whole)) (omega (arith, lower))
-      ∙ (ap (take n) (sym (drop-drop j (from * size) d))
-      ∙ (part-drop j n (drop (from * size) d) (omega (arith, length-drop (from * size) d, fits))
-      ∙ (ap (drop j) (sym (take-take (j + n) size (drop (from * size) d) l)) ∙ sym (part-drop j n (slot_of size from d) (omega (arith, whole))))))
-
-  pub copied_more : (j n : ℕ) → j + n ≤ size
-      → paste (copied size from to d j) (to * size + j) (take n (drop (from * size + j) (copied size from to d j))) n ≡ copied size from to d (j + n)
-  unfolding copied
-  copied_more j n l = paste_more d (to * size) (slot_of size from d) j n next (omega (arith, lower, fits)) (omega (arith, whole)) (take-take n n ahead (omega arith) ∙ reads j n l)
-    where
-      ahead : List ℕ
-      ahead = drop (from * size + j) (copied size from to d j)
-
-      next : List ℕ
-      next = take n ahead
-
-  pub copied_all : copied size from to d size ≡ move_slot size from to d
-  unfolding copied move_slot put_slot
-  copied_all = refl
+    rest : drop (at + n) (take f d) ++ drop f d ≡ drop (at + n) d
+    rest = ap (λ i. drop (at + n) (take i d) ++ drop i d) (sym up)
+        ∙ (ap (λ l. l ++ drop (at + n + room) d) (sym (part-drop (at + n) room d (omega (arith, h, k))))
+        ∙ (ap (λ l. take room (drop (at + n) d) ++ l) (sym (drop-drop room (at + n) d)) ∙ take-append-drop room (drop (at + n) d)))
 
 -- a slot lent as a part of the store, and put back
 pub slot_part : (size i : ℕ) (t : List ℕ) → take (i * size + size - i * size) (drop (i * size) t) ≡ slot_of size i t

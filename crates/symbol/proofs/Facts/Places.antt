@@ -1,5 +1,5 @@
 -- The index of a position: one fact for each answer, and that the answer is right. Assumes nothing.
-use Rattle.std.specs.Prelude.{◌≡◌, ℕ, ◌+◌, ◌-◌, ◌≤◌, ◌<◌, ◌^◌, leb, ℤ}
+use Rattle.std.specs.Prelude.{◌≡◌, ℕ, ◌+◌, ◌-◌, ◌≤◌, ◌<◌, ◌^◌, leb, ℤ, None, Some}
 use Rattle.std.proofs.Common.{sym, ◌∙◌}
 use Rattle.std.proofs.Math.Path.{ap}
 use native.Mathlib.Omega.{arith}
@@ -9,22 +9,21 @@ use Rattle.notation.specs.Position.{◌⊖◌, up, dn}
 use Rattle.notation.proofs.Facts.Position.{ints, diff-⊖}
 use Rattle.notation.proofs.Facts.Tests.{by_test}
 use Rattle.symbol.specs.Model.{raised_of, index_at, index_of}
-use Rattle.symbol.specs.declared.position.Found.TheVariants.{At, Nothing}
 
 module _ (u d o len : ℕ) where
-  pub index_in : (i : ℕ) → i + d ≡ o + u → i < len → At i ≡ index_at u d o len
+  pub index_in : (i : ℕ) → i + d ≡ o + u → i < len → Some i ≡ index_at u d o len
   unfolding index_at pick both
   index_in i e h =
       let k : i ≡ o + u - d = omega arith in
       let a : d ≤ o + u = omega arith in
       let b : o + u - d < len = omega arith in
-      ap At k ∙ simp (le-leb _ _ a, lt-ltb _ _ b)
+      ap Some k ∙ simp (le-leb _ _ a, lt-ltb _ _ b)
 
-  pub index_before : o + u < d → Nothing ≡ index_at u d o len
+  pub index_before : o + u < d → None ≡ index_at u d o len
   unfolding index_at pick both
   index_before h = simp (lt-leb _ _ h)
 
-  pub index_past : len + d ≤ o + u → Nothing ≡ index_at u d o len
+  pub index_past : len + d ≤ o + u → None ≡ index_at u d o len
   unfolding index_at pick both
   index_past h =
       let a : d ≤ o + u = omega arith in
@@ -40,7 +39,7 @@ index_alike u d v e o len h =
     rw (k, t)
 
 -- the index of the position of index i is i
-pub index_of_position : (i o len : ℕ) → i < len → index_of (i ⊖ o) o len ≡ At i
+pub index_of_position : (i o len : ℕ) → i < len → index_of (i ⊖ o) o len ≡ Some i
 index_of_position i o len h = sym (index_in (up (i ⊖ o)) (dn (i ⊖ o)) o len i (omega (arith, diff-⊖ i o)) h)
 
 -- a position raised by 2^63 and lowered by 2^63 is the same position

@@ -1,16 +1,21 @@
 -- Numbers of entries, and the check of their bytes, one fact for each way through the code. Assumes nothing.
-use Rattle.std.specs.Prelude.{◌≡◌, refl, Bool, true, List, ℕ, ◌*◌, ◌^◌, ◌≤◌, ◌<◌, get_or}
-use Rattle.std.proofs.Common.{sym, ap, ◌∙◌, mul-le-mul, pow-suc, one-mul, arith, eq-eqb, ne_eqb, leb-true}
+use Rattle.std.specs.Prelude.{◌≡◌, refl, true, List, ℕ, ◌+◌, ◌-◌, ◌*◌, ◌^◌, ◌≤◌, ◌<◌, length, take, drop}
+use Rattle.std.proofs.Common.{sym, ap, ◌∙◌, mul-le-mul, pow-suc, one-mul, arith, eqb, leb, ltb, not, leb-true, ltb-true, ltb-false, le-leb}
+use Rattle.std.proofs.lemmas.Bool.{lt-leb}
 use Rattle.std.proofs.Math.Nat.{pow-zero}
-use Rattle.notation.specs.Choice.{pick}
+use Rattle.std.specs.List.{list_all}
 use Rattle.notation.specs.Scan.{all_in}
-use Rattle.notation.proofs.Facts.Tests.{both_split}
-use Rattle.table_bytes.specs.Model.Entries.{within, zero_at, defined_for, entry_for}
+use Rattle.notation.proofs.Facts.Parts.{list_all-part}
+use Rattle.notation.proofs.Facts.Tests.{both_split, by_test}
+use Rattle.table_bytes.specs.Model.Entries.{within, zero_at}
 
 -- ---- a number in a range
 
 pub within_says : (low high x : ℕ) → within low high x ≡ true → (low ≤ x) × (x ≤ high)
 within_says low high x h = (leb-true low x (both_split h).0, leb-true x high (both_split h).1)
+
+pub leb_not : (k x : ℕ) → leb k x ≡ not (ltb x k)
+leb_not k x = by_test (ltb x k) (λ t. lt-leb k x (ltb-true x k t) ∙ ap not (sym t)) (λ t. le-leb k x (ltb-false x k t) ∙ ap not (sym t))
 
 -- ---- sizes: nothing wraps
 
@@ -47,28 +52,9 @@ module _ (t k : ℕ) where
       let e : t ≡ 3 = omega arith in
       sym (power_three k) ∙ ap (λ (n : ℕ). k ^ n) (sym e)
 
--- bounds for the summands of an entry's number
-pub record Summands (k stride q a1 a2 : ℕ) : Type 0 where
-  pub rows : q * stride ≤ 65535 * 16777216
-  pub second : k * a1 ≤ 256 * 255
-  pub square : k * k ≤ 65536
-  pub third : k * k * a2 ≤ 65536 * 255
+-- ---- an undefined entry
 
-pub summands : (k stride q a1 a2 : ℕ) → k ≤ 256 → stride ≤ 16777216 → q < 65536 → a1 < 256 → a2 < 256 → Summands k stride q a1 a2
-summands k stride q a1 a2 hk hs hq h1 h2 = record {
-  rows = mul-le-mul {n₂ = 65535} {m₂ = 16777216} (omega arith) hs;
-  second = mul-le-mul {n₂ = 256} {m₂ = 255} hk (omega arith);
-  square = square_fits k hk;
-  third = mul-le-mul {n₂ = 65536} {m₂ = 255} (square_fits k hk) (omega arith);
-}
-
--- ---- an entry's check
-
-module _ (n t k : ℕ) (s : List ℕ) (i : ℕ) (x : Bool) where
-  pub entry_zeros : get_or s (8 * i) 0 ≡ 0 → x ≡ all_in (zero_at s i) 8 0 → x ≡ entry_for n t k s i
-  unfolding pick
-  entry_zeros z p = simp (eq-eqb _ _ z, p)
-
-  pub entry_defined : (get_or s (8 * i) 0 ≡ 0 → ⊥) → x ≡ defined_for n t k s i → x ≡ entry_for n t k s i
-  unfolding pick
-  entry_defined z p = simp (ne_eqb _ _ z, p)
+pub all_zero : (s : List ℕ) (i : ℕ) → 8 * i + 8 ≤ length s → list_all (λ b. eqb b 0) (take (8 * i + 8 - 8 * i) (drop (8 * i) s)) ≡ all_in (zero_at s i) 8 0
+all_zero s i h =
+    let e : 8 * i + 8 - 8 * i ≡ 8 = omega arith in
+    rw e (list_all-part (λ b. eqb b 0) (zero_at s i) s (8 * i) 8 h (λ j g. refl))

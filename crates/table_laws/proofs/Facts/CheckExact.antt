@@ -1,8 +1,7 @@
 -- THE TABLE CHECK: it accepts exactly the well-formed tables, and a refusal is the first that applies; 6 gives the lowest bad entry. Assumes nothing.
-use Rattle.std.specs.Prelude.{◌≡◌, Bool, true, false, List, ℕ, zero, suc, ◌*◌, ◌≤◌, ◌<◌, eqb, ltb, length}
+use Rattle.std.specs.Prelude.{◌≡◌, Bool, true, false, List, ℕ, zero, suc, ◌*◌, ◌≤◌, ◌<◌, eqb, ltb, length, Err, Ok, Option, Result, Some, ⊤}
 use Rattle.std.proofs.Common.{sym, ◌∙◌, subst, arith, ltb-true, eqb-true, le-leb, lt-ltb, eq-eqb}
 use Rattle.std.proofs.Math.Path.{ap}
-use Rattle.std.proofs.Math.Option.{Option, some}
 use Rattle.std.proofs.Math.Decide.{ℕ_discrete}
 use Rattle.std.proofs.lemmas.Bool.{eqb-false}
 use Rattle.notation.proofs.Facts.Tests.{both_true, by_test, clash, pick_true, pick_false}
@@ -11,8 +10,6 @@ use Rattle.outcome.specs.declared.Refusal.{Refusal}
 use Rattle.outcome.specs.declared.Refusal.TheVariants as Why
 use Rattle.outcome.specs.Numbers.{refusal_number, place_of}
 use Rattle.machine.specs.declared.Machine.{Machine}
-use Rattle.machine.specs.declared.Checked.{Checked}
-use Rattle.machine.specs.declared.Checked.TheVariants.{Accepted, Refused}
 use Rattle.machine.specs.Layout.{entry_count}
 use Rattle.machine.specs.Model.Check.{within, demand, answer_at, entry_ok, entries_check, size_check, table_check}
 use Rattle.machine.proofs.Facts.Check.{within_says, Ranges, ranges, entry_passed}
@@ -21,11 +18,11 @@ use Rattle.table_laws.proofs.Facts.Entries.{entry_laid, laid_entry}
 
 -- ---- tests in order
 
-demand-passes : (b : Bool) (why : Refusal) (rest x : Checked) → demand b why rest ≡ x → b ≡ true → rest ≡ x
-demand-passes b why rest x h e = sym (pick_true b rest (Refused why) e) ∙ h
+demand-passes : (b : Bool) (why : Refusal) (rest x : Result ⊤ Refusal) → demand b why rest ≡ x → b ≡ true → rest ≡ x
+demand-passes b why rest x h e = sym (pick_true b rest (Err why) e) ∙ h
 
-demand_fails : (b : Bool) (why r : Refusal) (rest : Checked) → demand b why rest ≡ Refused r → b ≡ false → why ≡ r
-demand_fails b why r rest h e = let k : Refused why ≡ Refused r = sym (pick_false b rest (Refused why) e) ∙ h in cc
+demand_fails : (b : Bool) (why r : Refusal) (rest : Result ⊤ Refusal) → demand b why rest ≡ Err r → b ≡ false → why ≡ r
+demand_fails b why r rest h e = let k : Err why ≡ Err r = sym (pick_false b rest (Err why) e) ∙ h in cc
 
 within_holds : (low high x : ℕ) → (low ≤ x) × (x ≤ high) → within low high x ≡ true
 within_holds low high x h = both_true (le-leb low x h.0) (le-leb x high h.1)
@@ -49,18 +46,18 @@ module _ (m : Machine) (s : List ℕ) where
   module _ (bytes : Bytes s) where
     -- ---- 6: the scan over the entries
 
-    module _ (some : 1 ≤ m.symbols) where
+    module _ (Some : 1 ≤ m.symbols) where
       scan_refused : ((j : ℕ) → j < 6 → Asked m s j) → (x : Option ℕ) → Scanned (entry_ok m s) (entry_count m) 0 x
-          → (r : Refusal) → answer_at Why.Entry x ≡ Refused r → FirstRefusal m s r
+          → (r : Refusal) → answer_at Why.Entry x ≡ Err r → FirstRefusal m s r
       scan_refused before x (clean f) r e = let z : ◌≡◌ {A = ℕ} 0 1 = cc in absurd (omega arith)
       scan_refused before x (failed i a b z f) r e =
           let bad : ¬ (LaidOut m s i) = λ l. clash (laid_entry m s i l) z in
-          let low : (j : ℕ) → j < i → LaidOut m s j = λ j h. entry_laid m s j bytes some (f j (omega arith) h) in
+          let low : (j : ℕ) → j < i → LaidOut m s j = λ j h. entry_laid m s j bytes Some (f j (omega arith) h) in
           let h : i < entry_count m = omega arith in
           refused (Why.Entry i) (λ all. bad (all i h)) before (h, bad, low) r (cc)
 
     -- ---- "the table check, first in every operation that takes one": a refusal is the first that applies
-    pub table_check_refuses_first : (r : Refusal) → table_check m s ≡ Refused r → FirstRefusal m s r
+    pub table_check_refuses_first : (r : Refusal) → table_check m s ≡ Err r → FirstRefusal m s r
     unfolding table_check size_check entries_check
     table_check_refuses_first r h0 =
         let u0 : (j : ℕ) → j < 1 → Asked m s j = more 0 (λ j l. absurd (omega arith)) tt in
@@ -88,7 +85,7 @@ module _ (m : Machine) (s : List ℕ) where
         (λ f. refused Why.Tapes (within_fails _ _ _ f) u0 tt r (demand_fails _ _ _ _ h0 f))
 
     -- ---- it accepts exactly the well-formed tables
-    pub table_check_accepted : table_check m s ≡ Accepted → WellFormed m s
+    pub table_check_accepted : table_check m s ≡ Ok tt → WellFormed m s
     table_check_accepted h = all
       where
         g : Ranges m s
@@ -105,7 +102,7 @@ module _ (m : Machine) (s : List ℕ) where
             λ i l. entry_laid m s i bytes g.symbols_low (entry_passed m s i h l)
         all (suc (suc (suc (suc (suc (suc (suc n))))))) = tt
 
-  pub table_check_accepts : WellFormed m s → table_check m s ≡ Accepted
+  pub table_check_accepts : WellFormed m s → table_check m s ≡ Ok tt
   unfolding table_check size_check entries_check
   table_check_accepts w =
       pick_true _ _ _ (within_holds 1 3 m.tapes (w 1))

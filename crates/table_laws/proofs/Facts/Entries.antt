@@ -1,5 +1,5 @@
 -- The check of one entry accepts exactly the entries that are laid out as document 01 says. Assumes nothing.
-use Rattle.std.specs.Prelude.{◌≡◌, refl, Bool, List, ℕ, zero, suc, ◌+◌, ◌*◌, ◌/◌, ◌%◌, ◌≤◌, ◌<◌, eqb, ltb, get_or}
+use Rattle.std.specs.Prelude.{◌≡◌, refl, Bool, List, ℕ, zero, suc, ◌+◌, ◌*◌, ◌/◌, ◌%◌, ◌≤◌, ◌<◌, eqb, ltb, get_or, None, Option, Some}
 use Rattle.std.proofs.Math.Path.{sym}
 use Rattle.std.proofs.Common.{ap, ◌∙◌, add-zero, mod-eq_of_lt}
 use Rattle.std.proofs.Math.Bool.{true, false}
@@ -14,8 +14,6 @@ use Rattle.symbol.specs.declared.Dir.{Dir}
 use Rattle.symbol.specs.declared.Dir.TheVariants.{L, R, N}
 use Rattle.machine.specs.declared.Machine.{Machine}
 use Rattle.machine.specs.declared.Action.{Action}
-use Rattle.machine.specs.declared.Entry.{Entry}
-use Rattle.machine.specs.declared.Entry.TheVariants.{Undefined, Defined}
 use Rattle.machine.proofs.Facts.Packed.{number_small}
 use Rattle.machine.specs.Layout.{flag_at, byte_at, dir_of, action_at}
 use Rattle.machine.specs.Model.Check.{zero_at, tape_ok, entry_ok}
@@ -50,7 +48,7 @@ moves_apart d x y z e =
 
 -- ---- from a passed check to the layout
 
-pub eight-zeros : (j : ℕ) → j < 8 → get_or (entry_bytes Undefined) j 0 ≡ 0
+pub eight-zeros : (j : ℕ) → j < 8 → get_or (entry_bytes None) j 0 ≡ 0
 eight-zeros zero h = refl
 eight-zeros (suc zero) h = refl
 eight-zeros (suc (suc zero)) h = refl
@@ -80,7 +78,7 @@ module _ (m : Machine) (s : List ℕ) (i : ℕ) where
     -- a defined entry that passed the check holds the bytes of the action that is read there
     defined_laid : flag_at s i ≡ 1 → PassedEntry m s i → LaidOut m s i
     unfolding action_at
-    defined_laid f p = record { entry = Defined (action_at s i); of_machine = of_machine; written = written }
+    defined_laid f p = record { entry = Some (action_at s i); of_machine = of_machine; written = written }
       where
         of_machine : ActionOf m (action_at s i)
         of_machine = record {
@@ -92,7 +90,7 @@ module _ (m : Machine) (s : List ℕ) (i : ℕ) where
           lacks2 = λ l. p.lacks2 (le-ltb 2 m.tapes (omega arith));
         }
 
-        written : (j : ℕ) → j < 8 → byte_at s i j ≡ get_or (entry_bytes (Defined (action_at s i))) j 0
+        written : (j : ℕ) → j < 8 → byte_at s i j ≡ get_or (entry_bytes (Some (action_at s i))) j 0
         written zero h = flag_is s i ∙ f
         written (suc zero) h = omega (arith, bytes (8 * i + 1))
         written (suc (suc zero)) h = omega (arith, bytes (8 * i + 1))
@@ -105,7 +103,7 @@ module _ (m : Machine) (s : List ℕ) (i : ℕ) where
 
     undefined_laid : all_in (zero_at s i) 8 0 ≡ true → LaidOut m s i
     undefined_laid z = record {
-      entry = Undefined;
+      entry = None;
       of_machine = tt;
       written = λ j h. eqb-true _ _ (all_says (zero_at s i) 8 0 z j (omega arith) (omega arith)) ∙ sym (eight-zeros j h);
     }
@@ -130,7 +128,7 @@ module _ (m : Machine) (s : List ℕ) (i : ℕ) where
       let q = f (omega arith) in
       (q.0, e ∙ ap dir_number q.1)
 
-  laid_defined : (a : Action) → ActionOf m a → ((j : ℕ) → j < 8 → byte_at s i j ≡ get_or (entry_bytes (Defined a)) j 0) → entry_ok m s i ≡ true
+  laid_defined : (a : Action) → ActionOf m a → ((j : ℕ) → j < 8 → byte_at s i j ≡ get_or (entry_bytes (Some a)) j 0) → entry_ok m s i ≡ true
   unfolding entry_ok
   laid_defined a o written =
       let b0 : flag_at s i ≡ 1 = sym (flag_is s i) ∙ written 0 (omega arith) in
@@ -158,7 +156,7 @@ module _ (m : Machine) (s : List ℕ) (i : ℕ) where
       (tape_has (ltb 2 m.tapes) (byte_at s i 5) (byte_at s i 6 / 9 % 3) (omega (arith, o.write2_in))
       (lack 2 _ _ a.dir2 (λ l. (b5 ∙ (o.lacks2 l).0, (o.lacks2 l).1)) p.2))))
 
-  laid_undefined : ((j : ℕ) → j < 8 → byte_at s i j ≡ get_or (entry_bytes Undefined) j 0) → entry_ok m s i ≡ true
+  laid_undefined : ((j : ℕ) → j < 8 → byte_at s i j ≡ get_or (entry_bytes None) j 0) → entry_ok m s i ≡ true
   unfolding entry_ok
   laid_undefined written =
       pick_true _ _ _ (eq-eqb _ _ (sym (flag_is s i) ∙ written 0 (omega arith)))
@@ -167,6 +165,6 @@ module _ (m : Machine) (s : List ℕ) (i : ℕ) where
   pub laid_entry : LaidOut m s i → entry_ok m s i ≡ true
   laid_entry l = by l.entry l.of_machine l.written
     where
-      by : (e : Entry) → EntryOf m e → ((j : ℕ) → j < 8 → byte_at s i j ≡ get_or (entry_bytes e) j 0) → entry_ok m s i ≡ true
-      by Undefined o f = laid_undefined f
-      by (Defined a) o f = laid_defined a o f
+      by : (e : Option Action) → EntryOf m e → ((j : ℕ) → j < 8 → byte_at s i j ≡ get_or (entry_bytes e) j 0) → entry_ok m s i ≡ true
+      by None o f = laid_undefined f
+      by (Some a) o f = laid_defined a o f

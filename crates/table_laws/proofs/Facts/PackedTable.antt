@@ -1,11 +1,10 @@
 -- PACKING a whole table with one tape: it is accepted, place i holds the word of entry i, and the places past the table are unchanged. Assumes nothing.
-use Rattle.std.specs.Prelude.{◌≡◌, List, ℕ, ◌≤◌, ◌<◌, eqb, length, get_or}
+use Rattle.std.specs.Prelude.{◌≡◌, List, ℕ, ◌≤◌, ◌<◌, eqb, length, get_or, Ok}
 use native.Mathlib.Omega.{arith}
 use borrow.Author.Tests.{le-leb, eq-eqb}
 use Rattle.notation.specs.Choice.{pick}
 use Rattle.notation.proofs.Facts.Fill.{fill_in, fill_past}
 use Rattle.machine.specs.declared.Machine.{Machine}
-use Rattle.machine.specs.declared.Checked.TheVariants.{Accepted}
 use Rattle.machine.specs.Layout.{entry_count, entry_at}
 use Rattle.machine.specs.Model.Packing.{pack_word, word_at, pack_check, pack_into}
 use Rattle.table_laws.specs.WellFormed.{WellFormed}
@@ -13,7 +12,7 @@ use Rattle.table_laws.proofs.Facts.CheckExact.{table_check_accepts}
 
 module _ (m : Machine) (s : List ℕ) (w : WellFormed m s) (one : m.tapes ≡ 1) where
   module _ (out : List ℕ) (room : entry_count m ≤ length out) where
-    pub packed_table_accepted : pack_check m s (length out) ≡ Accepted
+    pub packed_table_accepted : pack_check m s (length out) ≡ Ok tt
     unfolding pack_check pick
     packed_table_accepted = rw (table_check_accepts m s w, eq-eqb _ _ one, le-leb _ _ room)
 

@@ -1,5 +1,5 @@
 -- THE LOOKUP: the entry read at a place of a well-formed table is the one whose bytes lie there. Assumes nothing.
-use Rattle.std.specs.Prelude.{◌≡◌, refl, List, ℕ, ◌+◌, ◌*◌, ◌/◌, ◌%◌, ◌<◌, ltb, length, get_or}
+use Rattle.std.specs.Prelude.{◌≡◌, refl, List, ℕ, ◌+◌, ◌*◌, ◌/◌, ◌%◌, ◌<◌, ltb, length, get_or, None, Option, Some}
 use Rattle.std.proofs.Math.Path.{sym, ap}
 use Rattle.std.proofs.Common.{◌∙◌, arith, lt-ltb, ltb-true, ltb-false, eq-eqb}
 use Rattle.std.proofs.Math.Nat.{div-add-mod}
@@ -7,8 +7,6 @@ use Rattle.notation.specs.Choice.{both}
 use Rattle.notation.proofs.Facts.Tests.{both_true, by_test, pick_true, pick_false}
 use Rattle.machine.specs.declared.Machine.{Machine}
 use Rattle.machine.specs.declared.Action.{Action}
-use Rattle.machine.specs.declared.Entry.{Entry}
-use Rattle.machine.specs.declared.Entry.TheVariants.{Undefined, Defined}
 use Rattle.machine.specs.Layout.{entry_count, flag_at, byte_at, dir_of, action_at, entry_at}
 use Rattle.symbol.specs.Kinds.{symbol_of, state_of, dir_number}
 use Rattle.machine.proofs.Facts.CheckCases.{entry_past}
@@ -16,7 +14,7 @@ use Rattle.table_laws.specs.WellFormed.{entry_bytes, EntryOf, LaidOut, WellForme
 use Rattle.table_laws.proofs.Facts.Entries.{flag_is, number-move, moves_apart}
 
 module _ (s : List ℕ) (i : ℕ) where
-  action_written : (a : Action) → ((j : ℕ) → j < 8 → byte_at s i j ≡ get_or (entry_bytes (Defined a)) j 0) → action_at s i ≡ a
+  action_written : (a : Action) → ((j : ℕ) → j < 8 → byte_at s i j ≡ get_or (entry_bytes (Some a)) j 0) → action_at s i ≡ a
   unfolding action_at
   action_written a written =
       let b1 : byte_at s i 1 ≡ a.next.0 % 256 = written 1 (omega arith) in
@@ -41,14 +39,14 @@ module _ (s : List ℕ) (i : ℕ) where
       }
 
   -- the entry read is the one whose bytes lie there
-  pub entry_read : (e : Entry) → i < length s / 8 → ((j : ℕ) → j < 8 → byte_at s i j ≡ get_or (entry_bytes e) j 0) → entry_at s i ≡ e
+  pub entry_read : (e : Option Action) → i < length s / 8 → ((j : ℕ) → j < 8 → byte_at s i j ≡ get_or (entry_bytes e) j 0) → entry_at s i ≡ e
   unfolding entry_at both
-  entry_read Undefined h written =
+  entry_read None h written =
       let b : flag_at s i ≡ 0 = sym (flag_is s i) ∙ written 0 (omega arith) in
       pick_false _ _ _ (rw (lt-ltb _ _ h, b) refl)
-  entry_read (Defined a) h written =
+  entry_read (Some a) h written =
       let b : flag_at s i ≡ 1 = sym (flag_is s i) ∙ written 0 (omega arith) in
-      pick_true _ _ _ (both_true (lt-ltb _ _ h) (eq-eqb _ _ b)) ∙ ap Defined (action_written a written)
+      pick_true _ _ _ (both_true (lt-ltb _ _ h) (eq-eqb _ _ b)) ∙ ap Some (action_written a written)
 
 -- every entry that is read, in the table or past its end, is an entry of the machine
 pub entry_of_machine : (m : Machine) (s : List ℕ) → WellFormed m s → (i : ℕ) → EntryOf m (entry_at s i)

@@ -1,5 +1,5 @@
 -- NEVER IS SOUND: where the verdict is never, the table machine halts at no later step. Assumes nothing.
-use Rattle.std.specs.Prelude.{◌≡◌, refl, List, ℤ}
+use Rattle.std.specs.Prelude.{◌≡◌, refl, List, ℤ, Some}
 use Rattle.std.proofs.Common.{sym, ap, ◌∙◌, arith}
 use Prim.Native.Nat.{ℕ, zero, suc}
 use Rattle.notation.proofs.Facts.Position.{diff_suc, diff_pred, ints}
@@ -9,7 +9,6 @@ use Rattle.outcome.specs.declared.NonHaltProof.{NonHaltProof}
 use Rattle.outcome.specs.declared.Outcome.TheVariants.{NeverHalts}
 use Rattle.machine.specs.declared.Machine.{Machine}
 use Rattle.machine.specs.declared.Action.{Action}
-use Rattle.machine.specs.declared.Entry.TheVariants.{Defined}
 use Rattle.table_machine.specs.TableMachine.{Table, Tape, Config, read_t, put, go, update, start, entry, act, step, run, Halted, Stays, Sideways, Beyond, Walks, Verdict, stays, walks}
 use Rattle.table_machine.specs.Tables.{TableOf, Bare}
 use Rattle.table_machine.proofs.Facts.Run.{not_defined, step-act}
@@ -18,7 +17,7 @@ use Rattle.table_machine.proofs.Facts.Tape.{put_same, put_other, bare_act, bare_
 -- ---- an entry that is read at every step
 
 -- an invariant I, under which the entry read is that of action a, and which a keeps: then the machine never halts
-module _ (d : Table) (a : Action) (I : Config → Type 0) (reads : (c : Config) → I c → entry d c ≡ Defined a) (lasts : (c : Config) → I c → I (act c a)) where
+module _ (d : Table) (a : Action) (I : Config → Type 0) (reads : (c : Config) → I c → entry d c ≡ Some a) (lasts : (c : Config) → I c → I (act c a)) where
   forever : (n : ℕ) (c : Config) → I c → ¬ (Halted d (run d n c))
   unfolding run
   forever zero c i h = not_defined (entry d c) a h (reads c i)
@@ -35,7 +34,7 @@ read_still : (t : Tape) (w : ℕ) (m : Dir) → m ≡ N → read_t (update t w m
 read_still t w m e = ap (λ (x : Dir). put t.cell t.head w (go x t.head)) e ∙ put_same t.cell t.head w
 
 record StayInv (d : Table) (a : Action) (c : Config) : Type 0 where
-  now : entry d c ≡ Defined a
+  now : entry d c ≡ Some a
   stay : Stays c a
 
 stay_lasts : (d : Table) (a : Action) (c : Config) → StayInv d a c → StayInv d a (act c a)
@@ -57,7 +56,7 @@ stay_lasts d a c v =
       };
     }
 
-stay_never : (d : Table) (a : Action) (c : Config) → entry d c ≡ Defined a → Stays c a → (n : ℕ) → ¬ (Halted d (run d n c))
+stay_never : (d : Table) (a : Action) (c : Config) → entry d c ≡ Some a → Stays c a → (n : ℕ) → ¬ (Halted d (run d n c))
 stay_never d a c e s n = forever d a (StayInv d a) (λ k v. v.now) (stay_lasts d a) n c (record { now = e; stay = s })
 
 -- ---- the second pattern: one tape, a blank read, and blanks ahead
@@ -80,7 +79,7 @@ beyond_ne N h z b e = b
 
 module _ (m : Machine) (d : Table) (table : TableOf m d) where
   record WalkInv (a : Action) (x : Dir) (c : Config) : Type 0 where
-    now : entry d c ≡ Defined a
+    now : entry d c ≡ Some a
     walk : Walks m.tapes c a x
     bare : Bare m.tapes c
 
@@ -110,7 +109,7 @@ module _ (m : Machine) (d : Table) (table : TableOf m d) where
         bare = b;
       }
 
-  walk_never : (a : Action) (x : Dir) (c : Config) → Bare m.tapes c → entry d c ≡ Defined a → Walks m.tapes c a x → (n : ℕ) → ¬ (Halted d (run d n c))
+  walk_never : (a : Action) (x : Dir) (c : Config) → Bare m.tapes c → entry d c ≡ Some a → Walks m.tapes c a x → (n : ℕ) → ¬ (Halted d (run d n c))
   walk_never a x c b e w n = forever d a (WalkInv a x) (λ k v. v.now) (walk_lasts a x) n c (record { now = e; walk = w; bare = b })
 
   -- never is sound at every configuration where the tapes that the machine lacks are blank

@@ -1,10 +1,8 @@
 -- The run: a + b steps, a halted configuration stays, step counts, the first halting step. Assumes nothing.
-use Rattle.std.specs.Prelude.{◌≡◌, refl, ℕ, zero, suc, ◌+◌, ◌-◌, ◌≤◌, ◌<◌}
+use Rattle.std.specs.Prelude.{◌≡◌, refl, ℕ, zero, suc, ◌+◌, ◌-◌, ◌≤◌, ◌<◌, None, Option, Some}
 use Rattle.std.proofs.Common.{ap, ◌∙◌, zero-add, suc-add, arith}
 use Rattle.std.proofs.Math.Decide.{ℕ_discrete}
 use Rattle.machine.specs.declared.Action.{Action}
-use Rattle.machine.specs.declared.Entry.{Entry}
-use Rattle.machine.specs.declared.Entry.TheVariants.{Undefined, Defined}
 use Rattle.table_machine.specs.TableMachine.{Table, Config, entry, act, act_on, step, run, Halted}
 
 pub run_add : (d : Table) (a b : ℕ) (c : Config) → run d (a + b) c ≡ run d b (run d a c)
@@ -37,10 +35,10 @@ run_past d k n c h z =
 
 -- ---- step counts
 
-pub not_defined : (x : Entry) (a : Action) → x ≡ Undefined → x ≡ Defined a → ⊥
+pub not_defined : (x : Option Action) (a : Action) → x ≡ None → x ≡ Some a → ⊥
 not_defined x a h k = let z : ◌≡◌ {A = ℕ} 0 1 = cc in omega arith
 
-pub step-act : (d : Table) (c : Config) (a : Action) → entry d c ≡ Defined a → step d c ≡ act c a
+pub step-act : (d : Table) (c : Config) (a : Action) → entry d c ≡ Some a → step d c ≡ act c a
 unfolding step
 step-act d c a h = ap (act_on c) h
 
@@ -48,9 +46,9 @@ pub step_steps : (d : Table) (c : Config) → ¬ (Halted d c) → (step d c).ste
 unfolding step
 step_steps d c f = by (entry d c) refl
   where
-    by : (x : Entry) → entry d c ≡ x → (act_on c x).steps ≡ suc c.steps
-    by Undefined e = absurd (f e)
-    by (Defined a) e = refl
+    by : (x : Option Action) → entry d c ≡ x → (act_on c x).steps ≡ suc c.steps
+    by None e = absurd (f e)
+    by (Some a) e = refl
 
 pub run_steps : (d : Table) (n : ℕ) (c : Config) → ((k : ℕ) → k < n → ¬ (Halted d (run d k c))) → (run d n c).steps ≡ n + c.steps
 unfolding run
@@ -65,9 +63,9 @@ run_steps d (suc n) c f =
 pub dec_halted : (d : Table) (c : Config) → Dec (Halted d c)
 dec_halted d c = by (entry d c) refl
   where
-    by : (x : Entry) → entry d c ≡ x → Dec (Halted d c)
-    by Undefined e = yes e
-    by (Defined a) e = no (λ h. not_defined (entry d c) a h e)
+    by : (x : Option Action) → entry d c ≡ x → Dec (Halted d c)
+    by None e = yes e
+    by (Some a) e = no (λ h. not_defined (entry d c) a h e)
 
 -- the first halt among the first n configurations, or none
 pub data First (d : Table) (c : Config) (n : ℕ) : Type 0 where

@@ -1,10 +1,9 @@
 -- The table read from the bytes of an accepted table is a table of the machine, so `never` is sound for it. Assumes nothing.
-use Rattle.std.specs.Prelude.{◌≡◌, List, ℕ}
+use Rattle.std.specs.Prelude.{◌≡◌, List, ℕ, Ok}
 use Rattle.std.proofs.Math.Path.{subst}
 use Rattle.outcome.specs.declared.NonHaltProof.{NonHaltProof}
 use Rattle.outcome.specs.declared.Outcome.TheVariants.{NeverHalts}
 use Rattle.machine.specs.declared.Machine.{Machine}
-use Rattle.machine.specs.declared.Checked.TheVariants.{Accepted}
 use Rattle.machine.specs.Layout.{stride_of, entry_number}
 use Rattle.machine.specs.Model.Check.{table_check}
 use Rattle.table_laws.specs.WellFormed.{Bytes, EntryOf, WellFormed}
@@ -19,7 +18,7 @@ module _ (m : Machine) (s : List ℕ) where
   unfolding table_of
   table_of_machine w q x y z a e = subst (EntryOf m) e (entry_of_machine m s w (entry_number m.symbols (stride_of m) q x y z))
 
-  module _ (bytes : Bytes s) (accepted : table_check m s ≡ Accepted) where
+  module _ (bytes : Bytes s) (accepted : table_check m s ≡ Ok tt) where
     pub accepted_table : TableOf m (table_of m s)
     accepted_table = table_of_machine (table_check_accepted m s bytes accepted)
 

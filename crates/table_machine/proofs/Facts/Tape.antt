@@ -1,5 +1,5 @@
 -- The tapes of a configuration: a cell after a write, equal tapes, and the tapes that the machine lacks, which stay blank. Assumes nothing.
-use Rattle.std.specs.Prelude.{◌≡◌, List, [], ℤ, pos, negsuc}
+use Rattle.std.specs.Prelude.{◌≡◌, List, [], ℤ, pos, negsuc, None, Option, Some}
 use Rattle.std.proofs.Math.Path.{refl}
 use Rattle.std.proofs.Common.{sym, ◌∙◌}
 use Prim.Native.Nat.{ℕ, zero, suc}
@@ -10,8 +10,6 @@ use Rattle.notation.proofs.Facts.Tests.{by_test, pick_cases, pick_true, pick_fal
 use Rattle.symbol.specs.declared.Dir.TheVariants.{N}
 use Rattle.machine.specs.declared.Machine.{Machine}
 use Rattle.machine.specs.declared.Action.{Action}
-use Rattle.machine.specs.declared.Entry.{Entry}
-use Rattle.machine.specs.declared.Entry.TheVariants.{Undefined, Defined}
 use Rattle.table_laws.specs.WellFormed.{ActionOf}
 use Rattle.table_machine.specs.TableMachine.{Table, Tape, Config, read_t, put, update, word_cell, blank_tape, start, entry, act, act_on, step, run}
 use Rattle.table_machine.specs.Tables.{TableOf, Bare}
@@ -44,7 +42,7 @@ blank_stays = tape-≡ (update blank_tape zero N) blank_tape cells refl refl ref
     cells z = pick_cases (eq_z z (pos zero)) zero (word_cell [] z) (λ (x : ℕ). x ≡ word_cell [] z) (λ _. sym (blank z)) (λ _. refl)
 
 module _ (m : Machine) (d : Table) (table : TableOf m d) where
-  pub bare_act : (c : Config) (a : Action) → entry d c ≡ Defined a → Bare m.tapes c → Bare m.tapes (act c a)
+  pub bare_act : (c : Config) (a : Action) → entry d c ≡ Some a → Bare m.tapes c → Bare m.tapes (act c a)
   bare_act c a e b =
       let o : ActionOf m a = table c.state (read_t c.tape0) (read_t c.tape1) (read_t c.tape2) a e in
       record {
@@ -56,9 +54,9 @@ module _ (m : Machine) (d : Table) (table : TableOf m d) where
   unfolding step
   bare_step c b = by (entry d c) refl
     where
-      by : (x : Entry) → entry d c ≡ x → Bare m.tapes (act_on c x)
-      by Undefined e = b
-      by (Defined a) e = bare_act c a e b
+      by : (x : Option Action) → entry d c ≡ x → Bare m.tapes (act_on c x)
+      by None e = b
+      by (Some a) e = bare_act c a e b
 
   pub bare_run : (n : ℕ) (c : Config) → Bare m.tapes c → Bare m.tapes (run d n c)
   unfolding run

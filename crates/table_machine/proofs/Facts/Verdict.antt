@@ -1,15 +1,13 @@
 -- A configuration has at most one verdict. Assumes nothing.
-use Rattle.std.specs.Prelude.{◌≡◌, refl, ℕ}
+use Rattle.std.specs.Prelude.{◌≡◌, refl, ℕ, Option, Some}
 use Rattle.std.proofs.Common.{sym, ap, ◌∙◌, subst}
 use Rattle.symbol.specs.declared.Dir.{Dir}
 use Rattle.outcome.specs.declared.Outcome.{Outcome}
 use Rattle.machine.specs.declared.Action.{Action}
-use Rattle.machine.specs.declared.Entry.{Entry}
-use Rattle.machine.specs.declared.Entry.TheVariants.{Defined}
 use Rattle.table_machine.specs.TableMachine.{Table, Config, entry, Stays, Sideways, Walks, chain_at, Verdict, halts, stays, walks, goes}
 use Rattle.table_machine.proofs.Facts.Run.{not_defined}
 
-same_action : (x : Entry) (a b : Action) → x ≡ Defined a → x ≡ Defined b → a ≡ b
+same_action : (x : Option Action) (a b : Action) → x ≡ Some a → x ≡ Some b → a ≡ b
 same_action x a b h k = cc
 
 not_both : (t : ℕ) (c : Config) (a : Action) (m : Dir) → Stays c a → Walks t c a m → ⊥

@@ -1,5 +1,6 @@
 -- THE BYTES of a mirrored and of a renamed table: a well-formed table, in which each entry is read again. Assumes nothing.
-use Rattle.std.specs.Prelude.{◌≡◌, refl, List, ℕ, zero, suc, ◌+◌, ◌*◌, ◌/◌, ◌%◌, ◌≤◌, ◌<◌, ◌^◌, ltb, length, get_or}
+use Rattle.machine.specs.declared.Action.{Action}
+use Rattle.std.specs.Prelude.{◌≡◌, refl, List, ℕ, zero, suc, ◌+◌, ◌*◌, ◌/◌, ◌%◌, ◌≤◌, ◌<◌, ◌^◌, ltb, length, get_or, None, Option, Some}
 use Rattle.std.proofs.Common.{sym, ap, ◌∙◌, mul-le-mul_left, mod-lt, arith, ltb-true, ltb-false, length-append, get_or-append-add}
 use Rattle.std.proofs.Math.Nat.{one-le-pow}
 use Rattle.std.proofs.Math.ListN.{get_or-append}
@@ -8,8 +9,6 @@ use Rattle.notation.proofs.Facts.Tests.{by_test}
 use Rattle.symbol.specs.Kinds.{state_of, reversed_of}
 use Rattle.table_bytes.proofs.Facts.EntryCases.{stride_one, stride_two, stride_three}
 use Rattle.machine.specs.declared.Machine.{Machine}
-use Rattle.machine.specs.declared.Entry.{Entry}
-use Rattle.machine.specs.declared.Entry.TheVariants.{Undefined, Defined}
 use Rattle.machine.proofs.Facts.CheckCases.{entry_past}
 use Rattle.machine.specs.Layout.{stride_of, entry_count, entry_number, entry_at, byte_at}
 use Rattle.table_laws.specs.WellFormed.{entry_bytes, EntryOf, WellFormed}
@@ -23,17 +22,17 @@ use Rattle.table_machine_symmetry.proofs.Facts.Mirror.{mirrored_entry_twice}
 
 -- ---- the bytes of a list of entries
 
-eight : (e : Entry) → length (entry_bytes e) ≡ 8
-eight Undefined = refl
-eight (Defined a) = refl
+eight : (e : Option Action) → length (entry_bytes e) ≡ 8
+eight None = refl
+eight (Some a) = refl
 
-pub table_length : (f : ℕ → Entry) (n : ℕ) → length (table_bytes f n) ≡ 8 * n
+pub table_length : (f : ℕ → Option Action) (n : ℕ) → length (table_bytes f n) ≡ 8 * n
 unfolding table_bytes
 table_length f zero = refl
 table_length f (suc n) =
     length-append (entry_bytes (f zero)) (table_bytes (λ i. f (suc i)) n) ∙ omega (arith, eight (f zero), table_length (λ i. f (suc i)) n)
 
-pub table_byte_lem : (f : ℕ → Entry) (n i j : ℕ) → i < n → j < 8 → byte_at (table_bytes f n) i j ≡ get_or (entry_bytes (f i)) j 0
+pub table_byte_lem : (f : ℕ → Option Action) (n i j : ℕ) → i < n → j < 8 → byte_at (table_bytes f n) i j ≡ get_or (entry_bytes (f i)) j 0
 unfolding table_bytes
 table_byte_lem f zero i j a b = absurd (omega arith)
 table_byte_lem f (suc n) zero j a b =
@@ -47,14 +46,14 @@ table_byte_lem f (suc n) (suc i) j a b =
     ∙ table_byte_lem (λ i. f (suc i)) n i j (omega arith) b
 
 -- each entry is read again
-table_entry : (f : ℕ → Entry) (n i : ℕ) → i < n → entry_at (table_bytes f n) i ≡ f i
+table_entry : (f : ℕ → Option Action) (n i : ℕ) → i < n → entry_at (table_bytes f n) i ≡ f i
 table_entry f n i h = entry_read (table_bytes f n) i (f i) (omega (arith, table_length f n)) (λ j b. table_byte_lem f n i j h b)
 
-table_past : (f : ℕ → Entry) (n i : ℕ) → n ≤ i → entry_at (table_bytes f n) i ≡ Undefined
+table_past : (f : ℕ → Option Action) (n i : ℕ) → n ≤ i → entry_at (table_bytes f n) i ≡ None
 table_past f n i h = sym (entry_past (table_bytes f n) i (omega (arith, table_length f n)))
 
 -- machine p has machine m's numbers, apart from its start
-well_formed : (m p : Machine) (s : List ℕ) (f : ℕ → Entry) → WellFormed m s → p.tapes ≡ m.tapes → p.symbols ≡ m.symbols → p.states ≡ m.states
+well_formed : (m p : Machine) (s : List ℕ) (f : ℕ → Option Action) → WellFormed m s → p.tapes ≡ m.tapes → p.symbols ≡ m.symbols → p.states ≡ m.states
     → p.start < p.states → ((i : ℕ) → i < entry_count p → EntryOf p (f i)) → WellFormed p (table_bytes f (entry_count p))
 well_formed m p s f w t k n q of = all
   where
@@ -71,9 +70,9 @@ well_formed m p s f w t k n q of = all
 
 -- ---- the mirror
 
-mirrored_of : (m : Machine) (e : Entry) → EntryOf m e → EntryOf m (mirrored_entry e)
-mirrored_of m Undefined o = tt
-mirrored_of m (Defined a) o = record {
+mirrored_of : (m : Machine) (e : Option Action) → EntryOf m e → EntryOf m (mirrored_entry e)
+mirrored_of m None o = tt
+mirrored_of m (Some a) o = record {
   next_in = o.next_in;
   write0_in = o.write0_in;
   write1_in = o.write1_in;
@@ -118,9 +117,9 @@ column_in k (suc (suc (suc zero))) x y z a b hx hy hz fy fz =
     omega (arith, stride_three 3 k a b (λ e. omega arith) (λ e. omega arith))
 column_in k (suc (suc (suc (suc t)))) x y z a b hx hy hz fy fz = absurd (omega arith)
 
-renamed_of : (to : ℕ → ℕ) (m : Machine) → ((q : ℕ) → q < m.states → to q < m.states) → (e : Entry) → EntryOf m e → EntryOf (renamed_machine to m) (renamed_entry to e)
-renamed_of to m f Undefined o = tt
-renamed_of to m f (Defined a) o = record {
+renamed_of : (to : ℕ → ℕ) (m : Machine) → ((q : ℕ) → q < m.states → to q < m.states) → (e : Option Action) → EntryOf m e → EntryOf (renamed_machine to m) (renamed_entry to e)
+renamed_of to m f None o = tt
+renamed_of to m f (Some a) o = record {
   next_in = f a.next.0 o.next_in;
   write0_in = o.write0_in;
   write1_in = o.write1_in;
@@ -175,9 +174,9 @@ inverse : (n : ℕ) (to from : ℕ → ℕ) → Permutes n to from → Permutes 
 inverse n to from p = record { to_in = p.from_in; from_in = p.to_in; to_from = p.from_to; from_to = p.to_from }
 
 module _ (to from : ℕ → ℕ) (m : Machine) (permutes : Permutes m.states to from) where
-  entry_back : (e : Entry) → EntryOf m e → renamed_entry from (renamed_entry to e) ≡ e
-  entry_back Undefined o = refl
-  entry_back (Defined a) o = λ i. Defined (record {
+  entry_back : (e : Option Action) → EntryOf m e → renamed_entry from (renamed_entry to e) ≡ e
+  entry_back None o = refl
+  entry_back (Some a) o = λ i. Some (record {
     next = state_of (permutes.from_to a.next.0 o.next_in i);
     write0 = a.write0;
     write1 = a.write1;

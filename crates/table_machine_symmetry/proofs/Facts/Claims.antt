@@ -1,10 +1,9 @@
 -- THE MIRROR AND THE RENAMINGS of every table that the table check accepts, for one to three tapes. Assumes nothing.
-use Rattle.std.specs.Prelude.{◌≡◌, ◌↔◌, List, [], ℕ, ◌<◌}
+use Rattle.std.specs.Prelude.{◌≡◌, ◌↔◌, List, [], ℕ, ◌<◌, Some}
 use Rattle.std.proofs.Common.{sym, ap, ◌∙◌}
 use Rattle.outcome.specs.declared.Outcome.{Outcome}
 use Rattle.machine.specs.declared.Machine.{Machine}
 use Rattle.machine.specs.declared.Action.{Action}
-use Rattle.machine.specs.declared.Entry.TheVariants.{Defined}
 use Rattle.machine.specs.Layout.{stride_of, entry_number}
 use Rattle.table_laws.specs.WellFormed.{WellFormed}
 use Rattle.table_laws.proofs.Facts.CheckExact.{table_check_accepted, table_check_accepts}
@@ -67,7 +66,7 @@ module _ (to from : ℕ → ℕ) (m : Machine) (s : List ℕ) (w : WellFormed m 
   lasts = config_step m d (table_of_machine m s w)
 
   -- no two states get one number
-  one : (c : Config) (a : Action) → ConfigOf m c → entry d c ≡ Defined a → to a.next.0 ≡ to c.state → a.next.0 ≡ c.state
+  one : (c : Config) (a : Action) → ConfigOf m c → entry d c ≡ Some a → to a.next.0 ≡ to c.state → a.next.0 ≡ c.state
   one c a g x k =
       let o = table_of_machine m s w c.state (read_t c.tape0) (read_t c.tape1) (read_t c.tape2) a x in
       sym (permutes.from_to a.next.0 o.next_in) ∙ ap from k ∙ permutes.from_to c.state g.state_in_holds

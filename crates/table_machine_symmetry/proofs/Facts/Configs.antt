@@ -1,14 +1,12 @@
 -- A run of a machine's table stays among the machine's configurations. Assumes nothing.
-use Rattle.std.specs.Prelude.{◌≡◌, List, [], ℤ, pos, negsuc}
+use Rattle.std.specs.Prelude.{◌≡◌, List, [], ℤ, pos, negsuc, None, Option, Some}
 use Rattle.std.proofs.Math.Path.{refl}
-use Rattle.std.proofs.Common.{ap, arith}
+use Rattle.std.proofs.Common.{ap}
 use Prim.Native.Nat.{ℕ, zero, suc, ◌≤◌, ◌<◌}
 use Rattle.notation.specs.Position.{eq_z}
 use Rattle.notation.proofs.Facts.Tests.{pick_cases}
 use Rattle.machine.specs.declared.Machine.{Machine}
 use Rattle.machine.specs.declared.Action.{Action}
-use Rattle.machine.specs.declared.Entry.{Entry}
-use Rattle.machine.specs.declared.Entry.TheVariants.{Undefined, Defined}
 use Rattle.table_laws.specs.WellFormed.{ActionOf}
 use Rattle.table_machine.specs.TableMachine.{Table, Config, put, word_cell, start, entry, act, act_on, step, run, read_t}
 use Rattle.table_machine.specs.Tables.{TableOf, Bare}
@@ -50,7 +48,7 @@ config_start m q word k l f = record {
 }
 
 module _ (m : Machine) (d : Table) (table : TableOf m d) where
-  config_act : (c : Config) (a : Action) → entry d c ≡ Defined a → ConfigOf m c → ConfigOf m (act c a)
+  config_act : (c : Config) (a : Action) → entry d c ≡ Some a → ConfigOf m c → ConfigOf m (act c a)
   config_act c a e g =
       let o : ActionOf m a = table c.state (read_t c.tape0) (read_t c.tape1) (read_t c.tape2) a e in
       record {
@@ -65,9 +63,9 @@ module _ (m : Machine) (d : Table) (table : TableOf m d) where
   unfolding step
   config_step c g = by (entry d c) refl
     where
-      by : (x : Entry) → entry d c ≡ x → ConfigOf m (act_on c x)
-      by Undefined e = g
-      by (Defined a) e = config_act c a e g
+      by : (x : Option Action) → entry d c ≡ x → ConfigOf m (act_on c x)
+      by None e = g
+      by (Some a) e = config_act c a e g
 
   pub config_run : (n : ℕ) (c : Config) → ConfigOf m c → ConfigOf m (run d n c)
   unfolding run

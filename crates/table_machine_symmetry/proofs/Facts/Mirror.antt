@@ -1,11 +1,10 @@
 -- THE MIRROR IS KEPT by a step, hence by a run, from every configuration; verdicts correspond. Assumes nothing.
-use Rattle.std.specs.Prelude.{◌≡◌, ◌↔◌, List, [], ℤ, pos, negsuc, neg_ℤ}
+use Rattle.std.specs.Prelude.{◌≡◌, ◌↔◌, [], ℤ, pos, negsuc, neg_ℤ, None, Option, Some}
 use Rattle.std.proofs.Math.Path.{refl, ap, subst₃}
 use Rattle.std.proofs.Common.{sym, ◌∙◌, ap₂, subst₂, arith}
-use Prim.Native.Nat.{ℕ, zero, suc, ◌+◌}
+use Prim.Native.Nat.{ℕ, zero, suc}
 use Rattle.std.proofs.Math.IntN.{neg_ℤ-neg_ℤ, neg_ℤ-suc_ℤ}
 use Rattle.std.specs.Int.Signed.{le_z}
-use Rattle.notation.specs.Choice.{pick}
 use Rattle.notation.specs.Position.{eq_z, min_ℤ, max_ℤ, up, dn}
 use Rattle.notation.proofs.Facts.Position.{eq_z_true, eq_z_refl, le_z_false, diff_suc, diff_pred, ints}
 use Rattle.notation.proofs.Facts.Tests.{by_test, clash, pick_true, pick_false}
@@ -17,9 +16,7 @@ use Rattle.outcome.specs.declared.NonHaltProof.TheVariants.{StayLoop, ChainToInf
 use Rattle.outcome.specs.declared.Outcome.{Outcome}
 use Rattle.outcome.specs.declared.Outcome.TheVariants as Out
 use Rattle.machine.specs.declared.Action.{Action}
-use Rattle.machine.specs.declared.Entry.{Entry}
-use Rattle.machine.specs.declared.Entry.TheVariants.{Undefined, Defined}
-use Rattle.table_machine.specs.TableMachine.{Table, Tape, Config, read_t, put, go, update, word_cell, start_tape, blank_tape, start, entry, act, act_on, step, run, Halted, Stays, Sideways, Beyond, Walks, Verdict, halts, stays, walks, goes}
+use Rattle.table_machine.specs.TableMachine.{Table, Tape, Config, read_t, put, go, update, word_cell, blank_tape, start, entry, act, act_on, step, run, Halted, Stays, Sideways, Beyond, Walks, Verdict, halts, stays, walks, goes}
 use Rattle.table_machine.proofs.Facts.Tape.{put_same, put_other, tape-≡}
 use Rattle.table_machine_symmetry.specs.Mirror.{mirrored_action, mirrored_entry, mirrored_table, mirrored_tape, mirrored_config, mirrored_proof, mirrored_outcome}
 
@@ -118,9 +115,9 @@ mirrored_action_twice a = λ i. record {
   dir2 = reversed_twice a.dir2 i;
 }
 
-pub mirrored_entry_twice : (e : Entry) → mirrored_entry (mirrored_entry e) ≡ e
-mirrored_entry_twice Undefined = refl
-mirrored_entry_twice (Defined a) = ap Defined (mirrored_action_twice a)
+pub mirrored_entry_twice : (e : Option Action) → mirrored_entry (mirrored_entry e) ≡ e
+mirrored_entry_twice None = refl
+mirrored_entry_twice (Some a) = ap Some (mirrored_action_twice a)
 
 pub mirrored_twice : (d : Table) → mirrored_table (mirrored_table d) ≡ d
 mirrored_twice d = λ i q x y z. mirrored_entry_twice (d q x y z) i
@@ -138,9 +135,9 @@ module _ (d : Table) where
     tape2 = mirror-update c.tape2 a.write2.0 a.dir2 i;
   }
 
-  mirror_acts : (c : Config) (e : Entry) → act_on (mirrored_config c) (mirrored_entry e) ≡ mirrored_config (act_on c e)
-  mirror_acts c Undefined = refl
-  mirror_acts c (Defined a) = mirror_act c a
+  mirror_acts : (c : Config) (e : Option Action) → act_on (mirrored_config c) (mirrored_entry e) ≡ mirrored_config (act_on c e)
+  mirror_acts c None = refl
+  mirror_acts c (Some a) = mirror_act c a
 
   pub mirror_step : (c : Config) → step (mirrored_table d) (mirrored_config c) ≡ mirrored_config (step d c)
   unfolding step
@@ -156,9 +153,9 @@ module _ (d : Table) where
   pub mirror_run_blank : (n q : ℕ) → run (mirrored_table d) n (start q []) ≡ mirrored_config (run d n (start q []))
   mirror_run_blank n q = ap (run (mirrored_table d) n) (sym (mirror-start q)) ∙ mirror_run n (start q [])
 
-  undefined_mirrored : (e : Entry) → mirrored_entry e ≡ Undefined → e ≡ Undefined
-  undefined_mirrored Undefined h = refl
-  undefined_mirrored (Defined a) h = let z : ◌≡◌ {A = ℕ} 0 1 = cc in absurd (omega arith)
+  undefined_mirrored : (e : Option Action) → mirrored_entry e ≡ None → e ≡ None
+  undefined_mirrored None h = refl
+  undefined_mirrored (Some a) h = let z : ◌≡◌ {A = ℕ} 0 1 = cc in absurd (omega arith)
 
   -- halting exactly together
   pub mirror_halts : (c : Config) → Halted (mirrored_table d) (mirrored_config c) ↔ Halted d c

@@ -1,5 +1,5 @@
 -- A RENAMING IS KEPT by a step, hence by a run; verdicts correspond, and both machines halt exactly together. Assumes nothing.
-use Rattle.std.specs.Prelude.{◌≡◌, ◌↔◌}
+use Rattle.std.specs.Prelude.{◌≡◌, ◌↔◌, None, Option, Some}
 use Rattle.std.proofs.Math.Path.{refl, ap}
 use Rattle.std.proofs.Common.{sym, ◌∙◌, subst, arith}
 use Prim.Native.Nat.{ℕ, zero, suc}
@@ -7,8 +7,6 @@ use Rattle.symbol.specs.Kinds.{state_of}
 use Rattle.symbol.specs.declared.Dir.{Dir}
 use Rattle.outcome.specs.declared.Outcome.{Outcome}
 use Rattle.machine.specs.declared.Action.{Action}
-use Rattle.machine.specs.declared.Entry.{Entry}
-use Rattle.machine.specs.declared.Entry.TheVariants.{Undefined, Defined}
 use Rattle.table_machine.specs.TableMachine.{Table, Config, entry, act_on, step, run, Halted, Stays, Walks, halted_at, stay_loop_at, chain_at, out_of_fuel_at, Verdict, halts, stays, walks, goes}
 use Rattle.table_machine_symmetry.specs.Renaming.{renamed_action, renamed_entry, renamed_config, renamed_outcome}
 
@@ -60,21 +58,21 @@ module _ (to : ℕ → ℕ) (c : Config) (a : Action) where
 -- ---- one entry
 
 module _ (to : ℕ → ℕ) where
-  undefined_renamed : (e : Entry) → renamed_entry to e ≡ Undefined → e ≡ Undefined
-  undefined_renamed Undefined h = refl
-  undefined_renamed (Defined a) h = let z : ◌≡◌ {A = ℕ} 0 1 = cc in absurd (omega arith)
+  undefined_renamed : (e : Option Action) → renamed_entry to e ≡ None → e ≡ None
+  undefined_renamed None h = refl
+  undefined_renamed (Some a) h = let z : ◌≡◌ {A = ℕ} 0 1 = cc in absurd (omega arith)
 
   -- the action before the renaming
-  abbrev Before : Entry → Action → Type 0
-  Before e b = (a : Action) × (e ≡ Defined a) × (renamed_action to a ≡ b)
+  abbrev Before : Option Action → Action → Type 0
+  Before e b = (a : Action) × (e ≡ Some a) × (renamed_action to a ≡ b)
 
-  defined_renamed : (e : Entry) (b : Action) → renamed_entry to e ≡ Defined b → Before e b
-  defined_renamed Undefined b h = let z : ◌≡◌ {A = ℕ} 0 1 = cc in absurd (omega arith)
-  defined_renamed (Defined a) b h = (a, refl, cc)
+  defined_renamed : (e : Option Action) (b : Action) → renamed_entry to e ≡ Some b → Before e b
+  defined_renamed None b h = let z : ◌≡◌ {A = ℕ} 0 1 = cc in absurd (omega arith)
+  defined_renamed (Some a) b h = (a, refl, cc)
 
-  renamed_acts : (c : Config) (e : Entry) → act_on (renamed_config to c) (renamed_entry to e) ≡ renamed_config to (act_on c e)
-  renamed_acts c Undefined = refl
-  renamed_acts c (Defined a) = refl
+  renamed_acts : (c : Config) (e : Option Action) → act_on (renamed_config to c) (renamed_entry to e) ≡ renamed_config to (act_on c e)
+  renamed_acts c None = refl
+  renamed_acts c (Some a) = refl
 
 -- ---- table e is table d renamed at every configuration of a kind I that d's steps keep
 
@@ -93,8 +91,8 @@ module _ (d e : Table) (to : ℕ → ℕ) (I : Config → Type 0) (lasts : (c : 
   rename_halts c i = (λ h. undefined_renamed to (entry d c) (sym (agrees c i) ∙ h), λ h. agrees c i ∙ ap (renamed_entry to) h)
 
   -- an entry's next state and the present one have one new number only where they are the same
-  module _ (one : (c : Config) (a : Action) → I c → entry d c ≡ Defined a → to a.next.0 ≡ to c.state → a.next.0 ≡ c.state) (t : ℕ) (c : Config) (i : I c) where
-    defined : (a : Action) → entry d c ≡ Defined a → entry e (renamed_config to c) ≡ Defined (renamed_action to a)
+  module _ (one : (c : Config) (a : Action) → I c → entry d c ≡ Some a → to a.next.0 ≡ to c.state → a.next.0 ≡ c.state) (t : ℕ) (c : Config) (i : I c) where
+    defined : (a : Action) → entry d c ≡ Some a → entry e (renamed_config to c) ≡ Some (renamed_action to a)
     defined a h = agrees c i ∙ ap (renamed_entry to) h
 
     rename_verdict : (o : Outcome) → Verdict t d c o → Verdict t e (renamed_config to c) (renamed_outcome to o)

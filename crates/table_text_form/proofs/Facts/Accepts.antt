@@ -1,5 +1,5 @@
 -- Every line of the form is accepted by the automaton, with its rows and its symbols. Assumes nothing.
-use Rattle.std.specs.Prelude.{◌≡◌, false, ◌⊎◌, List, eqb, get_or, drop}
+use Rattle.std.specs.Prelude.{◌≡◌, false, ◌⊎◌, List, eqb, get_or, drop, Ok, Result, Some}
 use Rattle.std.proofs.Math.Path.{refl, sym, ap}
 use Rattle.std.proofs.Common.{◌∙◌, inl, inr}
 use Rattle.std.proofs.Math.Bool.{true}
@@ -13,9 +13,6 @@ use Rattle.notation.proofs.Facts.Tests.{both_true, pick_true, pick_false}
 use Rattle.table_bytes.specs.Model.Entries.{within}
 use Rattle.table_text_form.specs.declared.Phase.TheVariants.{Between, Wrote, Moved, Dash, Dashes}
 use Rattle.table_text_form.specs.declared.Spot.{Spot}
-use Rattle.table_text_form.specs.declared.Next.TheVariants.{On}
-use Rattle.table_text_form.specs.declared.Scanned.{Scanned}
-use Rattle.table_text_form.specs.declared.Scanned.TheVariants.{Formed}
 use Rattle.table_text_form.specs.Form.{spot, may_end, is_full, width_of, row_ends, entry_begins, step, ends, scan, first, form_of}
 use Rattle.table_text_form.specs.Line.{Digit, Move, Letter, place, EntryAt, OfForm}
 use Rattle.table_text_form.proofs.Facts.Cases.{scan_on, scan_formed}
@@ -23,43 +20,43 @@ use Rattle.table_text_form.proofs.Facts.Places.{place_in}
 
 -- ---- one byte
 
-pub begin_dash : (w r c : ℕ) → is_full (spot w r c Between) ≡ false → step (spot w r c Between) 45 ≡ On (spot w r c Dash)
+pub begin_dash : (w r c : ℕ) → is_full (spot w r c Between) ≡ false → step (spot w r c Between) 45 ≡ Some (spot w r c Dash)
 unfolding step row_ends entry_begins both pick
 begin_dash w r c e = rw e
 
 within_holds : (low high x : ℕ) → low ≤ x → x ≤ high → within low high x ≡ true
 within_holds low high x h l = both_true (le-leb low x h) (le-leb x high l)
 
-pub begin_digit : (w r c x : ℕ) → is_full (spot w r c Between) ≡ false → Digit x → step (spot w r c Between) x ≡ On (spot w r c Wrote)
+pub begin_digit : (w r c x : ℕ) → is_full (spot w r c Between) ≡ false → Digit x → step (spot w r c Between) x ≡ Some (spot w r c Wrote)
 unfolding step row_ends entry_begins both pick
 begin_digit w r c x e d =
     let a = d.0 in
     let b = d.1 in
     rw (ne_eqb x 95 (λ (h : x ≡ 95). omega arith), e, ne_eqb x 45 (λ (h : x ≡ 45). omega arith), within_holds 48 57 x a b)
 
-pub move_on : (w r c y : ℕ) → Move y → step (spot w r c Wrote) y ≡ On (spot w r c Moved)
+pub move_on : (w r c y : ℕ) → Move y → step (spot w r c Wrote) y ≡ Some (spot w r c Moved)
 unfolding step pick
 move_on w r c y (inl e) = rw (eq-eqb y 76 e)
 move_on w r c y (inr e) = rw (ne_eqb y 76 (λ (h : y ≡ 76). omega arith), eq-eqb y 82 e)
 
-pub letter_on : (w r c z : ℕ) → Letter z → step (spot w r c Moved) z ≡ On (spot w r (c + 1) Between)
+pub letter_on : (w r c z : ℕ) → Letter z → step (spot w r c Moved) z ≡ Some (spot w r (c + 1) Between)
 unfolding step pick
 letter_on w r c z d = rw (within_holds 65 90 z d.0 d.1)
 
-pub dash_on : (w r c z : ℕ) → z ≡ 45 → step (spot w r c Dash) z ≡ On (spot w r c Dashes)
+pub dash_on : (w r c z : ℕ) → z ≡ 45 → step (spot w r c Dash) z ≡ Some (spot w r c Dashes)
 unfolding step pick
 dash_on w r c z e = rw (eq-eqb z 45 e)
 
-pub dashes_on : (w r c z : ℕ) → z ≡ 45 → step (spot w r c Dashes) z ≡ On (spot w r (c + 1) Between)
+pub dashes_on : (w r c z : ℕ) → z ≡ 45 → step (spot w r c Dashes) z ≡ Some (spot w r (c + 1) Between)
 unfolding step pick
 dashes_on w r c z e = rw (eq-eqb z 45 e)
 
 module _ (line : List ℕ) where
-  abbrev from : Spot → ℕ → Scanned
+  abbrev from : Spot → ℕ → Result (ℕ × ℕ) ℕ
   from s i = scan (drop i line) s i
 
-  by_step : (s t : Spot) (i j : ℕ) → i < length line → step s (get_or line i 0) ≡ On t → i + 1 ≡ j → from s i ≡ from t j
-  by_step s t i j h e p = sym (scan_on line s i (from s i) refl (On t) t h (sym e) refl) ∙ ap (from t) p
+  by_step : (s t : Spot) (i j : ℕ) → i < length line → step s (get_or line i 0) ≡ Some t → i + 1 ≡ j → from s i ≡ from t j
+  by_step s t i j h e p = sym (scan_on line s i (from s i) refl (Some t) t h (sym e) refl) ∙ ap (from t) p
 
   -- ---- one entry
 
@@ -113,16 +110,16 @@ module _ (line : List ℕ) where
 
     -- ---- all rows
 
-    bar_on : (w r : ℕ) → Width w r → r + 1 < rows → step (spot w r k Between) 95 ≡ On (spot k (r + 1) 0 Between)
+    bar_on : (w r : ℕ) → Width w r → r + 1 < rows → step (spot w r k Between) 95 ≡ Some (spot k (r + 1) 0 Between)
     unfolding step row_ends
     bar_on w r v h =
-        pick_true (row_ends (spot w r k Between) 95) (On (spot (width_of (spot w r k Between)) (r + 1) 0 Between)) (entry_begins (spot w r k Between) 95) ended
-        ∙ ap (λ (x : ℕ). On (spot x (r + 1) 0 Between)) (width_is w r v)
+        pick_true (row_ends (spot w r k Between) 95) (Some (spot (width_of (spot w r k Between)) (r + 1) 0 Between)) (entry_begins (spot w r k Between) 95) ended
+        ∙ ap (λ (x : ℕ). Some (spot x (r + 1) 0 Between)) (width_is w r v)
       where
         ended : row_ends (spot w r k Between) 95 ≡ true
         ended = let x = f.rows_are.1 in both_true (eq-eqb 95 95 refl) (both_true (full_row w r v) (lt-ltb r _ (omega arith)))
 
-    rows_on_holds : (n w r : ℕ) → Width w r → r + n + 1 ≡ rows → from (spot w r 0 Between) (place k r 0) ≡ Formed rows k
+    rows_on_holds : (n w r : ℕ) → Width w r → r + n + 1 ≡ rows → from (spot w r 0 Between) (place k r 0) ≡ Ok (rows, k)
     unfolding ends
     rows_on_holds zero w r v e =
         let p : r + 1 ≡ rows = omega arith in
@@ -131,7 +128,7 @@ module _ (line : List ℕ) where
         let at : place k r k ≡ length line = omega arith in
         row_on k w r 0 v (omega arith) (omega arith)
         ∙ sym (scan_formed line (spot w r k Between) (place k r k) (from (spot w r k Between) (place k r k)) refl (may_end (spot w r k Between)) k (omega arith) (omega arith) refl (full_row w r v) (sym (width_is w r v)))
-        ∙ ap (λ (x : ℕ). Formed x k) p
+        ∙ ap (λ (x : ℕ). Ok (x, k)) p
     rows_on_holds (suc n) w r v e =
         let h : r + 1 < rows = omega arith in
         let l : (r + 1 + 1) * (3 * k + 1) ≤ rows * (3 * k + 1) = mul-le-mul_right {m = r + 1 + 1} {n = rows} (3 * k + 1) (omega arith) in
@@ -141,10 +138,10 @@ module _ (line : List ℕ) where
         ∙ by_step (spot w r k Between) (spot k (r + 1) 0 Between) (place k r k) (place k (r + 1) 0) inside (ap (step (spot w r k Between)) (f.parted r h) ∙ bar_on w r v h) (omega arith)
         ∙ rows_on_holds n k (r + 1) (inr refl) (omega arith)
 
-    pub of_form_formed : form_of line ≡ Formed rows k
+    pub of_form_formed : form_of line ≡ Ok (rows, k)
     unfolding form_of
     of_form_formed = by rows f.rows_are.0 refl
       where
-        by : (n : ℕ) → 1 ≤ n → n ≡ rows → scan line first 0 ≡ Formed rows k
+        by : (n : ℕ) → 1 ≤ n → n ≡ rows → scan line first 0 ≡ Ok (rows, k)
         by zero h e = absurd (omega arith)
         by (suc n) h e = let p : 0 ≡ place k 0 0 = omega arith in ap (from first) p ∙ rows_on_holds n 0 0 (inl (refl, refl)) (omega arith)

@@ -1,8 +1,8 @@
 -- A line that the automaton accepts is a line of the form, with the rows and the symbols that it answers. Assumes nothing.
-use Rattle.std.specs.Prelude.{◌≡◌, Bool, true, false, ◌⊎◌, List, eqb, ltb, drop}
+use Rattle.std.specs.Prelude.{Result, ◌≡◌, Bool, true, false, ◌⊎◌, List, eqb, ltb, drop, Err, None, Ok, Option, Some}
 use Rattle.std.proofs.Math.Path.{refl, sym, ap, subst}
 use Rattle.std.proofs.Common.{◌∙◌, inl, inr}
-use Prim.Native.Nat.{ℕ, zero, suc, ◌+◌, ◌-◌, ◌*◌, ◌≤◌, ◌<◌}
+use Prim.Native.Nat.{ℕ, zero, suc, ◌+◌, ◌*◌, ◌≤◌, ◌<◌}
 use Rattle.std.proofs.Math.Decide.{ℕ_discrete}
 use native.Mathlib.Omega.{arith}
 use borrow.Author.Tests.{eqb-true, ltb-true, ltb-false}
@@ -13,9 +13,6 @@ use Rattle.table_bytes.specs.Model.Entries.{within}
 use Rattle.table_bytes.proofs.Facts.EntryCases.{within_says}
 use Rattle.table_text_form.specs.declared.Phase.TheVariants.{Between, Wrote, Moved, Dash, Dashes}
 use Rattle.table_text_form.specs.declared.Spot.{Spot}
-use Rattle.table_text_form.specs.declared.Next.{Next}
-use Rattle.table_text_form.specs.declared.Next.TheVariants.{On, Stop}
-use Rattle.table_text_form.specs.declared.Scanned.TheVariants.{Formed, Malformed}
 use Rattle.table_text_form.specs.Form.{spot, is_move, may_end, is_full, width_of, on_if, row_ends, entry_begins, step_between, step, ends, scan, first, form_of}
 use Rattle.table_text_form.specs.Line.{place, EntryAt, OfForm}
 use Rattle.table_text_form.proofs.Facts.Good.{Good, good_first, good_rows, row_width, on_is, stop_is, tested, whole, begins, new_row}
@@ -26,15 +23,15 @@ module _ (line : List ℕ) (rows k : ℕ) where
 
   data Seen (s : Spot) (i : ℕ) : Type 0 where
     over : i ≡ length line → ends s ≡ true → s.rows + 1 ≡ rows → width_of s ≡ k → Seen s i
-    on : i < length line → (t : Spot) → step s (get_or line i 0) ≡ On t → scan (drop (i + 1) line) t (i + 1) ≡ Formed rows k → Seen s i
+    on : i < length line → (t : Spot) → step s (get_or line i 0) ≡ Some t → scan (drop (i + 1) line) t (i + 1) ≡ Ok (rows, k) → Seen s i
 
-  formed_is : (a b c d : ℕ) → Formed a b ≡ Formed c d → (a ≡ c) × (b ≡ d)
-  formed_is a b c d e = (cc, cc)
+  formed_is : (a b c d : ℕ) → ◌≡◌ {A = Result (ℕ × ℕ) ℕ} (Ok (a, b)) (Ok (c, d)) → (a ≡ c) × (b ≡ d)
+  formed_is a b c d e = let p : ◌≡◌ {A = ℕ × ℕ} (a, b) (c, d) = cc in (ap (λ (x : ℕ × ℕ). x.0) p, ap (λ (x : ℕ × ℕ). x.1) p)
 
-  not_formed : (i : ℕ) → ¬ (Malformed i ≡ Formed rows k)
+  not_formed : (i : ℕ) → ¬ ◌≡◌ {A = Result (ℕ × ℕ) ℕ} (Err i) (Ok (rows, k))
   not_formed i e = let z : ◌≡◌ {A = ℕ} 0 1 = cc in omega arith
 
-  seen : (s : Spot) (i : ℕ) → i ≤ length line → scan (drop i line) s i ≡ Formed rows k → Seen s i
+  seen : (s : Spot) (i : ℕ) → i ≤ length line → scan (drop i line) s i ≡ Ok (rows, k) → Seen s i
   seen s i h e = by_test (ltb i (length line))
       (λ t. more (ltb-true _ _ t) (step s (get_or line i 0)) refl)
       (λ t. let g = ltb-false i (length line) t in
@@ -42,9 +39,9 @@ module _ (line : List ℕ) (rows k : ℕ) where
       (λ f. let p = formed_is _ _ _ _ (scan_formed line s i _ e (ends s) (width_of s) h g refl f refl) in over (omega arith) f p.0 p.1)
       (λ f. absurd (not_formed i (scan_early line s i _ e (ends s) h g refl f))))
     where
-      more : i < length line → (x : Next) → step s (get_or line i 0) ≡ x → Seen s i
-      more g (On t) f = on g t f (scan_on line s i _ e (On t) t g (sym f) refl)
-      more g Stop f = absurd (not_formed i (scan_stop line s i _ e Stop g (sym f) refl))
+      more : i < length line → (x : Option Spot) → step s (get_or line i 0) ≡ x → Seen s i
+      more g (Some t) f = on g t f (scan_on line s i _ e (Some t) t g (sym f) refl)
+      more g None f = absurd (not_formed i (scan_stop line s i _ e None g (sym f) refl))
 
   -- ---- one entry
 
@@ -52,31 +49,31 @@ module _ (line : List ℕ) (rows k : ℕ) where
   data Follows (w r c i : ℕ) : Type 0 where
     end : i ≡ length line → may_end (spot w r c Between) ≡ true → r + 1 ≡ rows → width_of (spot w r c Between) ≡ k → Follows w r c i
     row : i < length line → get_or line i 0 ≡ 95 → may_end (spot w r c Between) ≡ true → r < 24
-        → scan (drop (i + 1) line) (spot (width_of (spot w r c Between)) (r + 1) 0 Between) (i + 1) ≡ Formed rows k → Follows w r c i
-    entry : i + 2 < length line → is_full (spot w r c Between) ≡ false → EntryAt line i → scan (drop (i + 3) line) (spot w r (c + 1) Between) (i + 3) ≡ Formed rows k → Follows w r c i
+        → scan (drop (i + 1) line) (spot (width_of (spot w r c Between)) (r + 1) 0 Between) (i + 1) ≡ Ok (rows, k) → Follows w r c i
+    entry : i + 2 < length line → is_full (spot w r c Between) ≡ false → EntryAt line i → scan (drop (i + 3) line) (spot w r (c + 1) Between) (i + 3) ≡ Ok (rows, k) → Follows w r c i
 
   -- inside an entry, a byte that a test lets pass
-  inside : (s t : Spot) (i : ℕ) (test : Bool) → ends s ≡ false → step s (get_or line i 0) ≡ on_if test t → i ≤ length line → scan (drop i line) s i ≡ Formed rows k
-      → (i < length line) × (test ≡ true) × (scan (drop (i + 1) line) t (i + 1) ≡ Formed rows k)
+  inside : (s t : Spot) (i : ℕ) (test : Bool) → ends s ≡ false → step s (get_or line i 0) ≡ on_if test t → i ≤ length line → scan (drop i line) s i ≡ Ok (rows, k)
+      → (i < length line) × (test ≡ true) × (scan (drop (i + 1) line) t (i + 1) ≡ Ok (rows, k))
   inside s t i test n f h e = by (seen s i h e)
     where
-      by : Seen s i → (i < length line) × (test ≡ true) × (scan (drop (i + 1) line) t (i + 1) ≡ Formed rows k)
+      by : Seen s i → (i < length line) × (test ≡ true) × (scan (drop (i + 1) line) t (i + 1) ≡ Ok (rows, k))
       by (over a b c d) = absurd (clash b n)
       by (on g u a b) =
           let p = tested test t u (sym f ∙ a) in
-          (g, p.0, subst (λ (v : Spot). scan (drop (i + 1) line) v (i + 1) ≡ Formed rows k) (sym p.1) b)
+          (g, p.0, subst (λ (v : Spot). scan (drop (i + 1) line) v (i + 1) ≡ Ok (rows, k)) (sym p.1) b)
 
   move_says : (b : ℕ) → is_move b ≡ true → b ≡ 76 ⊎ b ≡ 82
   move_says b h = by_test (eqb b 76) (λ t. inl (eqb-true b 76 t)) (λ t. inr (eqb-true b 82 (sym (pick_false (eqb b 76) true (eqb b 82) t) ∙ h)))
 
-  at_two : (w r c i : ℕ) → scan (drop (i + 1 + 1 + 1) line) (spot w r (c + 1) Between) (i + 1 + 1 + 1) ≡ Formed rows k
-      → scan (drop (i + 3) line) (spot w r (c + 1) Between) (i + 3) ≡ Formed rows k
-  at_two w r c i e = let p : i + 1 + 1 + 1 ≡ i + 3 = omega arith in subst (λ (j : ℕ). scan (drop j line) (spot w r (c + 1) Between) j ≡ Formed rows k) p e
+  at_two : (w r c i : ℕ) → scan (drop (i + 1 + 1 + 1) line) (spot w r (c + 1) Between) (i + 1 + 1 + 1) ≡ Ok (rows, k)
+      → scan (drop (i + 3) line) (spot w r (c + 1) Between) (i + 3) ≡ Ok (rows, k)
+  at_two w r c i e = let p : i + 1 + 1 + 1 ≡ i + 3 = omega arith in subst (λ (j : ℕ). scan (drop j line) (spot w r (c + 1) Between) j ≡ Ok (rows, k)) p e
 
   third : (i : ℕ) → get_or line (i + 1 + 1) 0 ≡ get_or line (i + 2) 0
   third i = let p : i + 1 + 1 ≡ i + 2 = omega arith in ap (λ (j : ℕ). get_or line j 0) p
 
-  wrote : (w r c i : ℕ) → i < length line → is_full (spot w r c Between) ≡ false → within 48 57 (get_or line i 0) ≡ true → scan (drop (i + 1) line) (spot w r c Wrote) (i + 1) ≡ Formed rows k → Follows w r c i
+  wrote : (w r c i : ℕ) → i < length line → is_full (spot w r c Between) ≡ false → within 48 57 (get_or line i 0) ≡ true → scan (drop (i + 1) line) (spot w r c Wrote) (i + 1) ≡ Ok (rows, k) → Follows w r c i
   unfolding step ends
   wrote w r c i h full d e =
       let a = inside (spot w r c Wrote) (spot w r c Moved) (i + 1) (is_move (get_or line (i + 1) 0)) refl refl (omega arith) e in
@@ -86,7 +83,7 @@ module _ (line : List ℕ) (rows k : ℕ) where
       let z = within_says 65 90 _ b.1 in
       entry (omega arith) full (inr (within_says 48 57 _ d, move_says _ a.1, subst (λ (x : ℕ). (65 ≤ x) × (x ≤ 90)) (third i) z)) (at_two w r c i b.2)
 
-  dash : (w r c i : ℕ) → i < length line → is_full (spot w r c Between) ≡ false → get_or line i 0 ≡ 45 → scan (drop (i + 1) line) (spot w r c Dash) (i + 1) ≡ Formed rows k → Follows w r c i
+  dash : (w r c i : ℕ) → i < length line → is_full (spot w r c Between) ≡ false → get_or line i 0 ≡ 45 → scan (drop (i + 1) line) (spot w r c Dash) (i + 1) ≡ Ok (rows, k) → Follows w r c i
   unfolding step ends
   dash w r c i h full d e =
       let a = inside (spot w r c Dash) (spot w r c Dashes) (i + 1) (eqb (get_or line (i + 1) 0) 45) refl refl (omega arith) e in
@@ -95,29 +92,29 @@ module _ (line : List ℕ) (rows k : ℕ) where
       let m : i + 1 + 1 < length line = b.0 in
       entry (omega arith) full (inl (d, eqb-true _ 45 a.1, sym (third i) ∙ eqb-true _ 45 b.1)) (at_two w r c i b.2)
 
-  begun : (w r c i : ℕ) → i < length line → (t : Spot) → entry_begins (spot w r c Between) (get_or line i 0) ≡ On t → scan (drop (i + 1) line) t (i + 1) ≡ Formed rows k → Follows w r c i
+  begun : (w r c i : ℕ) → i < length line → (t : Spot) → entry_begins (spot w r c Between) (get_or line i 0) ≡ Some t → scan (drop (i + 1) line) t (i + 1) ≡ Ok (rows, k) → Follows w r c i
   unfolding entry_begins
   begun w r c i h t f e = by_test (is_full (spot w r c Between))
-      (λ full. absurd (stop_is (entry_begins (spot w r c Between) b) t (pick_true (is_full (spot w r c Between)) Stop rest full) f))
+      (λ full. absurd (stop_is (entry_begins (spot w r c Between) b) t (pick_true (is_full (spot w r c Between)) None rest full) f))
       (λ full.
-      let f' : rest ≡ On t = sym (pick_false (is_full (spot w r c Between)) Stop rest full) ∙ f in
+      let f' : rest ≡ Some t = sym (pick_false (is_full (spot w r c Between)) None rest full) ∙ f in
       by_test (eqb b 45)
-      (λ d. dash w r c i h full (eqb-true b 45 d) (along (sym (on_is rest (spot w r c Dash) t (pick_true (eqb b 45) (On (spot w r c Dash)) digit d) f'))))
-      (λ d. let p = tested (within 48 57 b) (spot w r c Wrote) t (sym (pick_false (eqb b 45) (On (spot w r c Dash)) digit d) ∙ f') in wrote w r c i h full p.0 (along (sym p.1))))
+      (λ d. dash w r c i h full (eqb-true b 45 d) (along (sym (on_is rest (spot w r c Dash) t (pick_true (eqb b 45) (Some (spot w r c Dash)) digit d) f'))))
+      (λ d. let p = tested (within 48 57 b) (spot w r c Wrote) t (sym (pick_false (eqb b 45) (Some (spot w r c Dash)) digit d) ∙ f') in wrote w r c i h full p.0 (along (sym p.1))))
     where
       b : ℕ
       b = get_or line i 0
 
-      digit : Next
+      digit : Option Spot
       digit = on_if (within 48 57 b) (spot w r c Wrote)
 
-      rest : Next
-      rest = pick (eqb b 45) (On (spot w r c Dash)) digit
+      rest : Option Spot
+      rest = pick (eqb b 45) (Some (spot w r c Dash)) digit
 
-      along : {u : Spot} → t ≡ u → scan (drop (i + 1) line) u (i + 1) ≡ Formed rows k
-      along p = subst (λ (v : Spot). scan (drop (i + 1) line) v (i + 1) ≡ Formed rows k) p e
+      along : {u : Spot} → t ≡ u → scan (drop (i + 1) line) u (i + 1) ≡ Ok (rows, k)
+      along p = subst (λ (v : Spot). scan (drop (i + 1) line) v (i + 1) ≡ Ok (rows, k)) p e
 
-  follows : (w r c i : ℕ) → i ≤ length line → scan (drop i line) (spot w r c Between) i ≡ Formed rows k → Follows w r c i
+  follows : (w r c i : ℕ) → i ≤ length line → scan (drop i line) (spot w r c Between) i ≡ Ok (rows, k) → Follows w r c i
   unfolding step ends row_ends
   follows w r c i h e = by (seen (spot w r c Between) i h e)
     where
@@ -133,8 +130,8 @@ module _ (line : List ℕ) (rows k : ℕ) where
           (λ x.
           let p = both_split x in
           row g (eqb-true _ 95 p.0) (both_split p.1).0 (ltb-true _ _ (both_split p.1).1)
-          (subst (λ (v : Spot). scan (drop (i + 1) line) v (i + 1) ≡ Formed rows k) (sym (on_is (step_between s (get_or line i 0)) next t (pick_true (row_ends s (get_or line i 0)) (On next) (entry_begins s (get_or line i 0)) x) f)) e'))
-          (λ x. begun w r c i g t (sym (pick_false (row_ends s (get_or line i 0)) (On next) (entry_begins s (get_or line i 0)) x) ∙ f) e')
+          (subst (λ (v : Spot). scan (drop (i + 1) line) v (i + 1) ≡ Ok (rows, k)) (sym (on_is (step_between s (get_or line i 0)) next t (pick_true (row_ends s (get_or line i 0)) (Some next) (entry_begins s (get_or line i 0)) x) f)) e'))
+          (λ x. begun w r c i g t (sym (pick_false (row_ends s (get_or line i 0)) (Some next) (entry_begins s (get_or line i 0)) x) ∙ f) e')
 
   -- ---- all entries from a spot on
 
@@ -242,7 +239,7 @@ module _ (line : List ℕ) (rows k : ℕ) where
 
   -- n is at least the number of bytes left
   found : (n w r c i : ℕ) → length line ≤ i + n → Good (spot w r c Between) → i ≡ place w r c → i ≤ length line
-      → scan (drop i line) (spot w r c Between) i ≡ Formed rows k → Found w r c
+      → scan (drop i line) (spot w r c Between) i ≡ Ok (rows, k) → Found w r c
   found zero w r c i room g here h e = by (follows w r c i h e)
     where
       by : Follows w r c i → Found w r c
@@ -252,7 +249,7 @@ module _ (line : List ℕ) (rows k : ℕ) where
   found (suc n) w r c i room g here h e = by (follows w r c i h e) (found n)
     where
       by : Follows w r c i
-          → ((w r c i : ℕ) → length line ≤ i + n → Good (spot w r c Between) → i ≡ place w r c → i ≤ length line → scan (drop i line) (spot w r c Between) i ≡ Formed rows k → Found w r c)
+          → ((w r c i : ℕ) → length line ≤ i + n → Good (spot w r c Between) → i ≡ place w r c → i ≤ length line → scan (drop i line) (spot w r c Between) i ≡ Ok (rows, k) → Found w r c)
           → Found w r c
       by (end a m x y) rec = found_end w r c i g here a m x y
       by (row a b m l f) rec =
@@ -272,7 +269,7 @@ module _ (line : List ℕ) (rows k : ℕ) where
           (rec w r (c + 1) (i + 3) (omega arith) (whole w r c Wrote refl (begins w r c g full Wrote refl)) (omega arith) (omega arith) f)
 
 -- the columns of an accepted line
-pub formed_of_form : (line : List ℕ) (rows k : ℕ) → form_of line ≡ Formed rows k → OfForm rows k line
+pub formed_of_form : (line : List ℕ) (rows k : ℕ) → form_of line ≡ Ok (rows, k) → OfForm rows k line
 unfolding form_of
 formed_of_form line rows k e =
     let f = found line rows k (length line) 0 0 0 0 (omega arith) good_first refl (omega arith) e in

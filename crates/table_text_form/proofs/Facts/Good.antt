@@ -1,5 +1,5 @@
 -- The spots that a line reaches: each has at most 24 whole rows, all of one width from 2 to 10. Assumes nothing.
-use Rattle.std.specs.Prelude.{◌≡◌, refl, Bool, true, false, ◌⊎◌, ℕ, ◌+◌, ◌≤◌, ◌<◌, eqb}
+use Rattle.std.specs.Prelude.{◌≡◌, refl, Bool, true, false, ◌⊎◌, ℕ, ◌+◌, ◌≤◌, ◌<◌, eqb, None, Option, Some}
 use Rattle.std.proofs.Common.{sym, subst, ◌∙◌, inl, inr, arith, eq-eqb, ne_eqb, eqb-true, leb-true, ltb-true}
 use Rattle.std.proofs.lemmas.Bool.{eqb-false}
 use Rattle.notation.specs.Choice.{pick}
@@ -8,8 +8,6 @@ use Rattle.table_bytes.specs.Model.Entries.{within}
 use Rattle.table_text_form.specs.declared.Phase.{Phase}
 use Rattle.table_text_form.specs.declared.Phase.TheVariants.{Between, Wrote, Moved, Dash, Dashes}
 use Rattle.table_text_form.specs.declared.Spot.{Spot}
-use Rattle.table_text_form.specs.declared.Next.{Next}
-use Rattle.table_text_form.specs.declared.Next.TheVariants.{On, Stop}
 use Rattle.table_text_form.specs.Form.{spot, is_move, may_end, is_full, width_of, on_if, row_ends, entry_begins, step_between, step, first}
 
 -- 1 inside an entry
@@ -36,14 +34,14 @@ good_rows s (inr g) = (g.2, omega (arith, g.1, g.3))
 
 -- ---- answers of one byte
 
-pub on_is : (x : Next) (s t : Spot) → x ≡ On s → x ≡ On t → s ≡ t
+pub on_is : (x : Option Spot) (s t : Spot) → x ≡ Some s → x ≡ Some t → s ≡ t
 on_is x s t a b = cc
 
-pub stop_is : (x : Next) (t : Spot) → x ≡ Stop → ¬ (x ≡ On t)
+pub stop_is : (x : Option Spot) (t : Spot) → x ≡ None → ¬ (x ≡ Some t)
 stop_is x t a b = let z : ◌≡◌ {A = ℕ} 0 1 = cc in omega arith
 
 -- a test that led somewhere was passed
-pub tested : (b : Bool) (s t : Spot) → on_if b s ≡ On t → (b ≡ true) × (s ≡ t)
+pub tested : (b : Bool) (s t : Spot) → on_if b s ≡ Some t → (b ≡ true) × (s ≡ t)
 unfolding pick
 tested true s t e = (refl, cc)
 tested false s t e = let z : ◌≡◌ {A = ℕ} 0 1 = cc in absurd (omega arith)
@@ -90,20 +88,20 @@ pub new_row : (w r c : ℕ) → Good (spot w r c Between) → may_end (spot w r 
 unfolding Good
 new_row w r c g f h = let n = row_width w r c g f in inr (n.0, n.1, omega arith, omega (arith, n.0))
 
-begun : (w r c b : ℕ) → Good (spot w r c Between) → (t : Spot) → entry_begins (spot w r c Between) b ≡ On t → Good t
+begun : (w r c b : ℕ) → Good (spot w r c Between) → (t : Spot) → entry_begins (spot w r c Between) b ≡ Some t → Good t
 unfolding entry_begins
 begun w r c b g t e = by_test (is_full (spot w r c Between))
-    (λ f. absurd (stop_is (entry_begins (spot w r c Between) b) t (pick_true (is_full (spot w r c Between)) Stop rest f) e))
+    (λ f. absurd (stop_is (entry_begins (spot w r c Between) b) t (pick_true (is_full (spot w r c Between)) None rest f) e))
     (λ f.
-    let e' : rest ≡ On t = sym (pick_false (is_full (spot w r c Between)) Stop rest f) ∙ e in
+    let e' : rest ≡ Some t = sym (pick_false (is_full (spot w r c Between)) None rest f) ∙ e in
     by_test (eqb b 45)
-    (λ d. subst Good (on_is rest (spot w r c Dash) t (pick_true (eqb b 45) (On (spot w r c Dash)) (on_if (within 48 57 b) (spot w r c Wrote)) d) e') (begins w r c g f Dash refl))
-    (λ d. subst Good (tested (within 48 57 b) (spot w r c Wrote) t (sym (pick_false (eqb b 45) (On (spot w r c Dash)) (on_if (within 48 57 b) (spot w r c Wrote)) d) ∙ e')).1 (begins w r c g f Wrote refl)))
+    (λ d. subst Good (on_is rest (spot w r c Dash) t (pick_true (eqb b 45) (Some (spot w r c Dash)) (on_if (within 48 57 b) (spot w r c Wrote)) d) e') (begins w r c g f Dash refl))
+    (λ d. subst Good (tested (within 48 57 b) (spot w r c Wrote) t (sym (pick_false (eqb b 45) (Some (spot w r c Dash)) (on_if (within 48 57 b) (spot w r c Wrote)) d) ∙ e')).1 (begins w r c g f Wrote refl)))
   where
-    rest : Next
-    rest = pick (eqb b 45) (On (spot w r c Dash)) (on_if (within 48 57 b) (spot w r c Wrote))
+    rest : Option Spot
+    rest = pick (eqb b 45) (Some (spot w r c Dash)) (on_if (within 48 57 b) (spot w r c Wrote))
 
-good_on : (w r c : ℕ) (p : Phase) (b : ℕ) → Good (spot w r c p) → (t : Spot) → step (spot w r c p) b ≡ On t → Good t
+good_on : (w r c : ℕ) (p : Phase) (b : ℕ) → Good (spot w r c p) → (t : Spot) → step (spot w r c p) b ≡ Some t → Good t
 unfolding step row_ends
 good_on w r c Wrote b g t e = subst Good (tested (is_move b) (spot w r c Moved) t e).1 (same_row w r c Wrote Moved refl g)
 good_on w r c Moved b g t e = subst Good (tested (within 65 90 b) (spot w r (c + 1) Between) t e).1 (whole w r c Moved refl g)
@@ -112,9 +110,9 @@ good_on w r c Dashes b g t e = subst Good (tested (eqb b 45) (spot w r (c + 1) B
 good_on w r c Between b g t e = by_test (row_ends (spot w r c Between) b)
     (λ x.
     let h = both_split (both_split x).1 in
-    subst Good (on_is (step_between (spot w r c Between) b) (spot (width_of (spot w r c Between)) (r + 1) 0 Between) t (pick_true (row_ends (spot w r c Between) b) (On (spot (width_of (spot w r c Between)) (r + 1) 0 Between)) (entry_begins (spot w r c Between) b) x) e)
+    subst Good (on_is (step_between (spot w r c Between) b) (spot (width_of (spot w r c Between)) (r + 1) 0 Between) t (pick_true (row_ends (spot w r c Between) b) (Some (spot (width_of (spot w r c Between)) (r + 1) 0 Between)) (entry_begins (spot w r c Between) b) x) e)
     (new_row w r c g h.0 (ltb-true r 24 h.1)))
-    (λ x. begun w r c b g t (sym (pick_false (row_ends (spot w r c Between) b) (On (spot (width_of (spot w r c Between)) (r + 1) 0 Between)) (entry_begins (spot w r c Between) b) x) ∙ e))
+    (λ x. begun w r c b g t (sym (pick_false (row_ends (spot w r c Between) b) (Some (spot (width_of (spot w r c Between)) (r + 1) 0 Between)) (entry_begins (spot w r c Between) b) x) ∙ e))
 
-pub good_step : (s : Spot) (b : ℕ) → Good s → (t : Spot) → step s b ≡ On t → Good t
+pub good_step : (s : Spot) (b : ℕ) → Good s → (t : Spot) → step s b ≡ Some t → Good t
 good_step s b g t e = good_on s.width s.rows s.col s.phase b g t e

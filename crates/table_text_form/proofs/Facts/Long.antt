@@ -1,8 +1,6 @@
 -- A line over 774 bytes is malformed, and its first 775 bytes say where. Assumes nothing.
-use Rattle.std.specs.Prelude.{◌≡◌, refl, List, ◌++◌, ℕ, suc, ◌+◌, ◌*◌, ◌≤◌, length, take}
+use Rattle.std.specs.Prelude.{◌≡◌, refl, List, ◌++◌, ℕ, suc, ◌+◌, ◌*◌, ◌≤◌, length, take, Err, Ok, Result}
 use Rattle.std.proofs.Common.{sym, ap, subst, ◌∙◌, mul-le-mul, arith, length-append, length-take-le, take-take}
-use Rattle.table_text_form.specs.declared.Scanned.{Scanned}
-use Rattle.table_text_form.specs.declared.Scanned.TheVariants.{Formed, Malformed}
 use Rattle.table_text_form.specs.Form.{form_of}
 use Rattle.table_text_form.proofs.Facts.Columns.{formed_of_form}
 use Rattle.table_text_form.specs.Line.{IsLine, MalformedAt}
@@ -38,9 +36,9 @@ module _ (a b : List ℕ) (long-a : 775 ≤ length a) (long_b : 775 ≤ length b
         early = λ t. let l = line_length_lem b t in omega arith;
       }
 
-  pub malformed_alike : (i : ℕ) × (form_of a ≡ Malformed i) × (form_of b ≡ Malformed i)
+  pub malformed_alike : (i : ℕ) × (form_of a ≡ Err i) × (form_of b ≡ Err i)
   malformed_alike = by (form_of a) refl
     where
-      by : (x : Scanned) → form_of a ≡ x → (i : ℕ) × (form_of a ≡ Malformed i) × (form_of b ≡ Malformed i)
-      by (Formed rows k) e = let l = line_length_lem a (rows, k, formed_of_form a rows k e) in absurd (omega arith)
-      by (Malformed i) e = (i, e, malformed_form b i (also i (place_right a i e)))
+      by : (x : Result (ℕ × ℕ) ℕ) → form_of a ≡ x → (i : ℕ) × (form_of a ≡ Err i) × (form_of b ≡ Err i)
+      by (Ok (rows, k)) e = let l = line_length_lem a (rows, k, formed_of_form a rows k e) in absurd (omega arith)
+      by (Err i) e = (i, e, malformed_form b i (also i (place_right a i e)))

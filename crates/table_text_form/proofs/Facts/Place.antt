@@ -1,15 +1,11 @@
 -- Where the automaton stops is the place of refusal 19. Assumes nothing.
-use Rattle.std.specs.Prelude.{◌≡◌, refl, Bool, true, false, List, [], ◌∷◌, ◌++◌, ℕ, zero, suc, ◌+◌, ◌-◌, ◌≤◌, ◌<◌, eqb, leb, ltb, length, take, drop}
+use Rattle.std.specs.Prelude.{◌≡◌, refl, Bool, true, false, List, [], ◌∷◌, ◌++◌, ℕ, zero, suc, ◌+◌, ◌-◌, ◌≤◌, ◌<◌, eqb, leb, ltb, length, take, drop, Err, None, Ok, Option, Result, Some}
 use Rattle.std.proofs.Common.{sym, ap, subst, ◌∙◌, inl, inr, append_assoc, arith, take-append-drop, take-take, eq-eqb, ne_eqb, le-leb, ltb-true, ltb-false}
 use Rattle.notation.specs.Choice.{pick}
 use Rattle.notation.proofs.Facts.Tests.{by_test, pick_true, pick_false, clash}
 use Rattle.table_text_form.specs.declared.Phase.{Phase}
 use Rattle.table_text_form.specs.declared.Phase.TheVariants.{Between, Wrote, Moved, Dash, Dashes}
 use Rattle.table_text_form.specs.declared.Spot.{Spot}
-use Rattle.table_text_form.specs.declared.Next.{Next}
-use Rattle.table_text_form.specs.declared.Next.TheVariants.{On, Stop}
-use Rattle.table_text_form.specs.declared.Scanned.{Scanned}
-use Rattle.table_text_form.specs.declared.Scanned.TheVariants.{Formed, Malformed}
 use Rattle.table_text_form.specs.Form.{spot, may_end, is_full, width_of, step, ends, scan, first, form_of}
 use Rattle.table_text_form.proofs.Facts.Good.{Good, good_first, good_step, whole}
 use Rattle.table_text_form.proofs.Facts.Columns.{formed_of_form}
@@ -19,42 +15,42 @@ use Rattle.table_text_form.proofs.Facts.Accepts.{begin_dash, move_on, letter_on,
 -- whether the bytes of a list lead from a spot to one where a line may end
 unfoldable accepts : List ℕ → Spot → Bool
 accepts [] s = ends s
-accepts (b ∷ l) s = elim (step s b) [ On t ↦ accepts l t | Stop ↦ false ]
+accepts (b ∷ l) s = elim (step s b) [ Some t ↦ accepts l t | None ↦ false ]
 
-accepts_on : (b : ℕ) (l : List ℕ) (s : Spot) (x : Next) → step s b ≡ x → accepts (b ∷ l) s ≡ (elim x as (λ _. Bool) [ On t ↦ accepts l t | Stop ↦ false ])
+accepts_on : (b : ℕ) (l : List ℕ) (s : Spot) (x : Option Spot) → step s b ≡ x → accepts (b ∷ l) s ≡ (elim x as (λ _. Bool) [ Some t ↦ accepts l t | None ↦ false ])
 unfolding accepts
-accepts_on b l s x e = ap (λ (y : Next). elim y as (λ _. Bool) [ On t ↦ accepts l t | Stop ↦ false ]) e
+accepts_on b l s x e = ap (λ (y : Option Spot). elim y as (λ _. Bool) [ Some t ↦ accepts l t | None ↦ false ]) e
 
-scan_step : (b : ℕ) (l : List ℕ) (s : Spot) (i : ℕ) (x : Next) → step s b ≡ x → scan (b ∷ l) s i ≡ (elim x as (λ _. Scanned) [ On t ↦ scan l t (i + 1) | Stop ↦ Malformed i ])
+scan_step : (b : ℕ) (l : List ℕ) (s : Spot) (i : ℕ) (x : Option Spot) → step s b ≡ x → scan (b ∷ l) s i ≡ (elim x as (λ _. (Result (ℕ × ℕ) ℕ)) [ Some t ↦ scan l t (i + 1) | None ↦ Err i ])
 unfolding scan
-scan_step b l s i x e = ap (λ (y : Next). elim y as (λ _. Scanned) [ On t ↦ scan l t (i + 1) | Stop ↦ Malformed i ]) e
+scan_step b l s i x e = ap (λ (y : Option Spot). elim y as (λ _. (Result (ℕ × ℕ) ℕ)) [ Some t ↦ scan l t (i + 1) | None ↦ Err i ]) e
 
-pub not_both : (x : Scanned) (i r k : ℕ) → x ≡ Malformed i → ¬ (x ≡ Formed r k)
+pub not_both : (x : Result (ℕ × ℕ) ℕ) (i r k : ℕ) → x ≡ Err i → ¬ (x ≡ Ok (r, k))
 not_both x i r k a b = let z : ◌≡◌ {A = ℕ} 0 1 = cc in omega arith
 
-malformed_is : (x : Scanned) (i j : ℕ) → x ≡ Malformed i → x ≡ Malformed j → i ≡ j
+malformed_is : (x : Result (ℕ × ℕ) ℕ) (i j : ℕ) → x ≡ Err i → x ≡ Err j → i ≡ j
 malformed_is x i j a b = cc
 
 -- the scan forms exactly the accepted lists
-accepts-formed : (l : List ℕ) (s : Spot) (i : ℕ) → accepts l s ≡ true → (r : ℕ) × (k : ℕ) × (scan l s i ≡ Formed r k)
+accepts-formed : (l : List ℕ) (s : Spot) (i : ℕ) → accepts l s ≡ true → (r : ℕ) × (k : ℕ) × (scan l s i ≡ Ok (r, k))
 unfolding accepts scan
-accepts-formed [] s i h = (s.rows + 1, width_of s, pick_true (ends s) (Formed (s.rows + 1) (width_of s)) (Malformed i) h)
+accepts-formed [] s i h = (s.rows + 1, width_of s, pick_true (ends s) (Ok (s.rows + 1, width_of s)) (Err i) h)
 accepts-formed (b ∷ l) s i h = by (step s b) refl (λ t. accepts-formed l t (i + 1))
   where
-    by : (x : Next) → step s b ≡ x → ((t : Spot) → accepts l t ≡ true → (r : ℕ) × (k : ℕ) × (scan l t (i + 1) ≡ Formed r k)) → (r : ℕ) × (k : ℕ) × (scan (b ∷ l) s i ≡ Formed r k)
-    by Stop e rec = absurd (clash h (accepts_on b l s Stop e))
-    by (On t) e rec =
-        let (r, k, f) = rec t (sym (accepts_on b l s (On t) e) ∙ h) in
-        (r, k, scan_step b l s i (On t) e ∙ f)
+    by : (x : Option Spot) → step s b ≡ x → ((t : Spot) → accepts l t ≡ true → (r : ℕ) × (k : ℕ) × (scan l t (i + 1) ≡ Ok (r, k))) → (r : ℕ) × (k : ℕ) × (scan (b ∷ l) s i ≡ Ok (r, k))
+    by None e rec = absurd (clash h (accepts_on b l s None e))
+    by (Some t) e rec =
+        let (r, k, f) = rec t (sym (accepts_on b l s (Some t) e) ∙ h) in
+        (r, k, scan_step b l s i (Some t) e ∙ f)
 
-formed-accepts : (l : List ℕ) (s : Spot) (i r k : ℕ) → scan l s i ≡ Formed r k → accepts l s ≡ true
+formed-accepts : (l : List ℕ) (s : Spot) (i r k : ℕ) → scan l s i ≡ Ok (r, k) → accepts l s ≡ true
 unfolding accepts scan
-formed-accepts [] s i r k h = by_test (ends s) (λ e. e) (λ e. absurd (not_both (scan [] s i) i r k (pick_false (ends s) (Formed (s.rows + 1) (width_of s)) (Malformed i) e) h))
+formed-accepts [] s i r k h = by_test (ends s) (λ e. e) (λ e. absurd (not_both (scan [] s i) i r k (pick_false (ends s) (Ok (s.rows + 1, width_of s)) (Err i) e) h))
 formed-accepts (b ∷ l) s i r k h = by (step s b) refl (λ t. formed-accepts l t (i + 1) r k)
   where
-    by : (x : Next) → step s b ≡ x → ((t : Spot) → scan l t (i + 1) ≡ Formed r k → accepts l t ≡ true) → accepts (b ∷ l) s ≡ true
-    by Stop e rec = absurd (not_both (scan (b ∷ l) s i) i r k (scan_step b l s i Stop e) h)
-    by (On t) e rec = accepts_on b l s (On t) e ∙ rec t (sym (scan_step b l s i (On t) e) ∙ h)
+    by : (x : Option Spot) → step s b ≡ x → ((t : Spot) → scan l t (i + 1) ≡ Ok (r, k) → accepts l t ≡ true) → accepts (b ∷ l) s ≡ true
+    by None e rec = absurd (not_both (scan (b ∷ l) s i) i r k (scan_step b l s i None e) h)
+    by (Some t) e rec = accepts_on b l s (Some t) e ∙ rec t (sym (scan_step b l s i (Some t) e) ∙ h)
 
 accepted-line : (l : List ℕ) → accepts l first ≡ true → IsLine l
 unfolding form_of
@@ -110,9 +106,9 @@ fills : (n w r c : ℕ) → Good (spot w r c Between) → floor w - c ≡ n → 
 unfolding accepts dashed ends
 fills zero w r c g e = may_end_lem w r c g (omega arith)
 fills (suc n) w r c g e =
-    accepts_on 45 (45 ∷ 45 ∷ dashed n) (spot w r c Between) (On (spot w r c Dash)) (begin_dash w r c (not_full w r c g (omega arith)))
-    ∙ accepts_on 45 (45 ∷ dashed n) (spot w r c Dash) (On (spot w r c Dashes)) (dash_on w r c 45 refl)
-    ∙ accepts_on 45 (dashed n) (spot w r c Dashes) (On (spot w r (c + 1) Between)) (dashes_on w r c 45 refl)
+    accepts_on 45 (45 ∷ 45 ∷ dashed n) (spot w r c Between) (Some (spot w r c Dash)) (begin_dash w r c (not_full w r c g (omega arith)))
+    ∙ accepts_on 45 (45 ∷ dashed n) (spot w r c Dash) (Some (spot w r c Dashes)) (dash_on w r c 45 refl)
+    ∙ accepts_on 45 (dashed n) (spot w r c Dashes) (Some (spot w r (c + 1) Between)) (dashes_on w r c 45 refl)
     ∙ fills n w r (c + 1) (one_more_lem w r c g (omega arith)) (omega arith)
 
 goes_on : (w r c : ℕ) (p : Phase) → Good (spot w r c p) → (rest : List ℕ) × (accepts rest (spot w r c p) ≡ true)
@@ -120,27 +116,27 @@ goes_on w r c Between g = (dashed (floor w - c), fills (floor w - c) w r c g ref
 goes_on w r c Wrote g =
     let n = floor w - (c + 1) in (
       76 ∷ 65 ∷ dashed n,
-      accepts_on 76 (65 ∷ dashed n) (spot w r c Wrote) (On (spot w r c Moved)) (move_on w r c 76 (inl refl))
-          ∙ accepts_on 65 (dashed n) (spot w r c Moved) (On (spot w r (c + 1) Between)) (letter_on w r c 65 (omega arith, omega arith))
+      accepts_on 76 (65 ∷ dashed n) (spot w r c Wrote) (Some (spot w r c Moved)) (move_on w r c 76 (inl refl))
+          ∙ accepts_on 65 (dashed n) (spot w r c Moved) (Some (spot w r (c + 1) Between)) (letter_on w r c 65 (omega arith, omega arith))
           ∙ fills n w r (c + 1) (whole w r c Wrote refl g) refl,
     )
 goes_on w r c Moved g =
     let n = floor w - (c + 1) in (
       65 ∷ dashed n,
-      accepts_on 65 (dashed n) (spot w r c Moved) (On (spot w r (c + 1) Between)) (letter_on w r c 65 (omega arith, omega arith))
+      accepts_on 65 (dashed n) (spot w r c Moved) (Some (spot w r (c + 1) Between)) (letter_on w r c 65 (omega arith, omega arith))
           ∙ fills n w r (c + 1) (whole w r c Moved refl g) refl,
     )
 goes_on w r c Dash g =
     let n = floor w - (c + 1) in (
       45 ∷ 45 ∷ dashed n,
-      accepts_on 45 (45 ∷ dashed n) (spot w r c Dash) (On (spot w r c Dashes)) (dash_on w r c 45 refl)
-          ∙ accepts_on 45 (dashed n) (spot w r c Dashes) (On (spot w r (c + 1) Between)) (dashes_on w r c 45 refl)
+      accepts_on 45 (45 ∷ dashed n) (spot w r c Dash) (Some (spot w r c Dashes)) (dash_on w r c 45 refl)
+          ∙ accepts_on 45 (dashed n) (spot w r c Dashes) (Some (spot w r (c + 1) Between)) (dashes_on w r c 45 refl)
           ∙ fills n w r (c + 1) (whole w r c Dash refl g) refl,
     )
 goes_on w r c Dashes g =
     let n = floor w - (c + 1) in (
       45 ∷ dashed n,
-      accepts_on 45 (dashed n) (spot w r c Dashes) (On (spot w r (c + 1) Between)) (dashes_on w r c 45 refl)
+      accepts_on 45 (dashed n) (spot w r c Dashes) (Some (spot w r (c + 1) Between)) (dashes_on w r c 45 refl)
           ∙ fills n w r (c + 1) (whole w r c Dashes refl g) refl,
     )
 
@@ -155,13 +151,13 @@ record Placed (s : Spot) (l : List ℕ) (j : ℕ) : Type 0 where
 plus_zero : (k : ℕ) → k ≡ k + 0
 plus_zero k = omega arith
 
-placed_from : (l : List ℕ) (s : Spot) (i₀ i : ℕ) → Good s → scan l s i₀ ≡ Malformed i → (j : ℕ) × (i ≡ i₀ + j) × Placed s l j
+placed_from : (l : List ℕ) (s : Spot) (i₀ i : ℕ) → Good s → scan l s i₀ ≡ Err i → (j : ℕ) × (i ≡ i₀ + j) × Placed s l j
 unfolding accepts scan
 placed_from [] s i₀ i g e =
-    let n : ¬ (ends s ≡ true) = λ t. not_both (scan [] s i₀) i (s.rows + 1) (width_of s) e (pick_true (ends s) (Formed (s.rows + 1) (width_of s)) (Malformed i₀) t) in
+    let n : ¬ (ends s ≡ true) = λ t. not_both (scan [] s i₀) i (s.rows + 1) (width_of s) e (pick_true (ends s) (Ok (s.rows + 1, width_of s)) (Err i₀) t) in
     let f : ends s ≡ false = by_test (ends s) (λ t. absurd (n t)) (λ t. t) in (
       0,
-      malformed_is (scan [] s i₀) i i₀ e (pick_false (ends s) (Formed (s.rows + 1) (width_of s)) (Malformed i₀) f) ∙ plus_zero i₀,
+      malformed_is (scan [] s i₀) i i₀ e (pick_false (ends s) (Ok (s.rows + 1, width_of s)) (Err i₀) f) ∙ plus_zero i₀,
       record {
         inside = omega arith;
         before = goes_on s.width s.rows s.col s.phase g;
@@ -171,31 +167,31 @@ placed_from [] s i₀ i g e =
     )
 placed_from (b ∷ l) s i₀ i g e = by (step s b) refl (λ t g' e'. placed_from l t (i₀ + 1) i g' e')
   where
-    by : (x : Next) → step s b ≡ x → ((t : Spot) → Good t → scan l t (i₀ + 1) ≡ Malformed i → (j : ℕ) × (i ≡ i₀ + 1 + j) × Placed t l j) → (j : ℕ) × (i ≡ i₀ + j) × Placed s (b ∷ l) j
-    by Stop x rec = (
+    by : (x : Option Spot) → step s b ≡ x → ((t : Spot) → Good t → scan l t (i₀ + 1) ≡ Err i → (j : ℕ) × (i ≡ i₀ + 1 + j) × Placed t l j) → (j : ℕ) × (i ≡ i₀ + j) × Placed s (b ∷ l) j
+    by None x rec = (
       0,
-      malformed_is (scan (b ∷ l) s i₀) i i₀ e (scan_step b l s i₀ Stop x) ∙ plus_zero i₀,
+      malformed_is (scan (b ∷ l) s i₀) i i₀ e (scan_step b l s i₀ None x) ∙ plus_zero i₀,
       record {
         inside = omega arith;
         before = goes_on s.width s.rows s.col s.phase g;
-        after = λ h rest t. clash t (accepts_on b rest s Stop x);
-        early = λ t. clash t (accepts_on b l s Stop x);
+        after = λ h rest t. clash t (accepts_on b rest s None x);
+        early = λ t. clash t (accepts_on b l s None x);
       },
     )
-    by (On t) x rec =
-        let (j, m, p) = rec t (good_step s b g t x) (sym (scan_step b l s i₀ (On t) x) ∙ e) in (
+    by (Some t) x rec =
+        let (j, m, p) = rec t (good_step s b g t x) (sym (scan_step b l s i₀ (Some t) x) ∙ e) in (
           suc j,
           omega arith,
           record {
             inside = omega (arith, p.inside);
-            before = (p.before.0, accepts_on b (take j l ++ p.before.0) s (On t) x ∙ p.before.1);
-            after = λ h rest y. p.after (omega arith) rest (sym (accepts_on b (take (suc j) l ++ rest) s (On t) x) ∙ y);
-            early = λ y. p.early (sym (accepts_on b l s (On t) x) ∙ y);
+            before = (p.before.0, accepts_on b (take j l ++ p.before.0) s (Some t) x ∙ p.before.1);
+            after = λ h rest y. p.after (omega arith) rest (sym (accepts_on b (take (suc j) l ++ rest) s (Some t) x) ∙ y);
+            early = λ y. p.early (sym (accepts_on b l s (Some t) x) ∙ y);
           },
         )
 
 -- a line that the automaton does not accept is malformed where the automaton stops
-pub place_right : (l : List ℕ) (i : ℕ) → form_of l ≡ Malformed i → MalformedAt l i
+pub place_right : (l : List ℕ) (i : ℕ) → form_of l ≡ Err i → MalformedAt l i
 unfolding form_of
 place_right l i e =
     let (j, m, p) = placed_from l first 0 i good_first e in
@@ -229,9 +225,9 @@ malformed-once l i j a b =
     by_test (ltb i j) (λ t. absurd (p (ltb-true _ _ t))) (λ t. by_test (ltb j i) (λ u. absurd (q (ltb-true _ _ u))) (λ u. let x = ltb-false i j t in let y = ltb-false j i u in omega arith))
 
 -- the automaton stops at the place of refusal 19
-pub malformed_form : (l : List ℕ) (i : ℕ) → MalformedAt l i → form_of l ≡ Malformed i
+pub malformed_form : (l : List ℕ) (i : ℕ) → MalformedAt l i → form_of l ≡ Err i
 malformed_form l i m = by (form_of l) refl
   where
-    by : (x : Scanned) → form_of l ≡ x → x ≡ Malformed i
-    by (Formed r k) e = absurd (m.early (r, k, formed_of_form l r k e))
-    by (Malformed j) e = ap Malformed (malformed-once l j i (place_right l j e) m)
+    by : (x : Result (ℕ × ℕ) ℕ) → form_of l ≡ x → x ≡ Err i
+    by (Ok (r, k)) e = absurd (m.early (r, k, formed_of_form l r k e))
+    by (Err j) e = ap Err (malformed-once l j i (place_right l j e) m)

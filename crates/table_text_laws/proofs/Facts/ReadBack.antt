@@ -1,9 +1,9 @@
 -- WRITING THEN READING gives the table. Assumes nothing.
-use Rattle.std.specs.Prelude.{◌≡◌, List, ℕ, ◌+◌, ◌-◌, ◌*◌, ◌/◌, ◌%◌, ◌^◌, ◌≤◌, ◌<◌, ltb, length, get_or, take}
+use Rattle.machine.specs.declared.Action.{Action}
+use Rattle.std.specs.Prelude.{◌≡◌, List, ℕ, ◌+◌, ◌-◌, ◌*◌, ◌/◌, ◌%◌, ◌^◌, ◌≤◌, ◌<◌, ltb, length, get_or, take, Option}
 use Rattle.std.proofs.Common.{sym, ap, subst, ◌∙◌, mod-lt, arith, ltb-true, ltb-false, ext_get_or}
 use Rattle.notation.proofs.Facts.Tests.{by_test}
 use Rattle.machine.specs.declared.Machine.{Machine}
-use Rattle.machine.specs.declared.Entry.{Entry}
 use Rattle.machine.proofs.Facts.CheckCases.{stride_one}
 use Rattle.machine.specs.Layout.{entry_count, byte_at, entry_at}
 use Rattle.table_laws.specs.WellFormed.{entry_bytes, EntryOf, LaidOut, WellFormed}
@@ -80,11 +80,11 @@ module _ (m : Machine) (s : List ℕ) (w : WellFormed m s) (z : ℕ) (h : HasLin
   laid i j l b =
       let x : LaidOut m s i = w 6 i (subst (λ (n : ℕ). i < n) (sym count_is) l) in
       let e : entry_at s i ≡ x.entry = entry_read s i x.entry (let n = same_size in omega arith) x.written in
-      x.written j b ∙ ap (λ (y : Entry). get_or (entry_bytes y) j 0) (sym e)
+      x.written j b ∙ ap (λ (y : Option Action). get_or (entry_bytes y) j 0) (sym e)
 
   same_bytes : (i j : ℕ) → i < (z + 1) * k → j < 8 → byte_at s i j ≡ byte_at again i j
   same_bytes i j l b =
-      laid i j l b ∙ ap (λ (y : Entry). get_or (entry_bytes y) j 0) (same_entries i l ∙ Reads.entry_at_lem z k written table good enough i l)
+      laid i j l b ∙ ap (λ (y : Option Action). get_or (entry_bytes y) j 0) (same_entries i l ∙ Reads.entry_at_lem z k written table good enough i l)
       ∙ sym (Reads.bytes_are z k written table good enough i j l b)
 
   pub read_back : again ≡ s

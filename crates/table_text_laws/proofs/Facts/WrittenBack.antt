@@ -1,12 +1,10 @@
 -- READING THEN WRITING gives the line. Assumes nothing.
-use Rattle.std.specs.Prelude.{◌≡◌, refl, List, ℕ, zero, suc, ◌+◌, ◌-◌, ◌*◌, ◌/◌, ◌%◌, ◌≤◌, ◌<◌, ltb, length, get_or, take}
+use Rattle.std.specs.Prelude.{◌≡◌, refl, List, ℕ, zero, suc, ◌+◌, ◌-◌, ◌*◌, ◌/◌, ◌%◌, ◌≤◌, ◌<◌, ltb, length, get_or, take, None, Option, Some}
 use Rattle.std.proofs.Common.{sym, ap, subst, ◌∙◌, inl, mod-lt, arith, ltb-true, ltb-false, ext_get_or}
 use Rattle.notation.proofs.Facts.Tests.{by_test}
 use Rattle.symbol.specs.declared.Dir.TheVariants.{N}
 use Rattle.machine.specs.declared.Machine.{Machine}
 use Rattle.machine.specs.declared.Action.{Action}
-use Rattle.machine.specs.declared.Entry.{Entry}
-use Rattle.machine.specs.declared.Entry.TheVariants.{Undefined, Defined}
 use Rattle.machine.specs.Layout.{entry_at}
 use Rattle.table_laws.specs.WellFormed.{WellFormed}
 use Rattle.table_text_form.specs.Line.{place}
@@ -38,10 +36,10 @@ module _ (rows k : ℕ) (line table : List ℕ) (g : GoodLine rows k line) (room
   says : (q a : ℕ) → q < rows → a < k → SaysAt rows k line s q a
   says = Reads.table_says rows k line table g room
 
-  dashed : (x y c : ℕ) (e : Entry) → Says rows x y c e → e ≡ Undefined → (x ≡ 45) × (y ≡ 45) × (c ≡ 45)
+  dashed : (x y c : ℕ) (e : Option Action) → Says rows x y c e → e ≡ None → (x ≡ 45) × (y ≡ 45) × (c ≡ 45)
   dashed x y c e h p = subst (Says rows x y c) p h
 
-  moves : (i : ℕ) (a : Action) → i < (rows + 1) * k → entry_at s i ≡ Defined a → ¬ (a.dir0 ≡ N)
+  moves : (i : ℕ) (a : Action) → i < (rows + 1) * k → entry_at s i ≡ Some a → ¬ (a.dir0 ≡ N)
   moves i a h e = by_test (ltb i (rows * k)) (λ t. inside (ltb-true _ _ t)) (λ t. absurd (past (ltb-false _ _ t)))
     where
       inside : i < rows * k → ¬ (a.dir0 ≡ N)
@@ -54,7 +52,7 @@ module _ (rows k : ℕ) (line table : List ℕ) (g : GoodLine rows k line) (room
       past l =
           let p : rows * k + (i - rows * k) ≡ i = omega arith in
           let u = Reads.last_undefined rows k line table g room (i - rows * k) (omega arith) in
-          let z : Undefined ≡ Defined a = sym u ∙ ap (entry_at s) p ∙ e in
+          let z : None ≡ Some a = sym u ∙ ap (entry_at s) p ∙ e in
           let y : ◌≡◌ {A = ℕ} 0 1 = cc in
           omega arith
 

@@ -1,9 +1,10 @@
 -- READING: what the reader answers, and the table that it writes. Assumes nothing.
-use Rattle.std.specs.Prelude.{◌≡◌, refl, true, ℕ, zero, suc, ◌+◌, ◌-◌, ◌*◌, ◌/◌, ◌%◌, ◌^◌, ◌≤◌, ◌<◌, leb, length, take}
+use Rattle.machine.specs.declared.Machine.{Machine}
+use Rattle.outcome.specs.declared.Refusal.{Refusal}
+use Rattle.std.specs.Prelude.{◌≡◌, refl, true, ℕ, zero, suc, ◌+◌, ◌-◌, ◌*◌, ◌/◌, ◌%◌, ◌^◌, ◌≤◌, ◌<◌, leb, length, take, Err, None, Ok, Option, Result, Some}
 use Rattle.std.proofs.Common.{sym, ◌∙◌, inl, inr, mod-lt, le-leb, leb-true, leb-false, lt-ltb, le-ltb, ltb-true, ltb-false, length-take-le}
 use Rattle.std.proofs.Math.Path.{ap, subst}
 use Rattle.std.proofs.Math.Bool.{false}
-use Rattle.std.proofs.Math.Option.{Option, some}
 use mathlib.Core.List.{List}
 use native.Mathlib.Omega.{arith}
 use Rattle.std.proofs.Math.Dec.{ltb}
@@ -15,21 +16,16 @@ use Rattle.notation.proofs.Facts.Fill.{length_fill, fill_in, fill_past}
 use Rattle.notation.proofs.Facts.Scan.{Scanned, clean, failed, scanned, clean_none}
 use Rattle.notation.proofs.Facts.Tests.{by_test, clash, pick_cases, pick_true, pick_false}
 use Rattle.outcome.specs.declared.Refusal.TheVariants as Why
-use Rattle.machine.specs.declared.Entry.TheVariants.{Undefined}
 use Rattle.machine.proofs.Facts.CheckCases.{stride_one}
 use Rattle.machine.specs.Layout.{byte_at, entry_at}
 use Rattle.table_laws.specs.WellFormed.{entry_bytes, EntryOf, WellFormed}
 use Rattle.table_laws.proofs.Facts.Reading.{entry_read}
-use Rattle.table_text_form.specs.declared.Scanned as Form
-use Rattle.table_text_form.specs.declared.Scanned.TheVariants.{Formed, Malformed}
 use Rattle.table_text_form.specs.Form.{form_of}
 use Rattle.table_text_form.specs.Line.{place, OfForm, MalformedAt}
 use Rattle.table_text_form.proofs.Facts.Columns.{formed_of_form}
 use Rattle.table_text_form.proofs.Facts.Places.{number_is, row_below, row_in}
 use Rattle.table_text_form.proofs.Facts.Accepts.{of_form_formed}
 use Rattle.table_text_form.proofs.Facts.Place.{place_right}
-use Rattle.table_text_reader.specs.declared.Read.{Read}
-use Rattle.table_text_reader.specs.declared.Read.TheVariants.{Table, Refused}
 use Rattle.table_text_reader.specs.Reading.{has_byte, machine_of, entry_of, entry_in, table_byte, table_size, room_for, read_of, read_on, read_into}
 use Rattle.table_text_reader.proofs.Facts.Places.{text_place_lem}
 use Rattle.table_text_reader.specs.Meaning.{LacksDigit, LacksLetter, LacksAt, FirstLacking, GoodLine, Says, SaysAt}
@@ -41,12 +37,12 @@ use Rattle.table_text_reader.proofs.Facts.Texts.{read_says, read_of_machine}
 
 module _ (line : List ℕ) (room : ℕ) where
   module _ (rows k : ℕ) (f : OfForm rows k line) where
-    pub as_lacking : (i : ℕ) → LacksAt rows k line i → ((j : ℕ) → j < i → ¬ (LacksAt rows k line j)) → read_of line room ≡ Refused (Why.LineLacks i)
+    pub as_lacking : (i : ℕ) → LacksAt rows k line i → ((j : ℕ) → j < i → ¬ (LacksAt rows k line j)) → read_of line room ≡ Err (Why.LineLacks i)
     as_lacking i l n = answer_lacks line room rows k (of_form_formed line rows k f) i (by (first_fail (has_byte rows k line) (length line) 0) (scanned (has_byte rows k line) (length line) 0))
       where
-        by : (x : Option ℕ) → Scanned (has_byte rows k line) (length line) 0 x → x ≡ some i
+        by : (x : Option ℕ) → Scanned (has_byte rows k line) (length line) 0 x → x ≡ Some i
         by x (clean h) = absurd (clash (h i (omega arith) (omega (arith, lacks_in rows k line f i l))) (lacks_fails rows k line i l))
-        by x (failed j a b e h) = ap some (same (by_test (ltb j i) (λ t. absurd (n j (ltb-true _ _ t) (fails_lacks rows k line f j (omega arith) e))) (λ t. ltb-false j i t)) (by_test (ltb i j) (λ t. absurd (clash (h i (omega arith) (ltb-true _ _ t)) (lacks_fails rows k line i l))) (λ t. ltb-false i j t)))
+        by x (failed j a b e h) = ap Some (same (by_test (ltb j i) (λ t. absurd (n j (ltb-true _ _ t) (fails_lacks rows k line f j (omega arith) e))) (λ t. ltb-false j i t)) (by_test (ltb i j) (λ t. absurd (clash (h i (omega arith) (ltb-true _ _ t)) (lacks_fails rows k line i l))) (λ t. ltb-false i j t)))
           where
             same : i ≤ j → j ≤ i → j ≡ i
             same u v = omega arith
@@ -59,17 +55,17 @@ module _ (line : List ℕ) (room : ℕ) where
 
   -- ---- what the line is, from the answer
 
-  pub data Answer : Read → Type 0 where
-    malformed : (i : ℕ) → MalformedAt line i → Answer (Refused (Why.MalformedLine i))
-    lacking : (i : ℕ) → FirstLacking line i → Answer (Refused (Why.LineLacks i))
-    short : (rows k : ℕ) → GoodLine rows k line → room < table_size rows k → Answer (Refused Why.OutputSize)
-    good : (rows k : ℕ) → GoodLine rows k line → table_size rows k ≤ room → Answer (Table (machine_of rows k))
+  pub data Answer : Result Machine Refusal → Type 0 where
+    malformed : (i : ℕ) → MalformedAt line i → Answer (Err (Why.MalformedLine i))
+    lacking : (i : ℕ) → FirstLacking line i → Answer (Err (Why.LineLacks i))
+    short : (rows k : ℕ) → GoodLine rows k line → room < table_size rows k → Answer (Err Why.OutputSize)
+    good : (rows k : ℕ) → GoodLine rows k line → table_size rows k ≤ room → Answer (Ok (machine_of rows k))
 
   answer_room : (rows k : ℕ) → GoodLine rows k line → Answer (room_for rows k room)
-  answer_room rows k g = pick_cases (leb (table_size rows k) room) (Table (machine_of rows k)) (Refused Why.OutputSize) Answer
+  answer_room rows k g = pick_cases (leb (table_size rows k) room) (Ok (machine_of rows k)) (Err Why.OutputSize) Answer
       (λ e. good rows k g (leb-true _ _ e)) (λ e. short rows k g (leb-false _ _ e))
 
-  answer_formed : (rows k : ℕ) → form_of line ≡ Formed rows k → Answer (read_of line room)
+  answer_formed : (rows k : ℕ) → form_of line ≡ Ok (rows, k) → Answer (read_of line room)
   answer_formed rows k formed = by (first_fail (has_byte rows k line) (length line) 0) refl (scanned (has_byte rows k line) (length line) 0)
     where
       f : OfForm rows k line
@@ -89,9 +85,9 @@ module _ (line : List ℕ) (room : ℕ) where
   pub answer : Answer (read_of line room)
   answer = by (form_of line) refl
     where
-      by : (x : Form.Scanned) → form_of line ≡ x → Answer (read_of line room)
-      by (Malformed i) e = subst Answer (sym (answer_malformed line room i e)) (malformed i (place_right line i e))
-      by (Formed rows k) e = answer_formed rows k e
+      by : (x : Result (ℕ × ℕ) ℕ) → form_of line ≡ x → Answer (read_of line room)
+      by (Err i) e = subst Answer (sym (answer_malformed line room i e)) (malformed i (place_right line i e))
+      by (Ok (rows, k)) e = answer_formed rows k e
 
 -- ---- the table that is written
 
@@ -99,12 +95,12 @@ module _ (rows k : ℕ) (line table : List ℕ) (g : GoodLine rows k line) (room
   abbrev out : List ℕ
   out = read_into line table
 
-  pub read_answers : read_of line (length table) ≡ Table (machine_of rows k)
-  read_answers = as_good line (length table) rows k g.of_form g.has ∙ pick_true (leb (table_size rows k) (length table)) (Table (machine_of rows k)) (Refused Why.OutputSize) (le-leb _ _ room)
+  pub read_answers : read_of line (length table) ≡ Ok (machine_of rows k)
+  read_answers = as_good line (length table) rows k g.of_form g.has ∙ pick_true (leb (table_size rows k) (length table)) (Ok (machine_of rows k)) (Err Why.OutputSize) (le-leb _ _ room)
 
   out_is : out ≡ fill_from (table_byte rows k line) (table_size rows k) 0 table
   unfolding read_into
-  out_is = ap (λ (r : Read). read_on r line table) read_answers ∙ ap (λ (n : ℕ). fill_from (table_byte n k line) (table_size rows k) 0 table) less
+  out_is = ap (λ (r : Result Machine Refusal). read_on r line table) read_answers ∙ ap (λ (n : ℕ). fill_from (table_byte n k line) (table_size rows k) 0 table) less
     where
       less : rows + 1 - 1 ≡ rows
       less = omega arith
@@ -160,7 +156,7 @@ module _ (rows k : ℕ) (line table : List ℕ) (g : GoodLine rows k line) (room
       (read_says rows _ _ _ (g.of_form.entries q a h l) (letter_has q a h l))
 
   -- "the reader always adds its row, last and all undefined"
-  pub last_undefined : (a : ℕ) → a < k → entry_at table_in (rows * k + a) ≡ Undefined
+  pub last_undefined : (a : ℕ) → a < k → entry_at table_in (rows * k + a) ≡ None
   unfolding entry_in
   last_undefined a h = entry_at_lem (rows * k + a) (omega arith) ∙ pick_false _ _ _ (le-ltb (rows * k + a) (rows * k) (omega arith))
 
@@ -168,21 +164,21 @@ module _ (rows k : ℕ) (line table : List ℕ) (g : GoodLine rows k line) (room
   unfolding entry_in
   of_machine i h = by_test (ltb i (rows * k)) (λ t. inside (ltb-true _ _ t)) (λ t. subst (EntryOf (machine_of rows k)) (sym (past t)) tt)
     where
-      past : ltb i (rows * k) ≡ false → entry_in rows k line i ≡ Undefined
+      past : ltb i (rows * k) ≡ false → entry_in rows k line i ≡ None
       past t = pick_false _ _ _ t
 
-      some : 0 < k
-      some = omega (arith, g.of_form.symbols_are.0)
+      Some : 0 < k
+      Some = omega (arith, g.of_form.symbols_are.0)
 
       inside : i < rows * k → EntryOf (machine_of rows k) (entry_in rows k line i)
       inside l =
           let q = i / k in
           let a = i % k in
-          let x = row_below k rows i some l in
-          let y = mod-lt i some in
-          let e : entry_in rows k line i ≡ entry_of rows (get_or line (place k q a) 0) (get_or line (place k q a + 1) 0) (get_or line (place k q a + 2) 0) = ap (entry_in rows k line) (sym (number_is k i some)) ∙ entry_text_lem q a x y in
+          let x = row_below k rows i Some l in
+          let y = mod-lt i Some in
+          let e : entry_in rows k line i ≡ entry_of rows (get_or line (place k q a) 0) (get_or line (place k q a + 1) 0) (get_or line (place k q a + 2) 0) = ap (entry_in rows k line) (sym (number_is k i Some)) ∙ entry_text_lem q a x y in
           subst (EntryOf (machine_of rows k)) (sym e)
-          (read_of_machine (machine_of rows k) rows _ _ _ refl refl (g.of_form.entries q a x y) (digit_has q a x y) (letter_has q a x y) some)
+          (read_of_machine (machine_of rows k) rows _ _ _ refl refl (g.of_form.entries q a x y) (digit_has q a x y) (letter_has q a x y) Some)
 
   -- "an accepted line gives a table that the check accepts"
   pub table_well : WellFormed (machine_of rows k) table_in

@@ -1,5 +1,6 @@
 -- An entry and its three bytes: each has the other as its only one. Assumes nothing.
-use Rattle.std.specs.Prelude.{◌≡◌, refl, ℕ, ◌+◌, ◌-◌, ◌≤◌, ◌<◌, eqb, ltb}
+use Rattle.machine.specs.declared.Action.{Action}
+use Rattle.std.specs.Prelude.{◌≡◌, refl, ℕ, ◌+◌, ◌-◌, ◌≤◌, ◌<◌, eqb, ltb, None, Option, Some}
 use Rattle.std.proofs.Common.{sym, ap, subst, ◌∙◌, inl, inr, arith, eq-eqb, ne_eqb, ltb-true, ltb-false}
 use Rattle.std.proofs.Math.Decide.{ℕ_discrete}
 use Rattle.notation.specs.Choice.{pick}
@@ -8,8 +9,6 @@ use Rattle.symbol.specs.Kinds.{symbol_of, state_of}
 use Rattle.symbol.specs.declared.Dir.{Dir}
 use Rattle.symbol.specs.declared.Dir.TheVariants.{L, R, N}
 use Rattle.machine.specs.declared.Machine.{Machine}
-use Rattle.machine.specs.declared.Entry.{Entry}
-use Rattle.machine.specs.declared.Entry.TheVariants.{Undefined, Defined}
 use Rattle.machine.specs.Layout.{single_of}
 use Rattle.table_laws.specs.WellFormed.{EntryOf}
 use Rattle.table_text_form.specs.Line.{Move, EntryText}
@@ -36,7 +35,7 @@ pub read_says : (z x y c : ℕ) → EntryText x y c → ¬ (LacksLetter z c) →
 read_says z x y c (inl t) n = subst (Says z x y c) (sym (pick_true (eqb x 45) _ _ (eq-eqb x 45 t.0))) t
 read_says z x y c (inr t) n =
     let d = t.0.0 in
-    let defined : Says z x y c (Defined (single_of (symbol_of (x - 48)) (move_of y) (state_of (state_in z c)))) = (omega arith, move_read y t.1, letter_read z c t.2.0 n t.2.1) in
+    let defined : Says z x y c (Some (single_of (symbol_of (x - 48)) (move_of y) (state_of (state_in z c)))) = (omega arith, move_read y t.1, letter_read z c t.2.0 n t.2.1) in
     subst (Says z x y c) (sym (pick_false (eqb x 45) _ _ (ne_eqb x 45 (λ (h : x ≡ 45). omega arith)))) defined
 
 -- an entry that was read is one of the machine that reading makes: its state is below states, its symbol below symbols
@@ -72,9 +71,9 @@ same_letter z c c' q (inl h) (inr l) = absurd (omega (arith, h.1, l.1))
 same_letter z c c' q (inr h) (inl l) = absurd (omega (arith, h.1, l.1))
 same_letter z c c' q (inr h) (inr l) = h.0 ∙ sym l.0
 
-pub same_text : (z x y c x' y' c' : ℕ) (e : Entry) → Says z x y c e → Says z x' y' c' e → (x ≡ x') × (y ≡ y') × (c ≡ c')
-same_text z x y c x' y' c' Undefined h l = (h.0 ∙ sym l.0, h.1 ∙ sym l.1, h.2 ∙ sym l.2)
-same_text z x y c x' y' c' (Defined a) h l = (h.0 ∙ sym l.0, same_move y y' a.dir0 h.1 l.1, same_letter z c c' a.next.0 h.2 l.2)
+pub same_text : (z x y c x' y' c' : ℕ) (e : Option Action) → Says z x y c e → Says z x' y' c' e → (x ≡ x') × (y ≡ y') × (c ≡ c')
+same_text z x y c x' y' c' None h l = (h.0 ∙ sym l.0, h.1 ∙ sym l.1, h.2 ∙ sym l.2)
+same_text z x y c x' y' c' (Some a) h l = (h.0 ∙ sym l.0, same_move y y' a.dir0 h.1 l.1, same_letter z c c' a.next.0 h.2 l.2)
 
 -- ---- the entry is the text's only one, among those of a machine with one tape
 
@@ -93,11 +92,11 @@ same_state z c q q' n (inl h) (inr l) = absurd (omega (arith, h.0, l.0, l.1))
 same_state z c q q' n (inr h) (inl l) = absurd (omega (arith, h.0, l.0, h.1))
 same_state z c q q' n (inr h) (inr l) = omega (arith, h.0, l.0)
 
-pub same-entry : (m : Machine) (z x y c : ℕ) (e e' : Entry) → m.tapes ≡ 1 → z ≤ 25 → EntryOf m e → EntryOf m e' → Says z x y c e → Says z x y c e' → e ≡ e'
-same-entry m z x y c Undefined Undefined one n o o' h l = refl
-same-entry m z x y c Undefined (Defined a) one n o o' h l = absurd (omega (arith, h.0, l.0))
-same-entry m z x y c (Defined a) Undefined one n o o' h l = absurd (omega (arith, h.0, l.0))
-same-entry m z x y c (Defined a) (Defined b) one n o o' h l =
+pub same-entry : (m : Machine) (z x y c : ℕ) (e e' : Option Action) → m.tapes ≡ 1 → z ≤ 25 → EntryOf m e → EntryOf m e' → Says z x y c e → Says z x y c e' → e ≡ e'
+same-entry m z x y c None None one n o o' h l = refl
+same-entry m z x y c None (Some a) one n o o' h l = absurd (omega (arith, h.0, l.0))
+same-entry m z x y c (Some a) None one n o o' h l = absurd (omega (arith, h.0, l.0))
+same-entry m z x y c (Some a) (Some b) one n o o' h l =
     let w : a.write0.0 ≡ b.write0.0 = omega (arith, h.0, l.0) in
     let d = same_dir y a.dir0 b.dir0 h.1 l.1 in
     let q = same_state z c a.next.0 b.next.0 n h.2 l.2 in
@@ -105,7 +104,7 @@ same-entry m z x y c (Defined a) (Defined b) one n o o' h l =
     let a2 = o.lacks2 (omega arith) in
     let b1 = o'.lacks1 (omega arith) in
     let b2 = o'.lacks2 (omega arith) in
-    ap Defined (λ i. record {
+    ap Some (λ i. record {
       next = state_of (q i);
       write0 = symbol_of (w i);
       write1 = symbol_of ((a1.0 ∙ sym b1.0) i);
@@ -122,22 +121,22 @@ move_form y L h = inl h
 move_form y R h = inr h
 move_form y N h = absurd h
 
-pub says_form : (z x y c : ℕ) (e : Entry) → z ≤ 25 → Says z x y c e → (x ≤ 57) → EntryText x y c
-says_form z x y c Undefined n h l = inl h
-says_form z x y c (Defined a) n h l = inr ((omega (arith, h.0), l), move_form y a.dir0 h.1, letter h.2)
+pub says_form : (z x y c : ℕ) (e : Option Action) → z ≤ 25 → Says z x y c e → (x ≤ 57) → EntryText x y c
+says_form z x y c None n h l = inl h
+says_form z x y c (Some a) n h l = inr ((omega (arith, h.0), l), move_form y a.dir0 h.1, letter h.2)
   where
     letter : LetterOf z c a.next.0 → (65 ≤ c) × (c ≤ 90)
     letter (inl e) = (omega (arith, e.0), omega (arith, e.0))
     letter (inr e) = (omega (arith, e.0), omega (arith, e.0, e.1))
 
-pub says_letter : (z x y c : ℕ) (e : Entry) → Says z x y c e → ¬ (LacksLetter z c)
-says_letter z x y c Undefined h n = omega (arith, h.2, n.0.0)
-says_letter z x y c (Defined a) h n = by h.2
+pub says_letter : (z x y c : ℕ) (e : Option Action) → Says z x y c e → ¬ (LacksLetter z c)
+says_letter z x y c None h n = omega (arith, h.2, n.0.0)
+says_letter z x y c (Some a) h n = by h.2
   where
     by : LetterOf z c a.next.0 → ⊥
     by (inl e) = n.1 e.0
     by (inr e) = omega (arith, e.0, e.1, n.2)
 
-pub says_digit : (m : Machine) (z x y c : ℕ) (e : Entry) → EntryOf m e → Says z x y c e → ¬ (LacksDigit m.symbols x)
-says_digit m z x y c Undefined o h n = omega (arith, h.0, n.0.0)
-says_digit m z x y c (Defined a) o h n = omega (arith, h.0, n.1, o.write0_in)
+pub says_digit : (m : Machine) (z x y c : ℕ) (e : Option Action) → EntryOf m e → Says z x y c e → ¬ (LacksDigit m.symbols x)
+says_digit m z x y c None o h n = omega (arith, h.0, n.0.0)
+says_digit m z x y c (Some a) o h n = omega (arith, h.0, n.1, o.write0_in)

@@ -1,5 +1,5 @@
 -- The test of 21 says which tables have a line, in both directions. Assumes nothing.
-use Rattle.std.specs.Prelude.{◌≡◌, refl, true, false, List, ℕ, ◌+◌, ◌-◌, ◌*◌, ◌≤◌}
+use Rattle.std.specs.Prelude.{◌≡◌, refl, true, false, List, ℕ, ◌+◌, ◌-◌, ◌*◌, ◌≤◌, None, Option, Some}
 use Rattle.std.proofs.Math.Path.{sym, ap, subst}
 use Rattle.std.proofs.Common.{◌∙◌, eq-eqb, eqb-true, le-leb}
 use Rattle.std.proofs.Math.Bool.{not}
@@ -12,8 +12,6 @@ use Rattle.symbol.specs.declared.Dir.{Dir}
 use Rattle.symbol.specs.declared.Dir.TheVariants.{L, R, N}
 use Rattle.machine.specs.declared.Machine.{Machine}
 use Rattle.machine.specs.declared.Action.{Action}
-use Rattle.machine.specs.declared.Entry.{Entry}
-use Rattle.machine.specs.declared.Entry.TheVariants.{Undefined, Defined}
 use Rattle.machine.specs.Layout.{entry_at}
 use Rattle.table_bytes.specs.Model.Entries.{within}
 use Rattle.table_bytes.proofs.Facts.EntryCases.{within_says}
@@ -22,9 +20,9 @@ use Rattle.table_text_rows.specs.Meaning.{RowUndefined, Lettered, HasLine}
 
 -- ---- rows
 
-undefined_is : (e : Entry) → is_undefined e ≡ true → e ≡ Undefined
-undefined_is Undefined h = refl
-undefined_is (Defined a) h = absurd (clash {b = true} refl (sym h))
+undefined_is : (e : Option Action) → is_undefined e ≡ true → e ≡ None
+undefined_is None h = refl
+undefined_is (Some a) h = absurd (clash {b = true} refl (sym h))
 
 row_says : (k : ℕ) (s : List ℕ) (q : ℕ) → row_undefined k s q ≡ true → RowUndefined k s q
 unfolding row_undefined
@@ -74,7 +72,7 @@ rows_most m s =
 
 -- ---- moves
 
-moves_say : (s : List ℕ) (i : ℕ) (a : Action) → moves_at s i ≡ true → entry_at s i ≡ Defined a → ¬ (a.dir0 ≡ N)
+moves_say : (s : List ℕ) (i : ℕ) (a : Action) → moves_at s i ≡ true → entry_at s i ≡ Some a → ¬ (a.dir0 ≡ N)
 moves_say s i a h e n = clash {b = false} (sym (ap is_moving n) ∙ sym (ap moves_or e) ∙ h) refl
 
 moving : (d : Dir) → ¬ (d ≡ N) → is_moving d ≡ true
@@ -82,12 +80,12 @@ moving L n = refl
 moving R n = refl
 moving N n = absurd (n refl)
 
-moves_hold : (s : List ℕ) (i : ℕ) → ((a : Action) → entry_at s i ≡ Defined a → ¬ (a.dir0 ≡ N)) → moves_at s i ≡ true
+moves_hold : (s : List ℕ) (i : ℕ) → ((a : Action) → entry_at s i ≡ Some a → ¬ (a.dir0 ≡ N)) → moves_at s i ≡ true
 moves_hold s i h = by (entry_at s i) refl
   where
-    by : (e : Entry) → entry_at s i ≡ e → moves_or e ≡ true
-    by Undefined p = refl
-    by (Defined a) p = moving a.dir0 (h a p)
+    by : (e : Option Action) → entry_at s i ≡ e → moves_or e ≡ true
+    by None p = refl
+    by (Some a) p = moving a.dir0 (h a p)
 
 -- ---- the whole test
 

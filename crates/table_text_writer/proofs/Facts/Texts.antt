@@ -1,13 +1,12 @@
 -- The three bytes of an entry say the entry. Assumes nothing.
-use Rattle.std.specs.Prelude.{◌≡◌, refl, ℕ, ◌+◌, ◌≤◌, eqb}
+use Rattle.machine.specs.declared.Action.{Action}
+use Rattle.std.specs.Prelude.{◌≡◌, refl, ℕ, ◌+◌, ◌≤◌, eqb, None, Option, Some}
 use Rattle.std.proofs.Common.{inl, inr, arith, eq-eqb, ne_eqb}
 use Rattle.std.proofs.Math.Decide.{ℕ_discrete}
 use Rattle.notation.specs.Choice.{pick}
 use Rattle.notation.proofs.Facts.Tests.{pick_true, pick_false}
 use Rattle.symbol.specs.declared.Dir.{Dir}
 use Rattle.symbol.specs.declared.Dir.TheVariants.{L, R, N}
-use Rattle.machine.specs.declared.Entry.{Entry}
-use Rattle.machine.specs.declared.Entry.TheVariants.{Undefined, Defined}
 use Rattle.table_text_reader.specs.Meaning.{MoveOf, LetterOf, Says}
 use Rattle.table_text_writer.specs.Writing.{move_text, letter_text, entry_text}
 
@@ -24,11 +23,11 @@ letter_written z q h = by (ℕ_discrete q z)
     by (no f) = inr (pick_false (eqb q z) 90 (65 + q) (ne_eqb q z f), omega arith)
 
 -- its moves are L or R, and its next state has a letter
-abbrev pub HasText : ℕ → Entry → Type 0
-HasText z Undefined = Unit {0}
-HasText z (Defined a) = ¬ (a.dir0 ≡ N) × (a.next.0 ≤ z)
+abbrev pub HasText : ℕ → Option Action → Type 0
+HasText z None = Unit {0}
+HasText z (Some a) = ¬ (a.dir0 ≡ N) × (a.next.0 ≤ z)
 
-pub write_says : (z : ℕ) (e : Entry) → HasText z e → Says z (entry_text z e 0) (entry_text z e 1) (entry_text z e 2) e
+pub write_says : (z : ℕ) (e : Option Action) → HasText z e → Says z (entry_text z e 0) (entry_text z e 1) (entry_text z e 2) e
 unfolding pick
-write_says z Undefined h = (refl, refl, refl)
-write_says z (Defined a) h = (refl, move_written a.dir0 h.0, letter_written z a.next.0 h.1)
+write_says z None h = (refl, refl, refl)
+write_says z (Some a) h = (refl, move_written a.dir0 h.0, letter_written z a.next.0 h.1)

@@ -1,5 +1,7 @@
 -- WRITING: what the writer answers, and the line that it writes. Assumes nothing.
-use Rattle.std.specs.Prelude.{◌≡◌, refl, List, ℕ, ◌+◌, ◌*◌, ◌/◌, ◌%◌, ◌≤◌, ◌<◌, leb, length, get_or, take}
+use Rattle.outcome.specs.declared.Refusal.{Refusal}
+use Rattle.machine.specs.declared.Action.{Action}
+use Rattle.std.specs.Prelude.{◌≡◌, refl, List, ℕ, ◌+◌, ◌*◌, ◌/◌, ◌%◌, ◌≤◌, ◌<◌, leb, length, get_or, take, Err, None, Ok, Option, Result, Some}
 use Rattle.std.proofs.Common.{sym, subst, ◌∙◌, inl, inr, mul-le-mul, eq-eqb, ne_eqb, le-leb, length-take-le, get_or-take}
 use Rattle.std.proofs.Math.Path.{ap}
 use Rattle.std.proofs.Math.Bool.{false}
@@ -11,8 +13,6 @@ use Rattle.notation.proofs.Facts.Fill.{length_fill, fill_in, fill_past}
 use Rattle.notation.proofs.Facts.Tests.{by_test, pick_true, pick_false}
 use Rattle.outcome.specs.declared.Refusal.TheVariants as Why
 use Rattle.machine.specs.declared.Machine.{Machine}
-use Rattle.machine.specs.declared.Entry.{Entry}
-use Rattle.machine.specs.declared.Entry.TheVariants.{Undefined, Defined}
 use Rattle.machine.specs.Layout.{entry_at}
 use Rattle.table_laws.specs.WellFormed.{EntryOf, WellFormed}
 use Rattle.table_laws.proofs.Facts.CheckExact.{table_check_accepts}
@@ -25,29 +25,27 @@ use Rattle.table_text_rows.proofs.Facts.Rows.{lettered_states, line_says, rows_i
 use Rattle.table_text_reader.specs.Meaning.{LacksDigit, LacksLetter, LacksAt, GoodLine, Says, SaysAt}
 use Rattle.table_text_reader.proofs.Facts.Columns.{bar_col}
 use Rattle.table_text_reader.proofs.Facts.Texts.{says_form, says_letter, says_digit}
-use Rattle.table_text_writer.specs.declared.Written.{Written}
-use Rattle.table_text_writer.specs.declared.Written.TheVariants as W
 use Rattle.table_text_writer.specs.Writing.{entry_text, line_byte, line_size, write_of, write_on, write_into}
 use Rattle.table_text_writer.proofs.Facts.Texts.{HasText, write_says}
 
 -- ---- the answer for a table that the check accepts
 
 module _ (m : Machine) (s : List ℕ) (w : WellFormed m s) (room : ℕ) where
-  pub as_none : ((z : ℕ) → ¬ (HasLine m s z)) → write_of m s room ≡ W.Refused Why.NoLine
+  pub as_none : ((z : ℕ) → ¬ (HasLine m s z)) → write_of m s room ≡ Err Why.NoLine
   unfolding write_of pick
   as_none n =
       let e : has_line m s ≡ false = by_test (has_line m s) (λ t. absurd (n (lettered_rows m s) (line_says m s t))) (λ t. t) in
       rw (table_check_accepts m s w, e)
 
   module _ (z : ℕ) (h : HasLine m s z) where
-    as_line : write_of m s room ≡ pick (leb (line_size z m.symbols) room) (W.Line (line_size z m.symbols)) (W.Refused Why.OutputSize)
+    as_line : write_of m s room ≡ pick (leb (line_size z m.symbols) room) (Ok (line_size z m.symbols)) (Err Why.OutputSize)
     unfolding write_of pick
     as_line = rw (table_check_accepts m s w, line_holds m s z h, rows_is m s z h)
 
-    pub as_short : room < line_size z m.symbols → write_of m s room ≡ W.Refused Why.OutputSize
+    pub as_short : room < line_size z m.symbols → write_of m s room ≡ Err Why.OutputSize
     as_short l = as_line ∙ pick_false _ _ _ (lt-leb _ _ l)
 
-    pub as_written : line_size z m.symbols ≤ room → write_of m s room ≡ W.Line (line_size z m.symbols)
+    pub as_written : line_size z m.symbols ≤ room → write_of m s room ≡ Ok (line_size z m.symbols)
     as_written l = as_line ∙ pick_true _ _ _ (le-leb _ _ l)
 
 -- ---- the line that is written
@@ -64,7 +62,7 @@ module _ (m : Machine) (s : List ℕ) (w : WellFormed m s) (z : ℕ) (h : HasLin
 
   out_is : out ≡ fill_from (line_byte z k s) size 0 line
   unfolding write_into
-  out_is = ap (λ (x : Written). write_on x m s line) (as_written m s w (length line) z h room)
+  out_is = ap (λ (x : Result ℕ Refusal). write_on x m s line) (as_written m s w (length line) z h room)
       ∙ ap (λ (n : ℕ). fill_from (line_byte n k s) size 0 line) (rows_is m s z h)
 
   pub write_length : length out ≡ length line
@@ -117,9 +115,9 @@ module _ (m : Machine) (s : List ℕ) (w : WellFormed m s) (z : ℕ) (h : HasLin
     has_text : HasText z (entry_at s (q * k + a))
     has_text = by (entry_at s (q * k + a)) refl (entry_fits)
       where
-        by : (e : Entry) → entry_at s (q * k + a) ≡ e → EntryOf m e → HasText z e
-        by Undefined p o = tt
-        by (Defined x) p o = (h.moves (q * k + a) x (row_in k m.states q a (omega (arith, states.0)) col) p, omega (arith, o.next_in, states.1))
+        by : (e : Option Action) → entry_at s (q * k + a) ≡ e → EntryOf m e → HasText z e
+        by None p o = tt
+        by (Some x) p o = (h.moves (q * k + a) x (row_in k m.states q a (omega (arith, states.0)) col) p, omega (arith, o.next_in, states.1))
 
     pub line_says_entry : SaysAt z k line_in s q a
     line_says_entry =
@@ -132,9 +130,9 @@ module _ (m : Machine) (s : List ℕ) (w : WellFormed m s) (z : ℕ) (h : HasLin
     low_digit : get_or line_in (place k q a) 0 ≤ 57
     low_digit = by (entry_at s (q * k + a)) entry_fits line_says_entry
       where
-        by : (e : Entry) → EntryOf m e → Says z (get_or line_in (place k q a) 0) (get_or line_in (place k q a + 1) 0) (get_or line_in (place k q a + 2) 0) e → get_or line_in (place k q a) 0 ≤ 57
-        by Undefined o t = omega (arith, t.0)
-        by (Defined x) o t = omega (arith, t.0, o.write0_in, h.symbols_are.1)
+        by : (e : Option Action) → EntryOf m e → Says z (get_or line_in (place k q a) 0) (get_or line_in (place k q a + 1) 0) (get_or line_in (place k q a + 2) 0) e → get_or line_in (place k q a) 0 ≤ 57
+        by None o t = omega (arith, t.0)
+        by (Some x) o t = omega (arith, t.0, o.write0_in, h.symbols_are.1)
 
   pub line_parted : (q : ℕ) → q + 1 < z → get_or line_in (place k q k) 0 ≡ 95
   unfolding line_byte

@@ -1,9 +1,8 @@
 -- The answers to the questions on one tape are right: `find_of`, `non_blank_of` and `window_of` agree with the cells at the positions.
 -- Assumes nothing.
-use Rattle.std.specs.Prelude.{◌≡◌, true, false, List, eqb, ℤ, length, get_or}
+use Rattle.std.specs.Prelude.{◌≡◌, true, false, List, eqb, ℤ, length, get_or, None, Option, Some}
 use Rattle.std.proofs.Math.Path.{refl, ap}
 use Rattle.std.proofs.Common.{sym, ◌∙◌}
-use Rattle.std.proofs.Math.Option.{Option}
 use Prim.Native.Nat.{ℕ, ◌+◌, ◌-◌, ◌≤◌, ◌<◌, ◌^◌}
 use native.Mathlib.Omega.{arith}
 use borrow.Author.Tests.{lt-ltb, le-ltb, eqb-true, eqb-false, eq-eqb}
@@ -14,10 +13,9 @@ use Rattle.notation.proofs.Facts.Scan.{Scanned, scanned, clean, failed, all_says
 use Rattle.notation.proofs.Facts.ScanDown.{ScannedDown, scanned_down}
 use Rattle.notation.proofs.Facts.ScanDown as down
 use Rattle.notation.proofs.Facts.Tests.{clash, pick_cases, pick_true, pick_false}
-use Rattle.symbol.specs.Model.{raised_of, found_of}
+use Rattle.symbol.specs.Model.{raised_of}
 use Rattle.symbol.specs.declared.Dir.{Dir}
 use Rattle.symbol.specs.declared.Dir.TheVariants.{L, R, N}
-use Rattle.tape.specs.declared.Spot.TheVariants.{At, Nowhere}
 use Rattle.tape.specs.Model.Moves.{Held}
 use Rattle.tape.specs.Model.Questions.{blank_at, blank_beyond, cell_of, first_written, last_written, span_of, non_blank_of, window_cell, window_from, window_of, spot_of, find_of}
 use Rattle.tape_positions.specs.Model.{raised_at, cells_below}
@@ -44,7 +42,7 @@ module _ (h : Held) where
   find_left_says z = by (scanned_down (blank_at h.cells) (cells_below (up z) (dn z) (h.tape.origin + 1) h.tape.len))
     where
       by : {x : Option ℕ} → ScannedDown (blank_at h.cells) (cells_below (up z) (dn z) (h.tape.origin + 1) h.tape.len) x
-          → Finds (cell_of h) z L (spot_of h.tape.origin (found_of x))
+          → Finds (cell_of h) z L (spot_of h.tape.origin (x))
       by (down.clean r) = no_cell (λ y t. blank_at_lem y (λ i b e. r i (omega (ints, t))))
       by (down.failed j a w r) = nearest (j ⊖ h.tape.origin) (omega (ints, diff-⊖ j h.tape.origin)) (written_at j (omega arith) w)
           (λ y t n. blank_at_lem y (λ i b e. r i (omega (ints, t, n, diff-⊖ j h.tape.origin)) (omega (ints, t))))
@@ -56,14 +54,14 @@ module _ (h : Held) where
       start : ℕ
       start = cells_below (up z) (dn z) h.tape.origin h.tape.len
 
-      by : {x : Option ℕ} → Scanned (blank_at h.cells) (h.tape.len - start) start x → Finds (cell_of h) z R (spot_of h.tape.origin (found_of x))
+      by : {x : Option ℕ} → Scanned (blank_at h.cells) (h.tape.len - start) start x → Finds (cell_of h) z R (spot_of h.tape.origin (x))
       by (clean r) = no_cell (λ y t. blank_at_lem y (λ i b e. r i (omega (ints, t)) (omega (ints, t))))
       by (failed j a b w r) = nearest (j ⊖ h.tape.origin) (omega (ints, diff-⊖ j h.tape.origin)) (written_at j (omega arith) w)
           (λ y t n. blank_at_lem y (λ i k e. r i (omega (ints, t)) (omega (ints, t, n, diff-⊖ j h.tape.origin))))
 
   find_here_says : (z : ℤ) → Finds (cell_of h) z N (find_of h z N)
   unfolding find_of
-  find_here_says z = pick_cases (eqb (cell_of h z) 0) Nowhere (At z) (Finds (cell_of h) z N)
+  find_here_says z = pick_cases (eqb (cell_of h z) 0) None (Some z) (Finds (cell_of h) z N)
       (λ t. no_cell (λ y e. rw e (eqb-true _ _ t)))
       (λ t. nearest z refl (eqb-false _ _ t) (λ y e b. absurd b))
 
@@ -79,7 +77,7 @@ module _ (h : Held) where
   non_blank_says = by (scanned (blank_at h.cells) (h.tape.len - 0) 0) (scanned_down (blank_at h.cells) h.tape.len)
     where
       by : {x y : Option ℕ} → Scanned (blank_at h.cells) (h.tape.len - 0) 0 x → ScannedDown (blank_at h.cells) h.tape.len y
-          → Spans (cell_of h) (span_of h.tape.origin (found_of x) (found_of y))
+          → Spans (cell_of h) (span_of h.tape.origin (x) (y))
       by (clean r) s = no_cells (λ y. blank_at_lem y (λ i b e. r i (omega arith) (omega arith)))
       by (failed i a b w r) (down.clean s) = absurd (clash (s i (omega arith)) w)
       by (failed i a b w r) (down.failed j p v s) = range (i ⊖ h.tape.origin) (j ⊖ h.tape.origin) (written_at i (omega arith) w) (written_at j p v)

@@ -1,7 +1,9 @@
 -- A tape passes the test `tape_fits` exactly where `TapeFits` is true of it. Assumes nothing.
-use Rattle.std.specs.Prelude.{◌≡◌, Bool, true, List, ℕ, ◌≤◌}
+use Rattle.std.specs.Prelude.{◌≡◌, ◌↔◌, Bool, true, IsTrue, All, List, ℕ, ◌≤◌, ◌<◌, ltb, length, take}
 use Rattle.std.proofs.Common.{sym, ◌∙◌, arith}
 use borrow.Author.Tests.{leb-true, ltb-true, le-leb, lt-ltb}
+use Rattle.notation.specs.Choice.{both}
+use Rattle.notation.proofs.Facts.Lists.{all-part}
 use Rattle.notation.proofs.Facts.Scan.{all_says, all_holds}
 use Rattle.notation.proofs.Facts.Tests.{both_split, both_true}
 use Rattle.notation.specs.Limits.{cells_most}
@@ -14,6 +16,13 @@ pub shape_len : (t : Tape) (cap : ℕ) (r : Bool) → r ≡ shape_fits t cap →
 shape_len t cap r e z = leb-true _ _ (both_split (both_split (sym e ∙ z)).1).0
 
 module _ (k : ℕ) (t : Tape) (c : List ℕ) where
+  -- what the test of the cells says, where the numbers fit
+  pub fits_cells : (r s : Bool) → s ≡ shape_fits t (length c) → s ≡ true → IsTrue r ↔ All (λ x. x < k) (take t.len c) → r ≡ tape_fits k t c
+  unfolding tape_fits both
+  fits_cells r s e z p =
+      let h : t.len ≤ length c = shape_len t (length c) s e z in
+      rw (← e, z) (all-part (λ x. x < k) (λ x. ltb x k) (λ x g. lt-ltb x k g) (λ x g. ltb-true x k g) c 0 t.len (omega arith) r p)
+
   pub fits_says : tape_fits k t c ≡ true → TapeFits k t c
   unfolding tape_fits
   fits_says h =

@@ -1,6 +1,6 @@
 -- The questions on one tape (document 01, tape.rs): a cell by its position, the extent and the number of the non-blank cells, a window, and
 -- the nearest non-blank cell. "A cell outside is blank." Definitions only.
-use Rattle.std.specs.Prelude.{Bool, false, List, ℕ, ◌+◌, ◌-◌, eqb, ℤ}
+use Rattle.std.specs.Prelude.{Bool, false, List, ℕ, ◌+◌, ◌-◌, eqb, ℤ, None, Option, Some}
 use Rattle.notation.specs.Choice.{pick}
 use Rattle.notation.specs.Scan.{all_in}
 use Rattle.notation.specs.ScanDown.{count_fails}
@@ -8,12 +8,7 @@ use Rattle.notation.specs.Position.{◌⊖◌}
 use Rattle.symbol.specs.Model.{raised_of}
 use Rattle.symbol.specs.declared.Dir.{Dir}
 use Rattle.symbol.specs.declared.Dir.TheVariants.{L, R, N}
-use Rattle.symbol.specs.declared.position.Found.{Found}
-use Rattle.symbol.specs.declared.position.Found.TheVariants as Index
 use Rattle.tape.specs.declared.Span.{Span}
-use Rattle.tape.specs.declared.Span.TheVariants.{Empty, Cells}
-use Rattle.tape.specs.declared.Spot.{Spot}
-use Rattle.tape.specs.declared.Spot.TheVariants.{At, Nowhere}
 use Rattle.tape.specs.Model.Moves.{Held}
 use Rattle.tape_positions.specs.Model as Views
 use Rattle.tape_positions.specs.Model.{place_of, last_up_to, first_from}
@@ -34,13 +29,16 @@ cell_of h z = cell_at h.tape.origin h.tape.len h.cells z
 
 -- ---- the non-blank cells
 
-unfoldable pub span_of : (origin : ℕ) → Found → Found → Span
-span_of o (Index.At i) (Index.At j) = Cells (i ⊖ o) (j ⊖ o)
-span_of o (Index.At i) Index.Nothing = Empty
-span_of o Index.Nothing last = Empty
+abbrev pub span : (from to : ℤ) → Span
+span a b = record { from = a; to = b }
+
+unfoldable pub span_of : (origin : ℕ) → Option ℕ → Option ℕ → Option Span
+span_of o (Some i) (Some j) = Some (span (i ⊖ o) (j ⊖ o))
+span_of o (Some i) None = None
+span_of o None last = None
 
 -- the positions of the lowest and the highest non-blank cell
-unfoldable pub non_blank_of : Held → Span
+unfoldable pub non_blank_of : Held → Option Span
 non_blank_of h =
     span_of h.tape.origin (first_written h.cells 0 h.tape.len) (last_written h.cells h.tape.len)
 
@@ -62,12 +60,12 @@ window_of h from out = window_from h (raised_of from) out
 
 -- ---- the nearest non-blank cell
 
-unfoldable pub spot_of : (origin : ℕ) → Found → Spot
-spot_of origin (Index.At i) = At (i ⊖ origin)
-spot_of origin Index.Nothing = Nowhere
+unfoldable pub spot_of : (origin : ℕ) → Option ℕ → Option ℤ
+spot_of origin (Some i) = Some (i ⊖ origin)
+spot_of origin None = None
 
 -- at `from` or beyond it in that direction; N tests `from` alone
-unfoldable pub find_of : Held → (from : ℤ) → Dir → Spot
+unfoldable pub find_of : Held → (from : ℤ) → Dir → Option ℤ
 find_of h z L = spot_of h.tape.origin (last_up_to h.tape.origin h.tape.len h.cells z)
 find_of h z R = spot_of h.tape.origin (first_from h.tape.origin h.tape.len h.cells z)
-find_of h z N = pick (eqb (cell_of h z) 0) Nowhere (At z)
+find_of h z N = pick (eqb (cell_of h z) 0) None (Some z)

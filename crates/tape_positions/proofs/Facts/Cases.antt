@@ -1,5 +1,5 @@
 -- Questions about positions, one fact for each path through the code. Assumes nothing.
-use Rattle.std.specs.Prelude.{◌≡◌, List, ℕ, ◌+◌, ◌-◌, ◌≤◌, ◌<◌, ◌^◌, min, leb, ltb, ℤ, set}
+use Rattle.std.specs.Prelude.{◌≡◌, List, ℕ, ◌+◌, ◌-◌, ◌≤◌, ◌<◌, ◌^◌, min, leb, ltb, ℤ, set, None, Option, Some}
 use Rattle.std.proofs.Math.Path.{ap}
 use Rattle.std.proofs.Common.{◌∙◌, arith, lt-ltb, le-ltb, ltb-true}
 use Rattle.notation.specs.Choice.{pick, both}
@@ -10,21 +10,19 @@ use Rattle.notation.proofs.Facts.Position.{diff-⊖}
 use Rattle.notation.proofs.Facts.Tests.{both_split, pick_cases}
 use Rattle.symbol.specs.Model.{raised_of, index_at, index_of, index_of_raised}
 use Rattle.symbol.proofs.Facts.Places.{index_alike}
-use Rattle.symbol.specs.declared.position.Found.{Found}
-use Rattle.symbol.specs.declared.position.Found.TheVariants as Index
 use Rattle.tape_cells.specs.Model.{reach, found_cell, first_written, last_written}
 use Rattle.tape_positions.specs.Model.{cell_at, raised_at, place_of, window_from, window_at, cells_below, last_up_to, first_from}
 
 -- ---- a cell by its position
 
-pub index_reach : (f : Found) (u d o len n : ℕ) → f ≡ index_at u d o len → len ≤ n → reach f ≤ n
+pub index_reach : (f : Option ℕ) (u d o len n : ℕ) → f ≡ index_at u d o len → len ≤ n → reach f ≤ n
 unfolding index_at
-index_reach f u d o len n e h = rw e (pick_cases (both (leb d (o + u)) (ltb (o + u - d) len)) (Index.At (o + u - d)) Index.Nothing (λ g. reach g ≤ n)
+index_reach f u d o len n e h = rw e (pick_cases (both (leb d (o + u)) (ltb (o + u - d) len)) (Some (o + u - d)) None (λ g. reach g ≤ n)
     (λ t. omega (arith, ltb-true (o + u - d) len (both_split t).1))
     (λ t. omega arith))
 
 module _ (o len : ℕ) (c : List ℕ) where
-  pub cell_at_lem : (y z : ℤ) (f : Found) (x : ℕ) → x ≡ found_cell c f → f ≡ index_of y o len → y ≡ z → x ≡ cell_at o len c z
+  pub cell_at_lem : (y z : ℤ) (f : Option ℕ) (x : ℕ) → x ≡ found_cell c f → f ≡ index_of y o len → y ≡ z → x ≡ cell_at o len c z
   unfolding cell_at
   cell_at_lem y z f x p q e = p ∙ ap (found_cell c) q ∙ ap (λ (v : ℤ). found_cell c (index_of v o len)) e
 
@@ -33,7 +31,7 @@ module _ (o len : ℕ) (c : List ℕ) where
     unfolding raised_at pick
     raised_over g = rw (le-ltb _ _ g)
 
-    pub raised_at_holds : (f : Found) (x : ℕ) → x ≡ found_cell c f → f ≡ index_of_raised r o len → r < 2 ^ 64 → x ≡ raised_at o len c r
+    pub raised_at_holds : (f : Option ℕ) (x : ℕ) → x ≡ found_cell c f → f ≡ index_of_raised r o len → r < 2 ^ 64 → x ≡ raised_at o len c r
     unfolding raised_at cell_at pick
     raised_at_holds f x p q g =
         let e : index_of_raised r o len ≡ index_of (r ⊖ 2 ^ 63) o len = index_alike r (2 ^ 63) _ _ _ _ (omega (arith, diff-⊖ r (2 ^ 63))) in
@@ -56,8 +54,8 @@ module _ (o len : ℕ) (c : List ℕ) where
         let e : p + b - 2 ^ 63 ≡ p + up y - dn y = omega arith in
         ap (λ (n : ℕ). min n len) (e ∙ ap (λ (v : ℤ). p + up v - dn v) same)
 
-    pub last_is : (f : Found) (n : ℕ) → f ≡ last_written c n → n ≡ cells_below b (2 ^ 63) (o + 1) len → f ≡ last_up_to o len c z
+    pub last_is : (f : Option ℕ) (n : ℕ) → f ≡ last_written c n → n ≡ cells_below b (2 ^ 63) (o + 1) len → f ≡ last_up_to o len c z
     last_is f n q r = q ∙ ap (last_written c) (r ∙ below_is (o + 1))
 
-    pub first_is : (f : Found) (n : ℕ) → f ≡ first_written c n len → n ≡ cells_below b (2 ^ 63) o len → f ≡ first_from o len c z
+    pub first_is : (f : Option ℕ) (n : ℕ) → f ≡ first_written c n len → n ≡ cells_below b (2 ^ 63) o len → f ≡ first_from o len c z
     first_is f n q r = q ∙ ap (λ (m : ℕ). first_written c m len) (r ∙ below_is o)

@@ -1,20 +1,19 @@
 -- One call on a timeline that meets the invariant: its checks, its answer, and how it ends. Assumes nothing.
 use Prim.Native.Nat.{ℕ, ◌+◌, ◌-◌, ◌/◌, ◌≤◌, ◌<◌, max}
-use Rattle.std.specs.Prelude.{◌≡◌, refl, leb, eqb}
+use Rattle.std.specs.Prelude.{◌≡◌, refl, leb, eqb, Ok, Some}
 use Rattle.std.proofs.Common.{sym, ◌∙◌, ap, zero-add, mul-le-mul_right, div-mul-le_self, arith}
 use Rattle.std.proofs.Math.Path.{subst}
 use Rattle.std.proofs.Math.Bool.{true}
-use Rattle.std.proofs.Math.Option.{some}
 use Rattle.std.proofs.Math.Dec.{ltb}
 use borrow.Author.Tests.{ltb-true, ltb-false, eqb-true, lt-ltb, le-leb}
 use Rattle.notation.specs.Choice.{pick}
 use Rattle.notation.proofs.Facts.Tests.{both_true, pick_cases}
 use Rattle.notation.specs.Limits.{steps_most, interval_most}
-use Rattle.machine.specs.declared.Checked.TheVariants.{Accepted}
 use Rattle.machine.specs.Model.Check.{within, demand}
 use Rattle.outcome.specs.declared.Refusal.TheVariants as Why
 use Rattle.timeline_rule.specs.Model.Engine.{Ops}
-use Rattle.timeline_rule.specs.Model.Timeline.{TimelineOver, Call, Reply, answered, target, due, times_ok, with_engine, gas_for, advance_to, go_on, slot_for, slot_step, from_slot, go_back, stay, go_to, call_check, on_check, call}
+use Rattle.timeline_rule.specs.declared.Call.{Call}
+use Rattle.timeline_rule.specs.Model.Timeline.{TimelineOver, Reply, answered, target, due, times_ok, with_engine, gas_for, advance_to, go_on, slot_for, slot_step, from_slot, go_back, stay, go_to, call_check, on_check, call}
 use Rattle.timeline_laws.specs.Automaton.{Automaton}
 use Rattle.timeline_laws.specs.Laws.{Laws, Advance, went, full}
 use Rattle.timeline_laws.proofs.Facts.Steps.{base, at}
@@ -41,7 +40,7 @@ module _ {M : Automaton} {O : Ops M.Out} (E : Laws M O) (x : E.Mean) (good : E.G
 
   -- a call never gets refusals 1 to 12, 14 and 15
   pub call_is : (w : TimelineOver O) (p : ℕ) (c : Call) → Inv E x good w p
-      → call O w c ≡ on_check O (demand (leb (target p c) steps_most) Why.StepLimit Accepted) w (go_to O (max (target p c) (base E x)) w)
+      → call O w c ≡ on_check O (demand (leb (target p c) steps_most) Why.StepLimit (Ok tt)) w (go_to O (max (target p c) (base E x)) w)
   unfolding call call_check pick
   call_is w p c i = rw (E.fits_check w.engine i.engine_at.fits, now_at E x good w.engine p i.engine_at, times_ok_holds w p i, enough, upto)
     where
@@ -90,14 +89,14 @@ module _ {M : Automaton} {O : Ops M.Out} (E : Laws M O) (x : E.Mean) (good : E.G
       slot : Slot E x good w.store w.times n
       slot = i.tidy.slot n (omega (arith, i.tidy.count_low))
 
-      go : (s : O.State) × (O.restore n (O.now slot.engine) w.engine w.store ≡ some s) × E.Same s slot.engine × (E.mean s ≡ E.mean slot.engine) × E.Fits s
+      go : (s : O.State) × (O.restore n (O.now slot.engine) w.engine w.store ≡ Some s) × E.Same s slot.engine × (E.mean s ≡ E.mean slot.engine) × E.Fits s
           → Taken t (from_slot O t w (O.restore n (slot_step t w.times) w.engine w.store))
       go r = rw is (goes_on (with_engine O w r.0) (slot_step t w.times) t inv low (omega (arith, i.engine_at.small)))
         where
           low : slot_step t w.times ≤ t
           low = slot_low w p t i b
 
-          is : O.restore n (slot_step t w.times) w.engine w.store ≡ some r.0
+          is : O.restore n (slot_step t w.times) w.engine w.store ≡ Some r.0
           is = ap (λ a. O.restore n a w.engine w.store) (sym (slot_now E x good w.store w.times n slot)) ∙ r.1
 
           inv : Inv E x good (with_engine O w r.0) (slot_step t w.times)

@@ -1,15 +1,15 @@
 -- How a call ends: refused, at its target or the halt before that, or short of it at a full step. Assumes nothing.
-use Rattle.std.specs.Prelude.{ℕ, ◌≤◌, ◌<◌, max, ◌≡◌, true, false, leb}
+use Rattle.outcome.specs.declared.Refusal.{Refusal}
+use Rattle.std.specs.Prelude.{ℕ, ◌≤◌, ◌<◌, max, ◌≡◌, true, false, leb, Err, Ok, Result, ⊤}
 use Rattle.std.proofs.Common.{sym, ◌∙◌, ap, subst, arith, leb-true, leb-false}
 use Rattle.std.proofs.Math.Decide.{dec_le}
 use Rattle.notation.proofs.Facts.Tests.{by_test, pick_true, pick_false}
 use Rattle.notation.specs.Limits.{steps_most}
 use Rattle.outcome.specs.declared.Refusal.TheVariants as Why
-use Rattle.machine.specs.declared.Checked.{Checked}
-use Rattle.machine.specs.declared.Checked.TheVariants.{Accepted, Refused}
 use Rattle.machine.specs.Model.Check.{demand}
 use Rattle.timeline_rule.specs.Model.Engine.{Ops}
-use Rattle.timeline_rule.specs.Model.Timeline.{TimelineOver, Call, refused, answered, target, go_to, on_check, call}
+use Rattle.timeline_rule.specs.declared.Call.{Call}
+use Rattle.timeline_rule.specs.Model.Timeline.{TimelineOver, refused, answered, target, go_to, on_check, call}
 use Rattle.timeline_laws.specs.Automaton.{Automaton, run, reach}
 use Rattle.timeline_laws.specs.Laws.{Laws}
 use Rattle.timeline_laws.proofs.Facts.Steps.{base, at, Room, pos_is, config_at}
@@ -37,15 +37,15 @@ module _ {M : Automaton} {O : Ops M.Out} (E : Laws M O) (x : E.Mean) (good : E.G
   pub ends : (w : TimelineOver O) (p : ℕ) (c : Call) → Inv E x good w p → Ends w p c
   ends w p c i = by_test (leb (target p c) steps_most) low high
     where
-      checks : (r : Checked) → demand (leb (target p c) steps_most) Why.StepLimit Accepted ≡ r → call O w c ≡ on_check O r w (go_to O (aim p c) w)
+      checks : (r : Result ⊤ Refusal) → demand (leb (target p c) steps_most) Why.StepLimit (Ok tt) ≡ r → call O w c ≡ on_check O r w (go_to O (aim p c) w)
       checks r q = call_is E x good w p c i ∙ ap (λ r. on_check O r w (go_to O (aim p c) w)) q
 
       high : leb (target p c) steps_most ≡ false → Ends w p c
       high q = over (leb-false (target p c) steps_most q)
-          (checks (Refused Why.StepLimit) (pick_false (leb (target p c) steps_most) Accepted (Refused Why.StepLimit) q))
+          (checks (Err Why.StepLimit) (pick_false (leb (target p c) steps_most) (Ok tt) (Err Why.StepLimit) q))
 
       took : leb (target p c) steps_most ≡ true → Taken E x good (aim p c) (call O w c)
-      took q = subst (Taken E x good (aim p c)) (sym (checks Accepted (pick_true (leb (target p c) steps_most) Accepted (Refused Why.StepLimit) q)))
+      took q = subst (Taken E x good (aim p c)) (sym (checks (Ok tt) (pick_true (leb (target p c) steps_most) (Ok tt) (Err Why.StepLimit) q)))
           (taken E x good w p (aim p c) i (omega arith) (omega (arith, leb-true (target p c) steps_most q, i.engine_at.low, i.engine_at.small)))
 
       -- the full step is not before p, because all steps before p had room

@@ -1,5 +1,6 @@
 -- A new timeline meets the invariant, at the step of its engine. Assumes nothing.
-use Rattle.std.specs.Prelude.{ℕ, ◌+◌, ◌*◌, ◌≤◌, ◌<◌, Bool, ltb}
+use Rattle.outcome.specs.declared.Refusal.{Refusal}
+use Rattle.std.specs.Prelude.{ℕ, ◌+◌, ◌*◌, ◌≤◌, ◌<◌, Bool, ltb, Err, Ok, Result, ⊤}
 use Rattle.std.proofs.Math.Path.{◌≡◌, refl}
 use Rattle.std.proofs.Common.{sym, ◌∙◌, ap, subst, zero-mul, arith}
 use Rattle.std.proofs.Math.Bool.{true, false}
@@ -7,8 +8,6 @@ use borrow.Author.Tests.{leb-true, ltb-true}
 use Rattle.notation.specs.Choice.{pick}
 use Rattle.notation.proofs.Facts.Tests.{both_split}
 use Rattle.outcome.specs.declared.Refusal.TheVariants as Why
-use Rattle.machine.specs.declared.Checked.{Checked}
-use Rattle.machine.specs.declared.Checked.TheVariants.{Accepted, Refused}
 use Rattle.machine.specs.Model.Check.{within, checked_on, demand}
 use Rattle.timeline_rule.specs.Model.Engine.{Ops}
 use Rattle.timeline_rule.specs.Model.Timeline.{TimelineOver, answered, new_ok, new_check, born, on_new, new}
@@ -40,19 +39,19 @@ settings m k q = record { m_low = of_m.0; m_high = of_m.1; k_low = of_k.0; k_hig
 
 -- the facts about a new timeline that was made
 pub record Begun {Out : Type 0} (O : Ops Out) (m k : ℕ) (s : O.State) (t : O.Store) (w : TimelineOver O) : Type 0 where
-  pub checked : O.check s ≡ Accepted
+  pub checked : O.check s ≡ Ok tt
   pub settings_in : Settings m k
   pub slots_in : m < O.slots t
   pub is : born O m k s t ≡ w
 
 module _ {Out : Type 0} (O : Ops Out) (m k : ℕ) (s : O.State) (t : O.Store) (w : TimelineOver O) where
-  takes : (c : Checked) (a b : Bool) → O.check s ≡ c → new_ok m k ≡ a → ltb m (O.slots t) ≡ b
-      → on_new O (checked_on c (demand a Why.Settings (demand b Why.StoreSize Accepted))) (born O m k s t) ≡ answered w → Begun O m k s t w
+  takes : (c : Result ⊤ Refusal) (a b : Bool) → O.check s ≡ c → new_ok m k ≡ a → ltb m (O.slots t) ≡ b
+      → on_new O (checked_on c (demand a Why.Settings (demand b Why.StoreSize (Ok tt)))) (born O m k s t) ≡ answered w → Begun O m k s t w
   unfolding pick
-  takes (Refused why) a b x y z q = let n : ◌≡◌ {A = ℕ} 0 1 = cc in absurd (omega arith)
-  takes Accepted false b x y z q = let n : ◌≡◌ {A = ℕ} 0 1 = cc in absurd (omega arith)
-  takes Accepted true false x y z q = let n : ◌≡◌ {A = ℕ} 0 1 = cc in absurd (omega arith)
-  takes Accepted true true x y z q = record { checked = x; settings_in = settings m k y; slots_in = ltb-true m (O.slots t) z; is = cc }
+  takes (Err why) a b x y z q = let n : ◌≡◌ {A = ℕ} 0 1 = cc in absurd (omega arith)
+  takes (Ok tt) false b x y z q = let n : ◌≡◌ {A = ℕ} 0 1 = cc in absurd (omega arith)
+  takes (Ok tt) true false x y z q = let n : ◌≡◌ {A = ℕ} 0 1 = cc in absurd (omega arith)
+  takes (Ok tt) true true x y z q = record { checked = x; settings_in = settings m k y; slots_in = ltb-true m (O.slots t) z; is = cc }
 
   pub begun : new O m k s t ≡ answered w → Begun O m k s t w
   unfolding new new_check

@@ -1,16 +1,15 @@
 -- Notes change nothing, and an engine whose store has notes meets the laws. Assumes nothing.
+use Rattle.outcome.specs.declared.Refusal.{Refusal}
 use Prim.Native.Nat.{ℕ, zero, suc, ◌+◌, ◌-◌, ◌*◌, ◌/◌, max}
-use Rattle.std.specs.Prelude.{◌≡◌, Bool, true, false, ltb, eqb}
+use Rattle.std.specs.Prelude.{◌≡◌, Bool, true, false, ltb, eqb, Err, None, Ok, Option, Result, Some, ⊤}
 use Rattle.std.proofs.Math.Path.{refl, ap}
 use Rattle.std.proofs.Common.{◌∙◌, eq-eqb, ne_eqb}
-use Rattle.std.proofs.Math.Option.{Option, none, some}
 use Rattle.notation.specs.Choice.{pick}
 use Rattle.notation.proofs.Facts.Tests.{pick_true, pick_false}
-use Rattle.machine.specs.declared.Checked.{Checked}
-use Rattle.machine.specs.declared.Checked.TheVariants.{Accepted, Refused}
 use Rattle.store_bytes.specs.Model.{thin_by}
 use Rattle.timeline_rule.specs.Model.Engine.{Ops}
-use Rattle.timeline_rule.specs.Model.Timeline.{TimelineOver, timeline_with, Reply, Call, target, due, one_more, halved, thin, thinned, recorded, record_due, with_engine, ended, stride, turned, advance_to, said, gas_for, go_on, from_slot, slot_for, slot_step, go_back, stay, go_to, call_check, on_check, call}
+use Rattle.timeline_rule.specs.declared.Call.{Call}
+use Rattle.timeline_rule.specs.Model.Timeline.{TimelineOver, timeline_with, Reply, target, due, one_more, halved, thin, thinned, recorded, record_due, with_engine, ended, stride, turned, advance_to, said, gas_for, go_on, from_slot, slot_for, slot_step, go_back, stay, go_to, call_check, on_check, call}
 use Rattle.timeline_laws.specs.Automaton.{Automaton}
 use Rattle.timeline_laws.specs.Laws.{Laws}
 use Rattle.timeline_laws.specs.Notes.{Noted, note_at, noting, bare}
@@ -64,8 +63,8 @@ module _ {Out : Type 0} (O : Ops Out) where
   on_bare t w = ap (said O) (way_bare (gas_for (noting O) t w) t w)
 
   from_bare : (t : ℕ) (w : TimelineOver (noting O)) (x : Option O.State) → bare_reply (from_slot (noting O) t w x) ≡ from_slot O t (bare w) x
-  from_bare t w none = refl
-  from_bare t w (some s) = on_bare t (with_engine (noting O) w s)
+  from_bare t w None = refl
+  from_bare t w (Some s) = on_bare t (with_engine (noting O) w s)
 
   to_bare : (t : ℕ) (w : TimelineOver (noting O)) → bare_reply (go_to (noting O) t w) ≡ go_to O t (bare w)
   unfolding go_to go_back stay
@@ -76,9 +75,9 @@ module _ {Out : Type 0} (O : Ops Out) where
       ∙ (λ i. pick (ltb t (O.now w.engine))
       (from_bare t w (O.restore (slot_for t w.times) (slot_step t w.times) w.engine w.store.bytes) i) (on_bare t w i)))
 
-  check_bare : (r : Checked) (w : TimelineOver (noting O)) (x : Reply Out × TimelineOver (noting O)) → bare_reply (on_check (noting O) r w x) ≡ on_check O r (bare w) (bare_reply x)
-  check_bare (Refused why) w x = refl
-  check_bare Accepted w x = refl
+  check_bare : (r : Result ⊤ Refusal) (w : TimelineOver (noting O)) (x : Reply Out × TimelineOver (noting O)) → bare_reply (on_check (noting O) r w x) ≡ on_check O r (bare w) (bare_reply x)
+  check_bare (Err why) w x = refl
+  check_bare (Ok tt) w x = refl
 
   pub call_bare : (w : TimelineOver (noting O)) (c : Call) → bare_reply (call (noting O) w c) ≡ call O (bare w) c
   unfolding call call_check
@@ -107,7 +106,7 @@ noted {M} {O} E = record {
   Fits = E.Fits;
   Good = E.Good;
   Same = E.Same;
-  Holds = λ t i u. E.Holds t.bytes i u × (t.note i ≡ some u);
+  Holds = λ t i u. E.Holds t.bytes i u × (t.note i ≡ Some u);
   fits_check = E.fits_check;
   fits_low = E.fits_low;
   fits_good = E.fits_good;
@@ -119,8 +118,8 @@ noted {M} {O} E = record {
   advances = E.advances;
   advance_fits = E.advance_fits;
   save_slots = λ i s t f l. E.save_slots i s t.bytes f l;
-  save_same = λ i s t f l. (E.save_same i s t.bytes f l, note_here i (some s) t.note);
-  save_other = λ i j s t u f l n h. (E.save_other i j s t.bytes u f l n h.0, note_other i (some s) t.note j n ∙ h.1);
+  save_same = λ i s t f l. (E.save_same i s t.bytes f l, note_here i (Some s) t.note);
+  save_other = λ i j s t u f l n h. (E.save_other i j s t.bytes u f l n h.0, note_other i (Some s) t.note j n ∙ h.1);
   move_slots = λ i k t l n. E.move_slots i k t.bytes l n;
   move_same = λ i k t u l n h. (E.move_same i k t.bytes u l n h.0, note_here k (t.note i) t.note ∙ h.1);
   move_other = λ i k j t u l n d h. (E.move_other i k j t.bytes u l n d h.0, note_other k (t.note i) t.note j d ∙ h.1);

@@ -1,9 +1,7 @@
 -- The facts to prove for a kind of engine, and the laws that follow: the store's laws come from two facts about its slots. Assumes nothing.
-use Rattle.std.specs.Prelude.{ℕ, ◌+◌, ◌≤◌, ◌≡◌, List, length}
-use Rattle.std.proofs.Math.Option.{some}
+use Rattle.std.specs.Prelude.{ℕ, ◌+◌, ◌≤◌, ◌≡◌, List, length, Ok, Some}
 use Rattle.notation.specs.Limits.{steps_most}
 use Rattle.machine.specs.declared.Machine.{Machine}
-use Rattle.machine.specs.declared.Checked.TheVariants.{Accepted}
 use Rattle.table_machine.specs.TableMachine.{Config, step, Halted}
 use Rattle.table_machine.specs.Tables.{table_of, TableOf}
 use Rattle.timeline_rule.specs.Model.Kind.{ops_of}
@@ -21,7 +19,7 @@ pub record Parts (X : EngineMeaning) (m : Machine) (s : List ℕ) (table : Table
   pub NoRoom : Mean → Type 0
   pub Fits : X.kind.State → Type 0
   pub Good : Mean → Type 0
-  pub fits_check : (u : X.kind.State) → Fits u → X.kind.check m s u ≡ Accepted
+  pub fits_check : (u : X.kind.State) → Fits u → X.kind.check m s u ≡ Ok tt
   pub fits_low : (u : X.kind.State) → Fits u → X.kind.now u ≤ steps_most
   pub fits_good : (u : X.kind.State) → Fits u → Good (mean u)
   pub now_is : (u : X.kind.State) → X.kind.now u ≡ (config (mean u)).steps
@@ -35,7 +33,7 @@ pub record Parts (X : EngineMeaning) (m : Machine) (s : List ℕ) (table : Table
   -- a packed engine fills its slot, and can be unpacked into the buffers of any fitting engine
   pub pack_length : (u : X.kind.State) (old : List ℕ) → Fits u → length old ≡ size → length (X.kind.pack m u old) ≡ size
   pub unpack_pack : (u t : X.kind.State) (old : List ℕ) → Fits u → Fits t → length old ≡ size
-      → (v : X.kind.State) × (X.kind.unpack m (X.kind.pack m u old) (X.kind.now u) t ≡ some v) × X.Same m v u × (mean v ≡ mean u) × Fits v
+      → (v : X.kind.State) × (X.kind.unpack m (X.kind.pack m u old) (X.kind.now u) t ≡ Some v) × X.Same m v u × (mean v ≡ mean u) × Fits v
 
 module _ (X : EngineMeaning) (m : Machine) (s : List ℕ) (table : TableOf m (table_of m s)) (size : ℕ) (P : Parts X m s table size) where
   abbrev pub layout_of : Layout P.Fits P.mean X.kind.now (X.Same m)

@@ -15,7 +15,8 @@ use Rattle.machine.specs.declared.Machine.{Machine}
 use Rattle.table_machine.specs.TableMachine.{Table, Config, step, Halted, Verdict, halts, stays, walks, goes}
 use Rattle.table_machine.specs.Tables.{table_of, Bare}
 use Rattle.timeline_rule.specs.Model.Engine.{Ops}
-use Rattle.timeline_rule.specs.Model.Timeline.{Reply, refused, answered, call, Call, target}
+use Rattle.timeline_rule.specs.declared.Call.{Call}
+use Rattle.timeline_rule.specs.Model.Timeline.{Reply, refused, answered, call, target}
 use Rattle.timeline_rule.specs.Model.Kind.{ops_of, ops_for, TimelineOf, call_on}
 use Rattle.timeline_laws.specs.Automaton.{Automaton, iterate, run as runs, reach, IsFull, IsNever}
 use Rattle.timeline_laws.specs.Laws.{Laws}

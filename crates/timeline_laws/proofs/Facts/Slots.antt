@@ -1,7 +1,6 @@
 -- The store's seven laws for any engine whose slots are bytes of one slice, from two facts about its slot layout. Assumes nothing.
-use Rattle.std.specs.Prelude.{ℕ, ◌/◌, ◌<◌, ◌≡◌, List, length}
+use Rattle.std.specs.Prelude.{ℕ, ◌/◌, ◌<◌, ◌≡◌, List, length, Option, Some}
 use Rattle.std.proofs.Common.{sym, ap, subst}
-use Rattle.std.proofs.Math.Option.{Option, some}
 use Rattle.store_bytes.specs.Model.{slot_count, slot_of, put_slot, move_slot}
 use Rattle.store_bytes.proofs.Facts.Slots.{slot_length, put_length, put_same, put_other, move_length, move_same, move_other}
 
@@ -12,7 +11,7 @@ pub record Layout {State Mean : Type 0} (Fits : State → Type 0) (mean : State 
   pub unpack : List ℕ → ℕ → State → Option State  -- a slot's bytes, the step it must have, the engine whose buffers are filled
   pub pack_length : (s : State) (old : List ℕ) → Fits s → length old ≡ size → length (pack s old) ≡ size
   pub unpack_pack : (s u : State) (old : List ℕ) → Fits s → Fits u → length old ≡ size
-      → (v : State) × (unpack (pack s old) (now s) u ≡ some v) × Same v s × (mean v ≡ mean s) × Fits v
+      → (v : State) × (unpack (pack s old) (now s) u ≡ Some v) × Same v s × (mean v ≡ mean s) × Fits v
 
 module _ {State Mean : Type 0} {Fits : State → Type 0} {mean : State → Mean} {now : State → ℕ} {Same : State → State → Type 0} (L : Layout Fits mean now Same) where
   abbrev pub save_in : ℕ → State → List ℕ → List ℕ
@@ -23,7 +22,7 @@ module _ {State Mean : Type 0} {Fits : State → Type 0} {mean : State → Mean}
 
   -- the bytes give that engine, in the buffers of any fitting engine
   abbrev pub Reads : List ℕ → State → Type 0
-  Reads b x = (u : State) → Fits u → (v : State) × (L.unpack b (now x) u ≡ some v) × Same v x × (mean v ≡ mean x) × Fits v
+  Reads b x = (u : State) → Fits u → (v : State) × (L.unpack b (now x) u ≡ Some v) × Same v x × (mean v ≡ mean x) × Fits v
 
   abbrev pub HoldsIn : List ℕ → ℕ → State → Type 0
   HoldsIn t i x = Reads (slot_of L.size i t) x
@@ -53,5 +52,5 @@ module _ {State Mean : Type 0} {Fits : State → Type 0} {mean : State → Mean}
     moves_other j x n h = subst (λ b. Reads b x) (sym (move_other L.size i k t l m j n)) h
 
   pub restores_from : (i : ℕ) (s : State) (t : List ℕ) (x : State) → Fits s → HoldsIn t i x
-      → (v : State) × (restore_from i (now x) s t ≡ some v) × Same v x × (mean v ≡ mean x) × Fits v
+      → (v : State) × (restore_from i (now x) s t ≡ Some v) × Same v x × (mean v ≡ mean x) × Fits v
   restores_from i s t x f h = h s f

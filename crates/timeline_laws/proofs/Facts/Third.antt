@@ -1,8 +1,7 @@
 -- The third demand, proved for every kind of engine whose engines meet the laws: from any engine value, and so for fresh engines. Assumes nothing.
-use Rattle.std.specs.Prelude.{ℕ, ◌+◌, ◌-◌, ◌*◌, ◌≤◌, ◌<◌, ◌≡◌, ◌↔◌, leb}
+use Rattle.std.specs.Prelude.{ℕ, ◌+◌, ◌-◌, ◌*◌, ◌≤◌, ◌<◌, ◌≡◌, ◌↔◌, leb, None, Option, Some}
 use Rattle.std.proofs.Math.Path.{refl, ap}
 use Rattle.std.proofs.Common.{sym, ◌∙◌, subst, arith, le-leb, eqb-true}
-use Rattle.std.proofs.Math.Option.{Option, none, some}
 use mathlib.Core.List.{List, [], ◌∷◌}
 use Rattle.notation.specs.Choice.{pick}
 use Rattle.notation.proofs.Facts.Tests.{pick_true, by_test}
@@ -15,7 +14,9 @@ use Rattle.machine.specs.declared.Machine.{Machine}
 use Rattle.table_machine.specs.TableMachine.{Config, start, run, Halted}
 use Rattle.table_machine.specs.Tables.{table_of}
 use Rattle.store_bytes.specs.Model.{slot_of}
-use Rattle.timeline_rule.specs.Model.Timeline.{Reply, refused, answered, Call, forward, target, call}
+use Rattle.timeline_rule.specs.declared.Call.{Call}
+use Rattle.timeline_rule.specs.declared.Call.TheVariants.{Forward}
+use Rattle.timeline_rule.specs.Model.Timeline.{Reply, refused, answered, target, call}
 use Rattle.timeline_rule.specs.Model.Kind.{ops_of, ops_for, TimelineOf, new_on, call_on}
 use Rattle.timeline_laws.specs.Automaton.{Automaton, run as runs, IsFull}
 use Rattle.timeline_laws.specs.Laws.{Laws, Advance, went, full}
@@ -64,8 +65,8 @@ module _ (X : EngineMeaning) (m : Machine) (s : List ℕ) (e : X.kind.State) (I 
   not_halted j q = subst (λ y. ¬ Halted (table_of m s) y) (sym (runs_is X m s e I j)) q
 
   reach_by : (h : Option ℕ) → HaltsIn m s c h → (t : ℕ) → c.steps ≤ t → reach_in m s c t ≡ or_halt t h
-  reach_by none q t l = sym (reach_in_lem X m s e I t) ∙ reach_runs M (E.config (E.mean e)) t (omega (arith, first_is)) (λ j a b. not_halted j (q j (omega (arith, first_is))))
-  reach_by (some h) q t l = sym (reach_in_lem X m s e I t)
+  reach_by None q t l = sym (reach_in_lem X m s e I t) ∙ reach_runs M (E.config (E.mean e)) t (omega (arith, first_is)) (λ j a b. not_halted j (q j (omega (arith, first_is))))
+  reach_by (Some h) q t l = sym (reach_in_lem X m s e I t)
       ∙ reach_halts M (E.config (E.mean e)) h t (omega (arith, first_is, q.0)) (omega (arith, first_is))
       (subst (Halted (table_of m s)) (sym (runs_is X m s e I h)) q.1) (λ j a b. not_halted j (q.2 j (omega (arith, first_is)) b))
 
@@ -98,21 +99,21 @@ module _ (X : EngineMeaning) (m : Machine) (s : List ℕ) (e : X.kind.State) (I 
       at_after (call_on X.kind m s u k).1 (stopped_at (call_on X.kind m s u k).0 (moved_in m s c p k)) ks (next_at X m s e I u p k i)
 
   twice_from : (u : TimelineOf X.kind) (p : ℕ) → TimelineAt X m s e I u p → (a b : ℕ) → p + a + b ≤ steps_most
-      → RoomFor X m s u (forward a) → RoomFor X m s (call_on X.kind m s u (forward a)).1 (forward b) → Twice X m s u a b
+      → RoomFor X m s u (Forward a) → RoomFor X m s (call_on X.kind m s u (Forward a)).1 (Forward b) → Twice X m s u a b
   twice_from u p i a b l f g = twice_is X m s e I u p a b under l f g
-      (result X m s e I u p (forward a) i) (result X m s e I (call_on X.kind m s u (forward a)).1 (reach_in m s c (p + a)) (forward b) next) (result X m s e I u p (forward (a + b)) i)
+      (result X m s e I u p (Forward a) i) (result X m s e I (call_on X.kind m s u (Forward a)).1 (reach_in m s c (p + a)) (Forward b) next) (result X m s e I u p (Forward (a + b)) i)
     where
       under : c.steps ≤ p
       under = timeline_low X m s e I u p i
 
-      there : goal_in m s c p (forward a) ≡ p + a
+      there : goal_in m s c p (Forward a) ≡ p + a
       there = omega (arith, under)
 
-      next : TimelineAt X m s e I (call_on X.kind m s u (forward a)).1 (reach_in m s c (p + a))
-      next = subst (TimelineAt X m s e I (call_on X.kind m s u (forward a)).1)
-          (not_stopped (call_on X.kind m s u (forward a)).0 (moved_in m s c p (forward a)) f
-          ∙ (pick_true (leb (p + a) steps_most) (reach_in m s c (goal_in m s c p (forward a))) p (le-leb (p + a) steps_most (omega arith)) ∙ ap (reach_in m s c) there))
-          (next_at X m s e I u p (forward a) i)
+      next : TimelineAt X m s e I (call_on X.kind m s u (Forward a)).1 (reach_in m s c (p + a))
+      next = subst (TimelineAt X m s e I (call_on X.kind m s u (Forward a)).1)
+          (not_stopped (call_on X.kind m s u (Forward a)).0 (moved_in m s c p (Forward a)) f
+          ∙ (pick_true (leb (p + a) steps_most) (reach_in m s c (goal_in m s c p (Forward a))) p (le-leb (p + a) steps_most (omega arith)) ∙ ap (reach_in m s c) there))
+          (next_at X m s e I u p (Forward a) i)
 
   -- ---- notes
 
@@ -152,7 +153,7 @@ module _ (X : EngineMeaning) (m : Machine) (s : List ℕ) (e : X.kind.State) (I 
       step : X.kind.now slot.engine ≡ c.steps + i * u.times.every
       step = slot_now (noted E) (E.mean e) (E.fits_good e I.fits) u.store u.times i slot ∙ ap (λ a. a + i * u.times.every) (n.tidy.first_is ∙ sym first_is)
 
-      by : (r : X.kind.State) × ((ops_for X.kind m s e).restore i (X.kind.now slot.engine) u.engine u.store.bytes ≡ some r)
+      by : (r : X.kind.State) × ((ops_for X.kind m s e).restore i (X.kind.now slot.engine) u.engine u.store.bytes ≡ Some r)
           × E.Same r slot.engine × (E.mean r ≡ E.mean slot.engine) × E.Fits r → SlotGives X m s c u i
       by r = record {
         saved = slot.engine;
@@ -173,7 +174,7 @@ module _ (X : EngineMeaning) (m : Machine) (s : List ℕ) (e : X.kind.State) (I 
     -- a new timeline with notes has the invariant
     new_noted_holds : NotedAt (new_noted X.kind v) (base E (E.mean e))
     new_noted_holds = subst (λ z. NotedAt (new_noted X.kind z) (base E (E.mean e))) n.is
-        (born_inv (noted E) most every e (record { bytes = store; note = λ j. none }) I.fits n.settings_in n.slots_in)
+        (born_inv (noted E) most every e (record { bytes = store; note = λ j. None }) I.fits n.settings_in n.slots_in)
 
     after_at : (ks : List Call) → TimelineAt X m s e I (after_on X m s v ks) (place_after X m s c v ks)
     after_at ks = at_after v c.steps ks new_at
@@ -207,9 +208,9 @@ demand_from X i m s y e most every store v n ks =
 pub demand : (X : EngineMeaning) → Instances X → Beginnings X → Demand X
 demand X i f m s w y b e q most every store v n ks = record {
   whole = subst (λ c. WholeList X m s c e v ks) (f m s w b e q) (demand_from X i m s y e most every store v n ks);
-  after = λ n. ap (λ j. run (table_of m s) j (start m.start w)) (none n);
+  after = λ n. ap (λ j. run (table_of m s) j (start m.start w)) (None n);
   aim = λ p k. omega arith;
 }
   where
-    none : (n : ℕ) → n - 0 ≡ n
-    none n = omega arith
+    None : (n : ℕ) → n - 0 ≡ n
+    None n = omega arith

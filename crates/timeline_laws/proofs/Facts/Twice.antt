@@ -9,7 +9,8 @@ use Rattle.machine.specs.declared.Machine.{Machine}
 use Rattle.table_machine.specs.TableMachine.{Config, Verdict}
 use Rattle.table_machine.specs.Tables.{table_of}
 use Rattle.table_machine.proofs.Facts.Verdict.{verdict_unique}
-use Rattle.timeline_rule.specs.Model.Timeline.{answered, forward}
+use Rattle.timeline_rule.specs.declared.Call.TheVariants.{Forward}
+use Rattle.timeline_rule.specs.Model.Timeline.{answered}
 use Rattle.timeline_rule.specs.Model.Kind.{TimelineOf, call_on}
 use Rattle.timeline_laws.specs.Automaton.{Automaton, reach}
 use Rattle.timeline_laws.proofs.Facts.Steps.{run_reach, run_on_holds}
@@ -51,11 +52,11 @@ module _ (X : EngineMeaning) (m : Machine) (s : List ℕ) (e : X.kind.State) (I 
   -- ---- the three calls
 
   module _ (u : TimelineOf X.kind) (p a b : ℕ) (under : (X.config m e).steps ≤ p) (small : p + a + b ≤ steps_most)
-      (free : RoomFor X m s u (forward a)) (again : RoomFor X m s (call_on X.kind m s u (forward a)).1 (forward b))
-      (first : Result X m s (X.config m e) e u p (forward a) (call_on X.kind m s u (forward a)))
-      (second : Result X m s (X.config m e) e (call_on X.kind m s u (forward a)).1 (reach_in m s (X.config m e) (p + a)) (forward b)
-      (call_on X.kind m s (call_on X.kind m s u (forward a)).1 (forward b)))
-      (once : Result X m s (X.config m e) e u p (forward (a + b)) (call_on X.kind m s u (forward (a + b)))) where
+      (free : RoomFor X m s u (Forward a)) (again : RoomFor X m s (call_on X.kind m s u (Forward a)).1 (Forward b))
+      (first : Result X m s (X.config m e) e u p (Forward a) (call_on X.kind m s u (Forward a)))
+      (second : Result X m s (X.config m e) e (call_on X.kind m s u (Forward a)).1 (reach_in m s (X.config m e) (p + a)) (Forward b)
+      (call_on X.kind m s (call_on X.kind m s u (Forward a)).1 (Forward b)))
+      (once : Result X m s (X.config m e) e u p (Forward (a + b)) (call_on X.kind m s u (Forward (a + b)))) where
     -- where the first call ends
     abbrev q : ℕ
     q = reach_in m s c (p + a)
@@ -67,14 +68,14 @@ module _ (X : EngineMeaning) (m : Machine) (s : List ℕ) (e : X.kind.State) (I 
     q_high = (reach_low (p + a) (omega arith)).1
 
     -- the target of a forward call is not below the start
-    forward_goal : (p n : ℕ) → c.steps ≤ p → goal_in m s c p (forward n) ≡ p + n
+    forward_goal : (p n : ℕ) → c.steps ≤ p → goal_in m s c p (Forward n) ≡ p + n
     forward_goal p n l = omega arith
 
     -- a full step on the way of forward a + b would be on the way of forward a or of forward b
-    whole_free : RoomFor X m s u (forward (a + b))
+    whole_free : RoomFor X m s u (Forward (a + b))
     whole_free n z = by (once.stops n z) (dec_lt n (p + a)) (dec_lt n (q + b))
       where
-        by : Stuck X m s c e (call_on X.kind m s u (forward (a + b))).1 p (goal_in m s c p (forward (a + b))) n → Dec (n < p + a) → Dec (n < q + b) → ⊥
+        by : Stuck X m s c e (call_on X.kind m s u (Forward (a + b))).1 p (goal_in m s c p (Forward (a + b))) n → Dec (n < p + a) → Dec (n < q + b) → ⊥
         by k (yes l) h = let f = (first.space (omega arith)).1 (n, k.from, omega (arith, forward_goal p a under), k.full) in free f.0 f.1
         by k (no l) (yes h) = let f = (second.space (omega (arith, q_high))).1 (n, omega (arith, q_high), omega (arith, forward_goal q b q_low), k.full) in again f.0 f.1
         by k (no l) (no h) =
@@ -86,9 +87,9 @@ module _ (X : EngineMeaning) (m : Machine) (s : List ℕ) (e : X.kind.State) (I 
             omega (arith, q_high, made, on, same, (reach_low (more + q) (omega (arith, q_low))).1, k.short, forward_goal p (a + b) under)
 
     abbrev Answered : TimelineOf X.kind → ℕ → Type 0
-    Answered v n = (o : Outcome) × ((call_on X.kind m s v (forward n)).0 ≡ answered o)
+    Answered v n = (o : Outcome) × ((call_on X.kind m s v (Forward n)).0 ≡ answered o)
 
-    two : Answered (call_on X.kind m s u (forward a)).1 b
+    two : Answered (call_on X.kind m s u (Forward a)).1 b
     two = second.accepts (omega (arith, q_high))
 
     one : Answered u (a + b)
@@ -96,25 +97,25 @@ module _ (X : EngineMeaning) (m : Machine) (s : List ℕ) (e : X.kind.State) (I 
 
     -- the configurations after the two calls, and after the one
     abbrev there : Config
-    there = after_steps m s c (reach_in m s c (goal_in m s c q (forward b)))
+    there = after_steps m s c (reach_in m s c (goal_in m s c q (Forward b)))
 
     abbrev at_once : Config
-    at_once = after_steps m s c (reach_in m s c (goal_in m s c p (forward (a + b))))
+    at_once = after_steps m s c (reach_in m s c (goal_in m s c p (Forward (a + b))))
 
-    two_says : (held_on X m s (call_on X.kind m s (call_on X.kind m s u (forward a)).1 (forward b)).1 ≡ there) × Verdict m.tapes (table_of m s) there two.0
+    two_says : (held_on X m s (call_on X.kind m s (call_on X.kind m s u (Forward a)).1 (Forward b)).1 ≡ there) × Verdict m.tapes (table_of m s) there two.0
     two_says = second.says two.0 two.1 (λ n f. again n (two.1 ∙ ap answered f))
 
-    one_says : (held_on X m s (call_on X.kind m s u (forward (a + b))).1 ≡ at_once) × Verdict m.tapes (table_of m s) at_once one.0
+    one_says : (held_on X m s (call_on X.kind m s u (Forward (a + b))).1 ≡ at_once) × Verdict m.tapes (table_of m s) at_once one.0
     one_says = once.says one.0 one.1 (λ n f. whole_free n (one.1 ∙ ap answered f))
 
     same_end : there ≡ at_once
-    same_end = reached_run (goal_in m s c q (forward b)) (omega arith)
-        ∙ (ap (after_steps m s c) left ∙ (onward_run (p + a) b (omega arith) ∙ (ap (after_steps m s c) right ∙ sym (reached_run (goal_in m s c p (forward (a + b))) (omega arith)))))
+    same_end = reached_run (goal_in m s c q (Forward b)) (omega arith)
+        ∙ (ap (after_steps m s c) left ∙ (onward_run (p + a) b (omega arith) ∙ (ap (after_steps m s c) right ∙ sym (reached_run (goal_in m s c p (Forward (a + b))) (omega arith)))))
       where
-        left : goal_in m s c q (forward b) ≡ b + q
+        left : goal_in m s c q (Forward b) ≡ b + q
         left = omega (arith, forward_goal q b q_low)
 
-        right : b + (p + a) ≡ goal_in m s c p (forward (a + b))
+        right : b + (p + a) ≡ goal_in m s c p (Forward (a + b))
         right = omega (arith, forward_goal p (a + b) under)
 
     pub twice_is : Twice X m s u a b

@@ -1,5 +1,5 @@
 -- Seek, forward and back, for each way through their code. Assumes nothing.
-use Rattle.std.specs.Prelude.{◌≡◌, List, ◌⊎◌, leb}
+use Rattle.std.specs.Prelude.{◌≡◌, List, ◌⊎◌, leb, Err, Ok, Result, ⊤}
 use Rattle.std.proofs.Math.Path.{sym, ap}
 use Rattle.std.proofs.Common.{◌∙◌, inl, inr, arith, leb-true, leb-false}
 use Prim.Native.Nat.{ℕ, ◌+◌, ◌-◌, ◌<◌, max}
@@ -8,14 +8,14 @@ use Rattle.notation.specs.Limits.{steps_most}
 use Rattle.outcome.specs.declared.Outcome.{Outcome}
 use Rattle.outcome.specs.declared.Refusal.{Refusal}
 use Rattle.machine.specs.declared.Machine.{Machine}
-use Rattle.machine.specs.declared.Checked.{Checked}
-use Rattle.machine.specs.declared.Checked.TheVariants.{Accepted, Refused}
-use Rattle.timeline_rule.specs.Model.Timeline.{Reply, refused, Call, seek, forward, back, go_to, call_check, call}
+use Rattle.timeline_rule.specs.declared.Call.{Call}
+use Rattle.timeline_rule.specs.declared.Call.TheVariants.{Seek, Forward, Back}
+use Rattle.timeline_rule.specs.Model.Timeline.{Reply, refused, go_to, call_check, call}
 use Rattle.timeline_rule.specs.Model.Due.{forward_to}
 use Rattle.timeline_rule.proofs.Facts.Loop.{forward_is, forward_over, back_is}
 use Rattle.timeline_rule.specs.Model.Kind.{Kind, TimelineOf, ops_of, ops_for, call_on}
 use Rattle.timeline_rule.specs.Invariants.{Sound, GoOk}
-use Rattle.timeline_rule.proofs.Facts.GoCases.{call_says, seek_refused, seek_goes, seek_ok}
+use Rattle.timeline_rule.proofs.Facts.GoCases.{seek_refused, seek_goes, seek_ok}
 
 -- ---- forward and back by their targets
 
@@ -33,39 +33,36 @@ module _ (X : Kind) (m : Machine) (s : List ℕ) (w : TimelineOf X) (x : Reply O
   unfolding call_on
   call_on_holds size c p q = p ∙ ap (λ n. call (ops_of X m s n) w c) (sym q)
 
-  module _ (n g : ℕ) (p : x ≡ call_on X m s w (seek g)) where
-    pub forward_on : g ≡ forward_to (X.now w.engine) n → x ≡ call_on X m s w (forward n)
+  module _ (n g : ℕ) (p : x ≡ call_on X m s w (Seek g)) where
+    pub forward_on : g ≡ forward_to (X.now w.engine) n → x ≡ call_on X m s w (Forward n)
     unfolding call_on
-    forward_on q = p ∙ (ap (λ k. call (ops_for X m s w.engine) w (seek k)) q ∙ by (forward_to_lem (X.now w.engine) n))
+    forward_on q = p ∙ (ap (λ k. call (ops_for X m s w.engine) w (Seek k)) q ∙ by (forward_to_lem (X.now w.engine) n))
       where
         now : ℕ
         now = X.now w.engine
 
         by : (forward_to now n ≡ now + n) ⊎ ((steps_most < now + n) × (forward_to now n ≡ steps_most + 1))
-            → call (ops_for X m s w.engine) w (seek (forward_to now n)) ≡ call (ops_for X m s w.engine) w (forward n)
-        by (inl k) = ap (λ j. call (ops_for X m s w.engine) w (seek j)) k ∙ sym (forward_is (ops_for X m s w.engine) w n)
-        by (inr k) = ap (λ j. call (ops_for X m s w.engine) w (seek j)) k.1 ∙ sym (forward_over (ops_for X m s w.engine) w n k.0)
+            → call (ops_for X m s w.engine) w (Seek (forward_to now n)) ≡ call (ops_for X m s w.engine) w (Forward n)
+        by (inl k) = ap (λ j. call (ops_for X m s w.engine) w (Seek j)) k ∙ sym (forward_is (ops_for X m s w.engine) w n)
+        by (inr k) = ap (λ j. call (ops_for X m s w.engine) w (Seek j)) k.1 ∙ sym (forward_over (ops_for X m s w.engine) w n k.0)
 
-    pub back_on : g ≡ X.now w.engine - n → x ≡ call_on X m s w (back n)
+    pub back_on : g ≡ X.now w.engine - n → x ≡ call_on X m s w (Back n)
     unfolding call_on
-    back_on q = p ∙ (ap (λ k. call (ops_for X m s w.engine) w (seek k)) q ∙ sym (back_is (ops_for X m s w.engine) w n))
+    back_on q = p ∙ (ap (λ k. call (ops_for X m s w.engine) w (Seek k)) q ∙ sym (back_is (ops_for X m s w.engine) w n))
 
 -- ---- seek: the check uses the slot's size of the lent buffers, which the code computes as n
 
-module _ (X : Kind) (m : Machine) (s : List ℕ) (w : TimelineOf X) (t : ℕ) (r : Checked) (checked : r ≡ call_check (ops_for X m s w.engine) w t) where
-  pub seek_none : (why : Refusal) → r ≡ Refused why → (refused why, w) ≡ call_on X m s w (seek t)
+module _ (X : Kind) (m : Machine) (s : List ℕ) (w : TimelineOf X) (t : ℕ) (r : Result ⊤ Refusal) (checked : r ≡ call_check (ops_for X m s w.engine) w t) where
+  pub seek_none : (why : Refusal) → r ≡ Err why → (refused why, w) ≡ call_on X m s w (Seek t)
   unfolding call_on
   seek_none why z = seek_refused X m s (X.slot_size m w.engine) t w r checked why z
 
-  pub seek_passed : r ≡ Accepted → X.check m s w.engine ≡ Accepted
-  seek_passed z = (call_says X m s (X.slot_size m w.engine) t w (sym checked ∙ z)).fits
-
-  module _ (n g : ℕ) (sized : n ≡ X.slot_size m w.engine) (z : r ≡ Accepted) (q : g ≡ max t w.times.first) where
+  module _ (n g : ℕ) (sized : n ≡ X.slot_size m w.engine) (z : r ≡ Ok tt) (q : g ≡ max t w.times.first) where
     same_check : r ≡ call_check (ops_of X m s n) w t
     same_check = checked ∙ ap (λ k. call_check (ops_of X m s k) w t) (sym sized)
 
     pub seek_ready : (Fits : X.State → Type 0) (E : Sound X m s n Fits) → GoOk X n Fits g w
     seek_ready Fits E = seek_ok X m s n t w r same_check Fits E g z (sym sized) q
 
-    pub seek_done : (x : Reply Outcome × TimelineOf X) → x ≡ go_to (ops_of X m s n) g w → x ≡ call_on X m s w (seek t)
-    seek_done x p = call_on_holds X m s w x n (seek t) (seek_goes X m s n t w r same_check g x z q p) (sym sized)
+    pub seek_done : (x : Reply Outcome × TimelineOf X) → x ≡ go_to (ops_of X m s n) g w → x ≡ call_on X m s w (Seek t)
+    seek_done x p = call_on_holds X m s w x n (Seek t) (seek_goes X m s n t w r same_check g x z q p) (sym sized)

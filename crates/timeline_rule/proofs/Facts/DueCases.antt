@@ -1,5 +1,5 @@
 -- The timeline's own numbers, one lemma for each way through the code: the step that is due, refusal 14, thinning. Assumes nothing.
-use Rattle.std.specs.Prelude.{ℕ, ◌+◌, ◌-◌, ◌*◌, ◌/◌, ◌≤◌, ◌<◌, ◌^◌, min, max, ◌≡◌, Bool, false, not, List, ◌⊎◌, leb, eqb}
+use Rattle.std.specs.Prelude.{ℕ, ◌+◌, ◌-◌, ◌*◌, ◌/◌, ◌≤◌, ◌<◌, min, max, ◌≡◌, Bool, false, not, List, ◌⊎◌, leb, eqb}
 use Rattle.std.proofs.Math.Path.{sym}
 use Rattle.std.proofs.Common.{◌∙◌, ap, inl, inr, mul-le-mul_right, div-mul-le_self, div-lt_iff_lt-mul, arith, leb-true, leb-false, le-leb, lt-ltb, le-ltb, ne_eqb}
 use Rattle.std.proofs.lemmas.Bool.{lt-leb}
@@ -55,10 +55,6 @@ pub due_no : (first count every : ℕ) → (steps_most - first) / every < count 
 unfolding due_of
 due_no first count every l = sym (pick_false _ _ _ (lt-leb count ((steps_most - first) / every) l))
 
--- an interval up to 2^53: no division is needed
-pub due_product : (count every : ℕ) → count ≤ 512 → every ≤ 2 ^ 53 → count * every ≤ steps_most
-due_product count every c l = omega (arith, mul-le-mul_right every c, l)
-
 pub due-near : (first count every d : ℕ) → first ≤ steps_most → 1 ≤ every → d ≡ min (first + count * every) (steps_most + 1) → d ≡ due_of first count every
 unfolding due_of
 due-near first count every d f l e = by_test (leb count ((steps_most - first) / every))
@@ -94,11 +90,6 @@ stop_due v t p d r f h e l q =
     q ∙ ap (λ x. max x p) (sym n ∙ m)
 
 -- ---- thinning
-
-pub half_room : (n size l : ℕ) → 1 ≤ n → n * size ≤ l → 2 * ((n - 1) / 2) * size + size ≤ l
-half_room n size l h k =
-    let m : 2 * ((n - 1) / 2) + 1 ≤ n = omega arith in
-    omega (arith, mul-le-mul_right size m)
 
 module _ (v : Times) (size : ℕ) (t : List ℕ) where
   pub thin_keep : v.count ≤ v.most → Thinned v v size t t

@@ -1,9 +1,8 @@
 -- The moves of an accepted call, for each way through the code: on, back to a slot, or none; and what its check implies. Assumes nothing.
-use Rattle.std.specs.Prelude.{◌≡◌, refl, true, length, take, drop}
+use Rattle.std.specs.Prelude.{◌≡◌, refl, true, length, take, drop, Err, None, Ok, Option, Result, Some, ⊤}
 use Rattle.std.proofs.Math.Path.{sym, ap}
 use Rattle.std.proofs.Common.{◌∙◌, mul-le-mul_right, div-mul-le_self, arith}
 use mathlib.Core.List.{List}
-use Rattle.std.proofs.Math.Option.{Option, none, some}
 use Prim.Native.Nat.{ℕ, ◌+◌, ◌-◌, ◌*◌, ◌/◌, ◌≤◌, ◌<◌, max}
 use borrow.Author.Tests.{lt-ltb, le-ltb, eq-eqb, ne_eqb, leb-true, ltb-true}
 use Rattle.notation.proofs.Facts.Tests.{pick_true, pick_false}
@@ -12,15 +11,14 @@ use Rattle.outcome.specs.declared.Outcome.{Outcome}
 use Rattle.outcome.specs.declared.Refusal.{Refusal}
 use Rattle.outcome.specs.declared.Refusal.TheVariants as Why
 use Rattle.machine.specs.declared.Machine.{Machine}
-use Rattle.machine.specs.declared.Checked.{Checked}
-use Rattle.machine.specs.declared.Checked.TheVariants.{Accepted, Refused}
 use Rattle.machine.specs.Model.Check.{checked_on}
 use Rattle.machine.proofs.Facts.Check.{demand_says, on_says}
 use Rattle.store_bytes.specs.Model.{slot_count, slot_of}
-use Rattle.store_bytes.proofs.Facts.Slots.{slot_inside, slot_part}
+use Rattle.store_bytes.proofs.Facts.Slots.{slot_part}
 use Rattle.timeline_rule.specs.declared.Times.{Times}
 use Rattle.timeline_rule.specs.Model.Engine.{Ops}
-use Rattle.timeline_rule.specs.Model.Timeline.{Reply, refused, answered, seek, times_ok, slot_for, slot_step, said, go_on, from_slot, go_back, stay, go_to, first_check, later_check, call_check, on_check, call, new_check}
+use Rattle.timeline_rule.specs.declared.Call.TheVariants.{Seek}
+use Rattle.timeline_rule.specs.Model.Timeline.{Reply, refused, answered, times_ok, slot_for, slot_step, said, go_on, from_slot, go_back, stay, go_to, first_check, later_check, call_check, on_check, call, new_check}
 use Rattle.timeline_rule.specs.Model.Kind.{Kind, TimelineOf, ops_of}
 use Rattle.timeline_rule.specs.Invariants.{timeline_of, Sound, Shape, LoopOk, GoOk, rewind_of, way_of}
 use Rattle.timeline_rule.proofs.Facts.CheckCases.{times_shape}
@@ -54,11 +52,11 @@ module _ (X : Kind) (m : Machine) (s : List ℕ) (size : ℕ) where
         → x ≡ X.unpack m (take (i * size + size - i * size) (drop (i * size) b)) (v.first + i * v.every) e → x ≡ rewind_of X m s size t (timeline_of X e b v)
     rewind_part i x q z = rewind_is i (v.first + i * v.every) x q refl (z ∙ ap (λ l. X.unpack m l (v.first + i * v.every) e) (slot_part size i b))
 
-    pub back_none : none ≡ rewind_of X m s size t (timeline_of X e b v) → (refused Why.Slot, timeline_of X e b v) ≡ go_back O t (timeline_of X e b v)
+    pub back_none : None ≡ rewind_of X m s size t (timeline_of X e b v) → (refused Why.Slot, timeline_of X e b v) ≡ go_back O t (timeline_of X e b v)
     unfolding go_back rewind_of
     back_none z = ap (from_slot O t (timeline_of X e b v)) z
 
-    pub back_some : (r : X.State) (x : Reply Outcome × TimelineOf X) → some r ≡ rewind_of X m s size t (timeline_of X e b v)
+    pub back_some : (r : X.State) (x : Reply Outcome × TimelineOf X) → Some r ≡ rewind_of X m s size t (timeline_of X e b v)
         → x ≡ go_on O t (timeline_of X r b v) → x ≡ go_back O t (timeline_of X e b v)
     unfolding go_back rewind_of
     back_some r x z q = q ∙ ap (from_slot O t (timeline_of X e b v)) z
@@ -80,33 +78,33 @@ module _ (X : Kind) (m : Machine) (s : List ℕ) (size : ℕ) where
 
   -- ---- the refusals of a call and of a new timeline: the engine's, then the others
 
-  module _ (t : ℕ) (e : X.State) (v : Times) (b : List ℕ) (r : Checked) (checked : r ≡ X.check m s e) where
-    pub call_check_lem : (why : Refusal) → r ≡ Refused why → Refused why ≡ call_check O (timeline_of X e b v) t
+  module _ (t : ℕ) (e : X.State) (v : Times) (b : List ℕ) (r : Result ⊤ Refusal) (checked : r ≡ X.check m s e) where
+    pub call_check_lem : (why : Refusal) → r ≡ Err why → Err why ≡ call_check O (timeline_of X e b v) t
     unfolding call_check
     call_check_lem why z = rw (← checked, z)
 
-    pub call_later : (n : ℕ) (x : Checked) → n ≡ size → r ≡ Accepted → x ≡ later_check v (X.now e) (length b / n) t → x ≡ call_check O (timeline_of X e b v) t
+    pub call_later : (n : ℕ) (x : Result ⊤ Refusal) → n ≡ size → r ≡ Ok tt → x ≡ later_check v (X.now e) (length b / n) t → x ≡ call_check O (timeline_of X e b v) t
     unfolding call_check
     call_later n x k z q = q ∙ (ap (λ i. later_check v (X.now e) (length b / i) t) k ∙ ap (λ c. checked_on c (later_check v (X.now e) (length b / size) t)) (sym z ∙ checked))
 
-  module _ (most every : ℕ) (e : X.State) (b : List ℕ) (r : Checked) (checked : r ≡ X.check m s e) where
-    pub new_check_lem : (why : Refusal) → r ≡ Refused why → Refused why ≡ new_check O most every e b
+  module _ (most every : ℕ) (e : X.State) (b : List ℕ) (r : Result ⊤ Refusal) (checked : r ≡ X.check m s e) where
+    pub new_check_lem : (why : Refusal) → r ≡ Err why → Err why ≡ new_check O most every e b
     unfolding new_check
     new_check_lem why z = rw (← checked, z)
 
-    pub new_first : (n : ℕ) (x : Checked) → n ≡ size → r ≡ Accepted → x ≡ first_check most every (length b / n) → x ≡ new_check O most every e b
+    pub new_first : (n : ℕ) (x : Result ⊤ Refusal) → n ≡ size → r ≡ Ok tt → x ≡ first_check most every (length b / n) → x ≡ new_check O most every e b
     unfolding new_check
     new_first n x k z q = q ∙ (ap (λ i. first_check most every (length b / i)) k ∙ ap (λ c. checked_on c (first_check most every (length b / size))) (sym z ∙ checked))
 
   -- ---- what the check of an accepted call implies
 
   pub record Passed (t : ℕ) (w : TimelineOf X) : Type 0 where
-    pub fits : X.check m s w.engine ≡ Accepted
+    pub fits : X.check m s w.engine ≡ Ok tt
     pub times : times_ok w.times (X.now w.engine) ≡ true
     pub room : w.times.most < slot_count size w.store
     pub top : t ≤ steps_most
 
-  pub call_says : (t : ℕ) (w : TimelineOf X) → call_check O w t ≡ Accepted → Passed t w
+  pub call_says : (t : ℕ) (w : TimelineOf X) → call_check O w t ≡ Ok tt → Passed t w
   unfolding call_check
   call_says t w h =
       let a = on_says (X.check m s w.engine) _ h in
@@ -117,16 +115,16 @@ module _ (X : Kind) (m : Machine) (s : List ℕ) (size : ℕ) where
 
   -- ---- seek
 
-  module _ (t : ℕ) (w : TimelineOf X) (r : Checked) (checked : r ≡ call_check O w t) where
-    pub seek_refused : (why : Refusal) → r ≡ Refused why → (refused why, w) ≡ call O w (seek t)
+  module _ (t : ℕ) (w : TimelineOf X) (r : Result ⊤ Refusal) (checked : r ≡ call_check O w t) where
+    pub seek_refused : (why : Refusal) → r ≡ Err why → (refused why, w) ≡ call O w (Seek t)
     unfolding call
     seek_refused why z = rw (← checked, z)
 
-    pub seek_goes : (g : ℕ) (x : Reply Outcome × TimelineOf X) → r ≡ Accepted → g ≡ max t w.times.first → x ≡ go_to O g w → x ≡ call O w (seek t)
+    pub seek_goes : (g : ℕ) (x : Reply Outcome × TimelineOf X) → r ≡ Ok tt → g ≡ max t w.times.first → x ≡ go_to O g w → x ≡ call O w (Seek t)
     unfolding call
     seek_goes g x z q p = p ∙ (ap (λ n. go_to O n w) q ∙ ap (λ c. on_check O c w (go_to O (max t w.times.first) w)) (sym z ∙ checked))
 
-    pub seek_ok : (Fits : X.State → Type 0) (E : Sound X m s size Fits) (g : ℕ) → r ≡ Accepted → X.slot_size m w.engine ≡ size → g ≡ max t w.times.first
+    pub seek_ok : (Fits : X.State → Type 0) (E : Sound X m s size Fits) (g : ℕ) → r ≡ Ok tt → X.slot_size m w.engine ≡ size → g ≡ max t w.times.first
         → GoOk X size Fits g w
     seek_ok Fits E g z n q =
         let a : Passed t w = call_says t w (sym checked ∙ z) in
@@ -140,16 +138,10 @@ module _ (X : Kind) (m : Machine) (s : List ℕ) (size : ℕ) where
     pub to_low : X.now w.engine + 0 ≤ steps_most
     to_low = omega (arith, E.low w.engine ok.rec.fits)
 
-    pub to_loop : X.now w.engine ≤ t → LoopOk X size Fits t w
-    to_loop h = record { rec = ok.rec; below = h; top = ok.top }
-
-    pub back_inside : (i : ℕ) → i ≡ slot_for t w.times → i * size + size ≤ length w.store
-    back_inside i q = slot_inside size i w.store (omega (arith, ok.rec.room, ok.rec.shape.count_in, ok.rec.shape.count_low))
-
     pub back_step : slot_step t w.times ≤ t
     back_step = back_small w.times t (slot_for t w.times) refl ok.start
 
-    pub back_loop : (r : X.State) → some r ≡ rewind_of X m s size t w → LoopOk X size Fits t (timeline_of X r w.store w.times)
+    pub back_loop : (r : X.State) → Some r ≡ rewind_of X m s size t w → LoopOk X size Fits t (timeline_of X r w.store w.times)
     unfolding rewind_of
     back_loop r z =
         let b : List ℕ = slot_of size (slot_for t w.times) w.store in

@@ -1,6 +1,7 @@
 -- Lemmas that the proofs of a timeline's code need beside the theorem: enough gas, and calls by their targets. None requires a fresh timeline. Assumes nothing.
+use Rattle.outcome.specs.declared.Refusal.{Refusal}
 use Prim.Native.Nat.{ℕ, zero, suc, ◌+◌, ◌-◌, ◌≤◌, ◌<◌, max}
-use Rattle.std.specs.Prelude.{◌≡◌, Bool, true, false, ◌⊎◌, leb, ltb, eqb}
+use Rattle.std.specs.Prelude.{◌≡◌, Bool, true, false, ◌⊎◌, leb, ltb, eqb, Err, Ok, Result, ⊤}
 use Rattle.std.proofs.Math.Path.{refl, sym, ap}
 use Rattle.std.proofs.Common.{◌∙◌, subst, inl, inr, arith, leb-true, leb-false, eqb-true}
 use Rattle.std.proofs.lemmas.Bool.{eqb-false, lt-leb}
@@ -8,34 +9,33 @@ use Rattle.notation.specs.Choice.{pick}
 use Rattle.notation.proofs.Facts.Tests.{clash, by_test, pick_true, pick_false, pick_cases}
 use Rattle.notation.specs.Limits.{steps_most}
 use Rattle.outcome.specs.declared.Refusal.TheVariants as Why
-use Rattle.machine.specs.declared.Checked.{Checked}
-use Rattle.machine.specs.declared.Checked.TheVariants.{Accepted, Refused}
 use Rattle.machine.specs.Model.Check.{demand, checked_on}
 use Rattle.timeline_rule.specs.Model.Engine.{Ops}
-use Rattle.timeline_rule.specs.Model.Timeline.{seek, forward, back, Reply, TimelineOver, due, times_ok, ended, thinned, recorded, record_due, stop_at, stride, turned, advance_to, gas_for, go_to, call_check, on_check, call}
+use Rattle.timeline_rule.specs.declared.Call.TheVariants.{Seek, Forward, Back}
+use Rattle.timeline_rule.specs.Model.Timeline.{Reply, TimelineOver, due, times_ok, ended, thinned, recorded, record_due, stop_at, stride, turned, advance_to, gas_for, go_to, call_check, on_check, call}
 
 -- ---- a call by its target
 
 module _ {Out : Type 0} (O : Ops Out) (w : TimelineOver O) where
-  pub forward_is : (n : ℕ) → call O w (forward n) ≡ call O w (seek (O.now w.engine + n))
+  pub forward_is : (n : ℕ) → call O w (Forward n) ≡ call O w (Seek (O.now w.engine + n))
   unfolding call
   forward_is n = refl
 
-  pub back_is : (n : ℕ) → call O w (back n) ≡ call O w (seek (O.now w.engine - n))
+  pub back_is : (n : ℕ) → call O w (Back n) ≡ call O w (Seek (O.now w.engine - n))
   unfolding call
   back_is n = refl
 
   -- all targets over 2^62 get the same refusal
   module _ (t : ℕ) (l : steps_most < t) where
-    late : demand (leb t steps_most) Why.StepLimit Accepted ≡ Refused Why.StepLimit
-    late = pick_false (leb t steps_most) Accepted (Refused Why.StepLimit) (lt-leb t steps_most l)
+    late : demand (leb t steps_most) Why.StepLimit (Ok tt) ≡ Err Why.StepLimit
+    late = pick_false (leb t steps_most) (Ok tt) (Err Why.StepLimit) (lt-leb t steps_most l)
 
     -- the check of such a target
-    abbrev late_check : Checked
+    abbrev late_check : Result ⊤ Refusal
     late_check =
         checked_on (O.check w.engine)
         (demand (times_ok w.times (O.now w.engine)) Why.Settings
-        (demand (ltb w.times.most (O.slots w.store)) Why.StoreSize (Refused Why.StepLimit)))
+        (demand (ltb w.times.most (O.slots w.store)) Why.StoreSize (Err Why.StepLimit)))
 
     check_late : call_check O w t ≡ late_check
     unfolding call_check
@@ -44,19 +44,19 @@ module _ {Out : Type 0} (O : Ops Out) (w : TimelineOver O) where
     refused_late : (x y : Reply Out × TimelineOver O) → on_check O late_check w x ≡ on_check O late_check w y
     refused_late x y = by (O.check w.engine)
       where
-        Same : Checked → Type 0
+        Same : Result ⊤ Refusal → Type 0
         Same r = on_check O r w x ≡ on_check O r w y
 
-        inner : Checked
-        inner = demand (ltb w.times.most (O.slots w.store)) Why.StoreSize (Refused Why.StepLimit)
+        inner : Result ⊤ Refusal
+        inner = demand (ltb w.times.most (O.slots w.store)) Why.StoreSize (Err Why.StepLimit)
 
-        by : (r : Checked) → Same (checked_on r (demand (times_ok w.times (O.now w.engine)) Why.Settings inner))
-        by (Refused why) = refl
-        by Accepted = pick_cases (times_ok w.times (O.now w.engine)) inner (Refused Why.Settings) Same
-            (λ _. pick_cases (ltb w.times.most (O.slots w.store)) (Refused Why.StepLimit) (Refused Why.StoreSize) Same (λ _. refl) (λ _. refl)) (λ _. refl)
+        by : (r : Result ⊤ Refusal) → Same (checked_on r (demand (times_ok w.times (O.now w.engine)) Why.Settings inner))
+        by (Err why) = refl
+        by (Ok tt) = pick_cases (times_ok w.times (O.now w.engine)) inner (Err Why.Settings) Same
+            (λ _. pick_cases (ltb w.times.most (O.slots w.store)) (Err Why.StepLimit) (Err Why.StoreSize) Same (λ _. refl) (λ _. refl)) (λ _. refl)
 
   -- so the code need not compute p + n where it is over 2^62
-  pub forward_over : (n : ℕ) → steps_most < O.now w.engine + n → call O w (forward n) ≡ call O w (seek (steps_most + 1))
+  pub forward_over : (n : ℕ) → steps_most < O.now w.engine + n → call O w (Forward n) ≡ call O w (Seek (steps_most + 1))
   unfolding call
   forward_over n l =
       let t : ℕ = O.now w.engine + n in

@@ -57,9 +57,6 @@ module _ (X : Kind) (m : Machine) (s : List ℕ) (size : ℕ) (Fits : X.State �
   abbrev O : Ops Outcome
   O = ops_of X m s size
 
-  pub rec_fit : (w : TimelineOf X) → RecOk X size Fits w → TimesFit w.times
-  rec_fit w o = shape_fits_lem w.times o.shape
-
   pub rec_low : (w : TimelineOf X) → RecOk X size Fits w → X.now w.engine ≤ steps_most
   rec_low w o = E.low w.engine o.fits
 
@@ -199,9 +196,6 @@ module _ (X : Kind) (m : Machine) (s : List ℕ) (size : ℕ) (Fits : X.State �
 -- ---- the loop
 
 module _ (X : Kind) (m : Machine) (s : List ℕ) (size : ℕ) (Fits : X.State → Type 0) (t : ℕ) where
-  pub loop_start : (w : TimelineOf X) → LoopOk X size Fits t w → LoopInv X m s size Fits t w w
-  loop_start w o = record { same = refl; ok = o }
-
   module _ (w₀ w w₁ : TimelineOf X) (o : Outcome) (done : Bool) (says : TurnSays X m s size Fits t w o done w₁) (inv : LoopInv X m s size Fits t w₀ w) where
     pub loop_stop : done ≡ true → (o, w₁) ≡ way_of X m s size t w₀
     loop_stop d = sym (sym inv.same ∙ (says.same ∙ pick_true _ _ _ d))

@@ -5,7 +5,8 @@ use Rattle.std.proofs.Math.Path.{ap}
 use Prim.Native.Nat.{ℕ, zero, suc, ◌-◌}
 use Rattle.outcome.specs.declared.Outcome.{Outcome}
 use Rattle.machine.specs.declared.Machine.{Machine}
-use Rattle.timeline_rule.specs.Model.Timeline.{Reply, seek, call_for}
+use Rattle.timeline_rule.specs.declared.Call.TheVariants.{Seek}
+use Rattle.timeline_rule.specs.Model.Timeline.{Reply, call_for}
 use Rattle.timeline_rule.specs.Model.Kind.{Kind, TimelineOf, call_on}
 use Rattle.timeline_rule.specs.Model.Due.{forward_to, target_to}
 use Rattle.timeline_rule.proofs.Facts.CallCases.{forward_on, back_on}
@@ -25,8 +26,8 @@ target_back (suc zero) p n g a b e = absurd (b refl)
 target_back (suc (suc k)) p n g a b e = e
 
 module _ (X : Kind) (m : Machine) (s : List ℕ) (w : TimelineOf X) (y : Reply Outcome × TimelineOf X) where
-  pub which_on : (k n g : ℕ) → y ≡ call_on X m s w (seek g) → g ≡ target_to k (X.now w.engine) n → y ≡ call_on X m s w (call_for k n)
+  pub which_on : (k n g : ℕ) → y ≡ call_on X m s w (Seek g) → g ≡ target_to k (X.now w.engine) n → y ≡ call_on X m s w (call_for k n)
   unfolding target_to
-  which_on zero n g p q = p ∙ ap (λ t. call_on X m s w (seek t)) q
+  which_on zero n g p q = p ∙ ap (λ t. call_on X m s w (Seek t)) q
   which_on (suc zero) n g p q = forward_on X m s w y n g p q
   which_on (suc (suc k)) n g p q = back_on X m s w y n g p q

@@ -1,7 +1,6 @@
 -- The operations of an engine and its store that a timeline uses. Their laws are not here, so that contracts can cite these definitions. Definitions only.
-use Rattle.std.specs.Prelude.{ℕ}
-use Rattle.std.proofs.Math.Option.{Option}
-use Rattle.machine.specs.declared.Checked.{Checked}
+use Rattle.outcome.specs.declared.Refusal.{Refusal}
+use Rattle.std.specs.Prelude.{ℕ, Option, Result, ⊤}
 
 -- `State` is the engine's value with its lent buffers; `Out` is the type of its answers
 pub record Ops (Out : Type 0) : Type 1 where
@@ -10,7 +9,7 @@ pub record Ops (Out : Type 0) : Type 1 where
   -- the step count
   pub now : State → ℕ
   -- the table check, then refusals 8, 11 and 12
-  pub check : State → Checked
+  pub check : State → Result ⊤ Refusal
   -- "Each advance runs without the never test, then tests it with fuel 0."
   pub advance : ℕ → State → Out × State
   -- the number of slots of the store

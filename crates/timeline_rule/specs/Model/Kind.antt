@@ -1,13 +1,13 @@
 -- A kind of engine: the models of its operations, with slots of bytes; and the definitions that the contracts of a timeline over it cite. Definitions only.
-use Rattle.std.specs.Prelude.{ℕ, Bool, true, false, List, eqb}
-use Rattle.std.proofs.Math.Option.{Option}
+use Rattle.outcome.specs.declared.Refusal.{Refusal}
+use Rattle.std.specs.Prelude.{ℕ, Bool, true, false, List, eqb, Option, Result, ⊤}
 use Rattle.outcome.specs.declared.Outcome.{Outcome}
 use Rattle.outcome.specs.Numbers.{outcome_number}
 use Rattle.machine.specs.declared.Machine.{Machine}
-use Rattle.machine.specs.declared.Checked.{Checked}
 use Rattle.store_bytes.specs.Model.{slot_count, slot_of, put_slot, move_slot}
 use Rattle.timeline_rule.specs.Model.Engine.{Ops}
-use Rattle.timeline_rule.specs.Model.Timeline.{Reply, refused, answered, TimelineWith, Call, call, new}
+use Rattle.timeline_rule.specs.declared.Call.{Call}
+use Rattle.timeline_rule.specs.Model.Timeline.{Reply, refused, answered, TimelineWith, call, new}
 
 -- whether a run is out of fuel, by its outcome's number
 abbrev pub spent : Outcome → Bool
@@ -30,7 +30,7 @@ pub record Kind : Type 1 where
   -- the step count
   pub now : State → ℕ
   -- the table check, then refusals 8, 11 and 12
-  pub check : Machine → (table : List ℕ) → State → Checked
+  pub check : Machine → (table : List ℕ) → State → Result ⊤ Refusal
   -- "Each advance runs without the never test, then tests it with fuel 0."
   pub advance : Machine → (table : List ℕ) → ℕ → State → Outcome × State
   -- "A slot is 128 bytes more than the cells buffers, or than 9 × the run places."

@@ -1,27 +1,23 @@
 -- THE TIMELINE of document 01 (checkpoint.rs), over any engine: recording, thinning, restoring, seeking, and its refusals. Definitions only.
-use Rattle.std.specs.Prelude.{ℕ, zero, suc, ◌+◌, ◌-◌, ◌*◌, ◌/◌, min, max, Bool, true, leb, ltb, eqb}
-use Rattle.std.proofs.Math.Option.{Option, none, some}
+use Rattle.std.specs.Prelude.{ℕ, zero, suc, ◌+◌, ◌-◌, ◌*◌, ◌/◌, min, max, Bool, true, leb, ltb, eqb, Err, None, Ok, Option, Result, Some, ⊤}
 use Rattle.notation.specs.Choice.{pick, both}
 use Rattle.notation.specs.Limits.{steps_most, interval_most}
 use Rattle.outcome.specs.declared.Refusal.{Refusal}
 use Rattle.outcome.specs.declared.Refusal.TheVariants as Why
-use Rattle.machine.specs.declared.Checked.{Checked}
-use Rattle.machine.specs.declared.Checked.TheVariants.{Accepted, Refused}
 use Rattle.machine.specs.Model.Check.{within, demand, checked_on}
 use Rattle.store_bytes.specs.Model.{thin_by}
+use Rattle.timeline_rule.specs.declared.Call.{Call}
+use Rattle.timeline_rule.specs.declared.Call.TheVariants.{Seek, Forward, Back}
 use Rattle.timeline_rule.specs.declared.Times.{Times}
 use Rattle.timeline_rule.specs.Model.Engine.{Ops}
 
 -- ---- a call, and its answer
 
-pub data Call : Type 0 where
-  seek forward back : ℕ → Call
-
 -- the call given by two numbers: `which` is 0 for seek, 1 for forward, else back
 abbrev pub call_for : (which number : ℕ) → Call
-call_for zero n = seek n
-call_for (suc zero) n = forward n
-call_for (suc (suc k)) n = back n
+call_for zero n = Seek n
+call_for (suc zero) n = Forward n
+call_for (suc (suc k)) n = Back n
 
 pub data Reply (A : Type 0) : Type 0 where
   refused : Refusal → Reply A
@@ -29,9 +25,9 @@ pub data Reply (A : Type 0) : Type 0 where
 
 -- "The target of seek s is s, of forward n p + n, of back n p - n, or 0 if n is larger."
 abbrev pub target : ℕ → Call → ℕ
-target p (seek s) = s
-target p (forward n) = p + n
-target p (back n) = p - n
+target p (Seek s) = s
+target p (Forward n) = p + n
+target p (Back n) = p - n
 
 -- ---- the timeline's own value: m, the starting step, slots recorded, the interval
 
@@ -50,13 +46,13 @@ times_ok t p =
     (both (within 1 interval_most t.every) (both (within 1 t.most t.count) (within t.first (due t) p)))
 
 -- the refusals of a new timeline: "14 ..; 15 a store under m + 1 slots"; a call at step p has these, then "13 target over 2^62"
-abbrev pub first_check : (most every slots : ℕ) → Checked
-first_check m k n = demand (new_ok m k) Why.Settings (demand (ltb m n) Why.StoreSize Accepted)
+abbrev pub first_check : (most every slots : ℕ) → Result ⊤ Refusal
+first_check m k n = demand (new_ok m k) Why.Settings (demand (ltb m n) Why.StoreSize (Ok tt))
 
-abbrev pub later_check : Times → (steps slots target : ℕ) → Checked
+abbrev pub later_check : Times → (steps slots target : ℕ) → Result ⊤ Refusal
 later_check t p n target =
     demand (times_ok t p) Why.Settings
-    (demand (ltb t.most n) Why.StoreSize (demand (leb target steps_most) Why.StepLimit Accepted))
+    (demand (ltb t.most n) Why.StoreSize (demand (leb target steps_most) Why.StepLimit (Ok tt)))
 
 -- "Going back restores slot (target - start) / interval, the last at most."
 abbrev pub slot_for : (target : ℕ) → Times → ℕ
@@ -138,8 +134,8 @@ module _ {Out : Type 0} (O : Ops Out) where
 
   -- "16 the slot to restore holds no fitting engine of its step"
   abbrev pub from_slot : ℕ → TimelineOver → Option O.State → Reply Out × TimelineOver
-  from_slot target w none = (refused Why.Slot, w)
-  from_slot target w (some s) = go_on target (with_engine w s)
+  from_slot target w None = (refused Why.Slot, w)
+  from_slot target w (Some s) = go_on target (with_engine w s)
 
   unfoldable pub go_back : ℕ → TimelineOver → Reply Out × TimelineOver
   go_back target w = from_slot target w (O.restore (slot_for target w.times) (slot_step target w.times) w.engine w.store)
@@ -156,14 +152,14 @@ module _ {Out : Type 0} (O : Ops Out) where
       (pick (ltb target (O.now w.engine)) (go_back target w) (go_on target w))
 
   -- "Timeline: 8, 11, 12; 14 ..; 15 a store under m + 1 slots; 13 target over 2^62"
-  unfoldable pub call_check : TimelineOver → (target : ℕ) → Checked
+  unfoldable pub call_check : TimelineOver → (target : ℕ) → Result ⊤ Refusal
   call_check w target =
       checked_on (O.check w.engine) (later_check w.times (O.now w.engine) (O.slots w.store) target)
 
   -- "A refusal leaves everything lent or passed as it was."
-  abbrev pub on_check : Checked → TimelineOver → Reply Out × TimelineOver → Reply Out × TimelineOver
-  on_check (Refused why) w done = (refused why, w)
-  on_check Accepted w done = done
+  abbrev pub on_check : Result ⊤ Refusal → TimelineOver → Reply Out × TimelineOver → Reply Out × TimelineOver
+  on_check (Err why) w done = (refused why, w)
+  on_check (Ok tt) w done = done
 
   -- a call: its answer, and the timeline handed back. "A target below the start counts as the start."
   unfoldable pub call : TimelineOver → Call → Reply Out × TimelineOver
@@ -173,16 +169,16 @@ module _ {Out : Type 0} (O : Ops Out) where
 
   -- ---- a new timeline
 
-  unfoldable pub new_check : (most every : ℕ) → O.State → O.Store → Checked
+  unfoldable pub new_check : (most every : ℕ) → O.State → O.Store → Result ⊤ Refusal
   new_check m k s t = checked_on (O.check s) (first_check m k (O.slots t))
 
   -- "A new timeline saves slot 0 at its starting step."
   abbrev pub born : (most every : ℕ) → O.State → O.Store → TimelineOver
   born m k s t = timeline_with s (O.save 0 s t) (record { most = m; first = O.now s; count = 1; every = k })
 
-  abbrev pub on_new : Checked → TimelineOver → Reply TimelineOver
-  on_new (Refused why) w = refused why
-  on_new Accepted w = answered w
+  abbrev pub on_new : Result ⊤ Refusal → TimelineOver → Reply TimelineOver
+  on_new (Err why) w = refused why
+  on_new (Ok tt) w = answered w
 
   unfoldable pub new : (most every : ℕ) → O.State → O.Store → Reply TimelineOver
   new m k s t = on_new (new_check m k s t) (born m k s t)

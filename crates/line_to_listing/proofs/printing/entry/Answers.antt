@@ -1,8 +1,8 @@
 use Rattle.line_to_listing.proofs.Facts.PrintCases.{entry_none, entry_some}
 use Rattle.line_to_listing.proofs.printing.entry.Goals as goal
 
-pub returns-in-Undefined : goal.returns-in-Undefined
-returns-in-Undefined c = entry_none _ _ _ _ _ c.in-Undefined.is c.requires.0
+pub returns-in-None : goal.returns-in-None
+returns-in-None c = entry_none _ _ _ _ _ c.in-None.is c.requires.0
 
-pub returns-in-Defined : goal.returns-in-Defined
-returns-in-Defined c = entry_some _ _ _ _ _ _ _ _ c.in-Defined.is c.entry_line.ensures
+pub returns-in-Some : goal.returns-in-Some
+returns-in-Some c = entry_some _ _ _ _ _ _ _ _ c.in-Some.is c.entry_line.ensures

@@ -1,5 +1,5 @@
 use Rattle.listing_rows.proofs.Facts.RowCases.{row_turned}
 use Rattle.listing_rows.proofs.inner.row.Goals as goal
 
-pub returns-in-Refused : goal.returns-in-Refused
-returns-in-Refused c = row_turned _ _ _ _ _ _ _ _ _ c.in-Refused.is c.number.ensures c.refused.ensures
+pub returns-in-Err : goal.returns-in-Err
+returns-in-Err c = row_turned _ _ _ _ _ _ _ _ _ c.in-Err.is c.number.ensures c.refused.ensures

@@ -1,13 +1,16 @@
-use Rattle.std.proofs.Common.{rules}
-use Prim.Native.Nat.{◌-◌}
-use Rattle.listing_text.proofs.Facts.PieceCases.{find_hit, find_next, find_end}
+use Rattle.std.proofs.Common.{sym, ◌∙◌, eqb, rules}
+use borrow.Author.Tests.{tests}
+use Rattle.std.proofs.lemmas.Iterator.{YieldsList-from_slice}
+use Rattle.std.proofs.lemmas.Iterator.Search.{position_from_yields_List}
+use Rattle.listing_text.proofs.Facts.Library.{position-found, position-missing}
 use Rattle.listing_text.proofs.inner.find.Goals as goal
 
-pub returns-then-s-i : goal.returns-then-s-i
-returns-then-s-i c = search (rules, find_hit)
+pub returns-in-Some : goal.returns-in-Some
+returns-in-Some c =
+    let e = position_from_yields_List (λ b. eqb b c.args.sep) _ _ _ c.position.ensures.ran (YieldsList-from_slice _ c.iter.ensures.rest) (λ x b q k. search (rules, tests)) in
+    position-found c.args.s.now c.args.at c.args.sep c.requires c.in-Some.i (sym e ∙ c.in-Some.is)
 
-pub loop-i-preserved : goal.loop-i-preserved
-loop-i-preserved c = search (rules, find_next)
-
-pub returns : goal.returns
-returns c = search (rules, find_end)
+pub returns-in-None : goal.returns-in-None
+returns-in-None c =
+    let e = position_from_yields_List (λ b. eqb b c.args.sep) _ _ _ c.position.ensures.ran (YieldsList-from_slice _ c.iter.ensures.rest) (λ x b q k. search (rules, tests)) in
+    position-missing c.args.s.now c.args.at c.args.sep c.requires (sym e ∙ c.in-None.is)

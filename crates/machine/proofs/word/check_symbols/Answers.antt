@@ -3,10 +3,10 @@ use Rattle.machine.specs.Model.Word.{symbols_check}
 use Rattle.machine.proofs.Facts.CheckCases.{scan_bad, scan_end}
 use Rattle.machine.proofs.word.check_symbols.Goals as goal
 
-pub returns-in-At : goal.returns-in-At
+pub returns-in-Some : goal.returns-in-Some
 unfolding symbols_check
-returns-in-At c = search (scan_bad Why.WordSymbol)
+returns-in-Some c = search (scan_bad Why.WordSymbol)
 
-pub returns-in-Nothing : goal.returns-in-Nothing
+pub returns-in-None : goal.returns-in-None
 unfolding symbols_check
-returns-in-Nothing c = search (scan_end Why.WordSymbol)
+returns-in-None c = search (scan_end Why.WordSymbol)

@@ -1,8 +1,10 @@
+use Rattle.notation.proofs.Facts.Exit.{exit}
+use mathlib.Core.Path.{◌∙◌}
 use Rattle.rle.proofs.Facts.FitsCases.{engine_table, engine_value}
 use Rattle.rle.proofs.ChainSim.engine_check.Goals as goal
 
-pub returns-in-Refused : goal.returns-in-Refused
-returns-in-Refused c = engine_table _ _ _ _ _ _ _ _ c.check-checked.ensures _ c.in-Refused.is
+pub returns-in_err-check : goal.returns-in_err-check
+returns-in_err-check c = exit _ _ c.from_residual.ensures.1 ∙ engine_table _ _ _ _ _ _ _ _ c.check.ensures _ c.in_err-check.was
 
-pub returns-in-Accepted : goal.returns-in-Accepted
-returns-in-Accepted c = engine_value _ _ _ _ _ _ _ _ c.check-checked.ensures _ c.in-Accepted.is c.value_check.ensures
+pub returns : goal.returns
+returns c = engine_value _ _ _ _ _ _ _ _ c.check.ensures _ c.in_ok-check.was c.value_check.ensures

@@ -8,4 +8,4 @@ pub returns-then-matches : goal.returns-then-matches
 returns-then-matches c = fuel_stops _ _ _ _ _ c.if-fuel-eq0.false _ c.matches.ensures c.if-matches.true
 
 pub returns : goal.returns
-returns c = fuel_goes _ _ _ _ _ c.if-fuel-eq0.false _ c.matches.ensures c.if-matches.false
+returns c = fuel_goes _ _ _ _ _ c.if-fuel-eq0.false _ c.matches.ensures c.if-matches.false _ c.eq-keeps.ensures

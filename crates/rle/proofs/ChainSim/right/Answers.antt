@@ -1,19 +1,26 @@
 use Rattle.std.proofs.Common.{◌∙◌, ap}
-use Rattle.rle_stack.specs.Model.{side}
+use Rattle.rle_stack.specs.Model.{Side, side}
 use Rattle.rle_records.specs.Model.{records_of, written_of}
 use Rattle.rle.specs.Model.Engine.{conf}
 use Rattle.rle.specs.Model.Records.{right}
 use Rattle.rle.proofs.Facts.RecordCases.{list_fine}
 use Rattle.rle.proofs.ChainSim.right.Goals as goal
 
+pub new-requires : goal.new-requires
+new-requires c =
+    let fine = list_fine right c.args.m c.args.table.now (conf c.args.self c.args.ls.now c.args.ll.now c.args.rs.now c.args.rl.now) c.args.out.now in
+    let n = c.written-count.ensures ∙ ap written_of c.list_check-listed.ensures in
+    rw n (fine.0.0, fine.0.1)
+
 pub fill-requires : goal.fill-requires
 fill-requires c =
     let fine = list_fine right c.args.m c.args.table.now (conf c.args.self c.args.ls.now c.args.ll.now c.args.rs.now c.args.rl.now) c.args.out.now in
     let n = c.written-count.ensures ∙ ap written_of c.list_check-listed.ensures in
-    rw n fine.0
+    rw (c.new.ensures, n) fine.0.2
 
 pub returns : goal.returns
 returns c =
     let fine = list_fine right c.args.m c.args.table.now (conf c.args.self c.args.ls.now c.args.ll.now c.args.rs.now c.args.rl.now) c.args.out.now in
     let n = c.written-count.ensures ∙ ap written_of c.list_check-listed.ensures in
-    (c.list_check-listed.ensures, c.fill.ensures ∙ ap (λ k. records_of (side c.args.rs.now c.args.rl.now k) c.args.out.now) n ∙ fine.1)
+    let filled = ap (λ (x : Side). records_of x c.args.out.now) (c.new.ensures ∙ ap (side c.args.rs.now c.args.rl.now) n) in
+    (c.list_check-listed.ensures, c.fill.ensures ∙ filled ∙ fine.1)

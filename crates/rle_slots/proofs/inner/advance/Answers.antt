@@ -10,8 +10,8 @@ run_all-ran-requires c = advance_ok _ _ _ _ _ c.requires c.stride-stride.ensures
 pub returns-then-not-is_spent : goal.returns-then-not-is_spent
 returns-then-not-is_spent c = advance_ends _ _ _ _ _ _ c.run_all-ran.ensures _ c.is_spent.ensures (c.if-not-is_spent.true)
 
-pub verdict-verdict-requires : goal.verdict-verdict-requires
-verdict-verdict-requires c = (advance_ok _ _ _ _ _ c.requires c.stride-stride.ensures).table
+pub invariant_of-t : goal.invariant_of-t
+invariant_of-t c = record { ok = (advance_ok _ _ _ _ _ c.requires c.stride-stride.ensures).table }
 
 pub returns : goal.returns
 returns c = advance_verdict _ _ _ _ _ _ c.run_all-ran.ensures _ c.is_spent.ensures _ (c.if-not-is_spent.false) c.verdict-verdict.ensures

@@ -1,7 +1,6 @@
-use Rattle.sim.specs.Model.Operations.{bare_sim}
-use mathlib.Core.Path.{refl}
+use Rattle.sim.specs.Model.Operations.{bare_sim, hand_back}
 use Rattle.sim.proofs.Simulator.bare.Goals as goal
 
 pub returns : goal.returns
-unfolding bare_sim
-returns c = rw (← c.tape_or-t1.ensures, ← c.tape_or-t2.ensures) refl
+unfolding bare_sim hand_back
+returns c = c.hand_back.ensures

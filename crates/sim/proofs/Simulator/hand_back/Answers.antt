@@ -4,4 +4,4 @@ use Rattle.sim.proofs.Simulator.hand_back.Goals as goal
 
 pub returns : goal.returns
 unfolding hand_back
-returns c = rw (← c.tape_or-t1.ensures, ← c.tape_or-t2.ensures) refl
+returns c = rw (← c.tape_or.ensures, ← c.tape_or-2.ensures) refl

@@ -1,5 +1,5 @@
-use Rattle.sim_burst_wide.proofs.Facts.BurstCases.{moved_tape_none}
+use Rattle.sim_burst_wide.proofs.Facts.BurstCases.{moved_none}
 use Rattle.sim_burst_wide.proofs.inner.move_tape.Goals as goal
 
 pub returns : goal.returns
-returns c = moved_tape_none _ _ c.if-d-eq0.false c.if-d-eq1.false
+returns c = moved_none _ _ c.if-d-eq0.false c.if-d-eq1.false

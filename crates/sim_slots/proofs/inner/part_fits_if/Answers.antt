@@ -1,8 +1,8 @@
 use Rattle.notation.proofs.Facts.Tests.{tests}
 use Rattle.sim_slots.proofs.inner.part_fits_if.Goals as goal
 
-pub returns-then-has : goal.returns-then-has
-returns-then-has c = search tests
+pub returns-then-not-has : goal.returns-then-not-has
+returns-then-not-has c = search tests
 
-pub returns : goal.returns
-returns c = search tests
+pub returns-else-not-has : goal.returns-else-not-has
+returns-else-not-has c = search tests

@@ -4,5 +4,5 @@ use Rattle.sim_slots.proofs.inner.part_size.Goals as goal
 pub returns-then-has : goal.returns-then-has
 returns-then-has c = search tests
 
-pub returns : goal.returns
-returns c = search tests
+pub returns-else-has : goal.returns-else-has
+returns-else-has c = search tests

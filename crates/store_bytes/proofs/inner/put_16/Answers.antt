@@ -1,6 +1,7 @@
-use Rattle.store_bytes.specs.Bytes.{put16}
+use Rattle.std.proofs.Common.{◌∙◌, sym, arith}
+use Rattle.std.proofs.lemmas.Slice.{put_mid-paste}
+use Rattle.store_bytes.proofs.Facts.Bytes.{put_16_bytes}
 use Rattle.store_bytes.proofs.inner.put_16.Goals as goal
 
 pub returns : goal.returns
-unfolding put16
-returns c = cc
+returns c = put_mid-paste c.args.at _ _ _ _ 2 (c.copy_from_slice.ensures.after ∙ c.to_le_bytes.ensures) (omega arith) (omega arith) ∙ sym (put_16_bytes c.args.s.now c.args.at c.args.x c.requires c.ranges.x.fits)

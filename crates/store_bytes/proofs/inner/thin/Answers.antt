@@ -1,9 +1,6 @@
-use Rattle.std.proofs.Common.{rules}
+use Rattle.std.proofs.Common.{rules, arith, refl}
 use Rattle.store_bytes.proofs.Facts.LoopCases.{thin_turn}
 use Rattle.store_bytes.specs.Model.{thin_by}
-use native.Mathlib.Omega.{arith}
-use mathlib.Core.Path.{refl}
-use Prim.Native.Nat.{◌-◌}
 use Rattle.store_bytes.proofs.inner.thin.Goals as goal
 
 pub loop-i-init : goal.loop-i-init

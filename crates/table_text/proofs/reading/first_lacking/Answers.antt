@@ -1,16 +1,15 @@
+use Rattle.std.proofs.Common.{sym, ◌∙◌, not, length, refl, rules, arith}
+use borrow.Author.Tests.{tests}
+use Rattle.std.proofs.lemmas.Iterator.{YieldsList-from_range}
+use Rattle.std.proofs.lemmas.Iterator.Search.{find_from_yields_List}
+use Rattle.std.proofs.lemmas.Iterator.Adapters.{option_map_id}
+use Rattle.notation.proofs.Facts.Parts.{find-range}
 use Rattle.table_text_reader.specs.Reading.{has_byte}
-use Rattle.symbol.proofs.Facts.Found.{first_found, first_nowhere}
-use Rattle.notation.proofs.Facts.Scan.{first_next}
-use mathlib.Core.Path.{sym, ◌∙◌}
-use native.Mathlib.Omega.{arith}
-use Prim.Native.Nat.{◌-◌}
 use Rattle.table_text.proofs.reading.first_lacking.Goals as goal
 
-pub returns-then-not-has_byte : goal.returns-then-not-has_byte
-returns-then-not-has_byte c = first_found _ _ _ _ c.loop-i.invariant (omega arith) (sym c.has_byte.ensures ∙ c.if-not-has_byte.true)
-
-pub loop-i-preserved : goal.loop-i-preserved
-loop-i-preserved c = first_next _ _ _ _ c.loop-i.invariant (omega arith) (sym c.has_byte.ensures ∙ c.if-not-has_byte.false)
-
 pub returns : goal.returns
-returns c = search first_nowhere
+returns c =
+    let a = c.args in
+    sym (option_map_id _)
+    ∙ find_from_yields_List (λ i. not (has_byte a.rows a.symbols a.line.now i)) _ _ _ c.find.ensures.ran (YieldsList-from_range 0 (length a.line.now) (length a.line.now) refl (omega arith)) (λ x b q k. search (rules, tests))
+    ∙ find-range _ _ _

@@ -1,14 +1,12 @@
-use Rattle.table_text_rows.specs.Rows.{moves_or}
-use Prim.Native.Nat.{◌-◌}
-use mathlib.Core.Path.{sym, ap, ◌∙◌}
-use Rattle.notation.proofs.Facts.Scan.{all_hit, all_next, all_end}
+use Rattle.std.proofs.Common.{◌∙◌, refl, rules, arith}
+use borrow.Author.Tests.{tests}
+use Rattle.std.proofs.lemmas.Iterator.{YieldsList-from_range}
+use Rattle.std.proofs.lemmas.Iterator.Search.{all_from_yields_List}
+use Rattle.notation.proofs.Facts.Parts.{list_all-range}
+use Rattle.table_text_rows.specs.Rows.{moves_at}
 use Rattle.table_text.proofs.writing.all_move.Goals as goal
 
-pub returns-then-not-moves_or : goal.returns-then-not-moves_or
-returns-then-not-moves_or c = all_hit _ _ _ _ c.loop-i.invariant c.loop-i-test.true (sym (c.moves_or.ensures ∙ ap moves_or c.entry_at.ensures) ∙ c.if-not-moves_or.true)
-
-pub loop-i-preserved : goal.loop-i-preserved
-loop-i-preserved c = all_next _ _ _ _ c.loop-i.invariant c.loop-i-test.true (sym (c.moves_or.ensures ∙ ap moves_or c.entry_at.ensures) ∙ c.if-not-moves_or.false)
-
 pub returns : goal.returns
-returns c = all_end _ _ _ _ c.loop-i.invariant c.loop-i-test.false
+returns c =
+    all_from_yields_List (moves_at c.args.table.now) _ _ _ c.all.ensures.ran (YieldsList-from_range 0 c.args.count c.args.count refl (omega arith)) (λ x b q k. search (rules, tests))
+    ∙ list_all-range _ _ _

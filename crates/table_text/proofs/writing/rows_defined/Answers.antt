@@ -1,13 +1,12 @@
-use Rattle.table_text_writer.proofs.Facts.WriteCases.{defined_not, defined_yes}
-use Prim.Native.Nat.{◌-◌}
-use Rattle.notation.proofs.Facts.Scan.{all_hit, all_next, all_end}
+use Rattle.std.proofs.Common.{◌∙◌, refl, rules, arith}
+use borrow.Author.Tests.{tests}
+use Rattle.std.proofs.lemmas.Iterator.{YieldsList-from_range}
+use Rattle.std.proofs.lemmas.Iterator.Search.{all_from_yields_List}
+use Rattle.notation.proofs.Facts.Parts.{list_all-range}
+use Rattle.table_text_rows.specs.Rows.{row_defined}
 use Rattle.table_text.proofs.writing.rows_defined.Goals as goal
 
-pub returns-then-row_undefined : goal.returns-then-row_undefined
-returns-then-row_undefined c = all_hit _ _ _ _ c.loop-q.invariant c.loop-q-test.true (defined_not _ _ _ _ c.row_undefined.ensures c.if-row_undefined.true)
-
-pub loop-q-preserved : goal.loop-q-preserved
-loop-q-preserved c = all_next _ _ _ _ c.loop-q.invariant c.loop-q-test.true (defined_yes _ _ _ _ c.row_undefined.ensures c.if-row_undefined.false)
-
 pub returns : goal.returns
-returns c = all_end _ _ _ _ c.loop-q.invariant c.loop-q-test.false
+returns c =
+    all_from_yields_List (row_defined c.args.symbols c.args.table.now) _ _ _ c.all.ensures.ran (YieldsList-from_range 0 c.args.count c.args.count refl (omega arith)) (λ x b q k. search (rules, tests))
+    ∙ list_all-range _ _ _

@@ -4,8 +4,8 @@ use Rattle.tape.proofs.Tape.grow.Goals as goal
 pub open_left-requires : goal.open_left-requires
 open_left-requires c = search grow_fits
 
-pub blank-requires : goal.blank-requires
-blank-requires c = search grow_fits
+pub open_right-requires : goal.open_right-requires
+open_right-requires c = search grow_fits
 
 pub returns-in-L : goal.returns-in-L
 returns-in-L c = search grow_left

@@ -1,15 +1,14 @@
 use Rattle.timeline_rule.proofs.Facts.CheckCases.{later_settings_holds, later_store, later_limit, later_passed}
-use borrow.Author.Tests.{not-true, not-false}
 use Rattle.timeline_rule.proofs.inner.later_check.Goals as goal
 
 pub returns-then-not-ok : goal.returns-then-not-ok
-returns-then-not-ok c = search (later_settings_holds, not-true)
+returns-then-not-ok c = search later_settings_holds
 
 pub returns-then-slots-t : goal.returns-then-slots-t
-returns-then-slots-t c = search (later_store, not-false)
+returns-then-slots-t c = search later_store
 
 pub returns-then-target-gt-STEPS : goal.returns-then-target-gt-STEPS
-returns-then-target-gt-STEPS c = search (later_limit, not-false)
+returns-then-target-gt-STEPS c = search later_limit
 
 pub returns : goal.returns
-returns c = search (later_passed, not-false)
+returns c = search later_passed

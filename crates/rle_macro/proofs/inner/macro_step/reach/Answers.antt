@@ -1,6 +1,6 @@
 use Rattle.std.proofs.Common.{ap, not}
-use Rattle.rle_stack.specs.Model.{side}
 use native.Mathlib.Omega.{arith}
+use Rattle.rle_stack.specs.Written.{held}
 use Rattle.rle_stack.proofs.Facts.Sides.{ahead_within}
 use Rattle.rle_macro.proofs.Facts.MacroStepCases.{reach_all, reach_one, reach_chain}
 use Rattle.rle_macro.proofs.inner.macro_step.reach.Goals as goal
@@ -12,7 +12,7 @@ pub returns-then-not-keeps : goal.returns-then-not-keeps
 returns-then-not-keeps c = search reach_one
 
 pub overflow_add-run : goal.overflow_add-run
-overflow_add-run c = omega (arith, c.requires.count_bound, c.ahead-run.ensures, ahead_within c.args.cur (side c.args.symbols.now c.args.lengths.now c.args.count))
+overflow_add-run c = omega (arith, c.requires, c.ahead-run.ensures, ahead_within c.args.cur (held c.args.side.now))
 
 pub returns : goal.returns
 returns c = reach_chain _ _ _ _ _ c.if-loops.false (ap not c.if-not-keeps.false) _ _ c.ahead-run.ensures c.min.ensures

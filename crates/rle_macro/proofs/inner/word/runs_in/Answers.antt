@@ -1,5 +1,4 @@
 use native.Mathlib.Omega.{arith}
-use Prim.Native.Nat.{◌-◌}
 use Rattle.rle_counts.proofs.Facts.WordCases.{runs_next, runs-end}
 use Rattle.rle_macro.proofs.inner.word.runs_in.Goals as goal
 

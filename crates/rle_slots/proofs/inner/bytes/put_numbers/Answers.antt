@@ -1,6 +1,5 @@
 use Rattle.rle_slots.proofs.Facts.SlotCases.{numbers_start, numbers_turn}
 use mathlib.Core.Path.{refl}
-use Prim.Native.Nat.{◌-◌}
 use native.Mathlib.Omega.{arith}
 use Rattle.rle_slots.proofs.inner.bytes.put_numbers.Goals as goal
 

@@ -1,7 +1,6 @@
 use Rattle.rle_slots.proofs.Facts.SlotCases.{take_turn}
-use Prim.Native.Nat.{◌-◌}
 use native.Mathlib.Omega.{arith}
-use lib.ListN.{length, length-set}
+use lib.ListN.{length-set}
 use Rattle.rle_slots.proofs.inner.bytes.take_numbers.Goals as goal
 
 pub loop-i-preserved : goal.loop-i-preserved

@@ -1,15 +1,13 @@
-use Rattle.notation.proofs.Facts.Tests.{tests, via}
+use Rattle.std.proofs.lemmas.Grind.{common_steps}
+use native.Mathlib.Omega.{arith}
+use Rattle.notation.specs.Choice.{both}
 use Rattle.run_checks.specs.Model.Look.{rooms_of}
 use Rattle.run_checks.proofs.inner.look.rooms.Goals as goal
 
-pub returns-then-not-room : goal.returns-then-not-room
-unfolding rooms_of
-returns-then-not-room c = search (tests, via)
+pub returns-then-room-2 : goal.returns-then-room-2
+unfolding rooms_of both
+returns-then-room-2 c = grind (arith, common_steps)
 
-pub returns-then-not-room-2 : goal.returns-then-not-room-2
-unfolding rooms_of
-returns-then-not-room-2 c = search (tests, via)
-
-pub returns : goal.returns
-unfolding rooms_of
-returns c = search (tests, via)
+pub returns-else-room-2 : goal.returns-else-room-2
+unfolding rooms_of both
+returns-else-room-2 c = grind (arith, common_steps)

@@ -1,0 +1,6 @@
+use Rattle.capi_numbers.specs.Model.Parts.{action_from}
+use Rattle.capi_numbers.proofs.parts.put_action.Goals as goal
+
+pub returns : goal.returns
+unfolding action_from
+returns c = cc

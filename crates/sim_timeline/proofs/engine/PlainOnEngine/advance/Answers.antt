@@ -1,0 +1,5 @@
+use Rattle.sim_timeline.proofs.Facts.EngineCases.{run_asks}
+use Rattle.sim_timeline.proofs.engine.PlainOnEngine.advance.Goals as goal
+
+pub advance-told-requires : goal.advance-told-requires
+advance-told-requires c = run_asks _ _ _ _ c.requires

@@ -1,6 +1,0 @@
-use mir.ValLaws.{to_z-of_z}
-use Rattle.tape.proofs.Facts.QuestionCases.{window_is}
-use Rattle.tape.proofs.inner.window.Goals as goal
-
-pub returns : goal.returns
-returns c = search (window_is, to_z-of_z)

@@ -1,0 +1,5 @@
+pub mod Answers
+pub mod Begin
+pub mod Moves
+pub mod Store
+pub mod Turns
