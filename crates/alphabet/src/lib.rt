@@ -15,7 +15,8 @@ const MOST_SYMBOLS: usize = 256;
 pub fn symbol_for(glyphs: &[u32], glyph: u32) -> Option<Symbol>
     ensures { result ≡ symbol_for glyphs.now glyph }
 {
-    let place = glyphs.iter().take(MOST_SYMBOLS).position(|&g| g == glyph)?;
+    let most = glyphs.len().min(MOST_SYMBOLS);
+    let place = glyphs[..most].iter().position(|&g| g == glyph)?;
     Some(Symbol(place as u8))
 }
 

@@ -38,7 +38,7 @@ pub extern "C" fn tm_packed_action(word: u64, out: &mut [u64; 8]) -> u8
 {
     let packed = Packed(word);
     let action = packed.action();
-    answers::put_value(out, action)
+    parts::put_action(out, action)
 }
 
 // The entry of a word, in the form of the lookup's.

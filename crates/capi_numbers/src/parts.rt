@@ -2,12 +2,13 @@
 ghost use Rattle.std.specs.Prelude.{◌≡◌, ◌≤◌, set};
 ghost use Rattle.capi_numbers.specs.Model.Parts.{action_from, entry_of, parts_out};
 
+use super::answers::put_value;
 use machine::Action;
 use machine::packed::Packed;
 use symbol::{State, Symbol};
 
 // The numbers of an action, from place i on.
-pub(crate) fn put_action(xs: &mut [u64; 8], i: usize, a: Action)
+pub(crate) fn put_action_at(xs: &mut [u64; 8], i: usize, a: Action)
     requires { i ≤ 1 }
     ensures { xs.new ≡ action_from i a xs.old }
 {
@@ -21,6 +22,13 @@ pub(crate) fn put_action(xs: &mut [u64; 8], i: usize, a: Action)
     xs[i + 4] = d0.number() as u64;
     xs[i + 5] = d1.number() as u64;
     xs[i + 6] = d2.number() as u64;
+}
+
+// Writes the numbers of an action; such a call refuses nothing.
+pub fn put_action(xs: &mut [u64; 8], action: Action) -> u8
+    ensures { (result ≡ 0) × (xs.new ≡ action_from 0 action xs.old) }
+{
+    put_value(xs, action)
 }
 
 // The entry of a one-tape table: undefined where `defined` is 0.

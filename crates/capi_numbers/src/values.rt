@@ -85,7 +85,7 @@ impl Value for Action {
     ghost writes = { action_from 0 };
 
     fn put(self, out: &mut [u64; 8]) {
-        parts::put_action(out, 0, self);
+        parts::put_action_at(out, 0, self);
     }
 }
 
@@ -99,7 +99,7 @@ impl Value for Option<Action> {
             }
             Some(action) => {
                 out[0] = 1;
-                parts::put_action(out, 1, action);
+                parts::put_action_at(out, 1, action);
             }
         }
     }

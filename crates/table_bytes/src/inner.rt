@@ -46,7 +46,12 @@ pub fn first_bad(n: u64, t: u64, k: u64, table: &[u8], count: u64) -> Option<usi
     requires { length table.now ≡ 8 * count }
     ensures { result ≡ first_fail (entry_for n t k table.now) count 0 }
 {
-    (0..count as usize).find(|&i| !entry_ok(n, t, k, table, i))
+    for i in 0..count as usize {
+        if !entry_ok(n, t, k, table, i) {
+            return Some(i);
+        }
+    }
+    None
 }
 
 fn entry_ok(n: u64, t: u64, k: u64, table: &[u8], i: usize) -> bool

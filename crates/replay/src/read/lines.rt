@@ -76,8 +76,10 @@ fn end_line(row: &mut [u64; PLACES], reading: Option<Reading>) -> Option<usize> 
 pub(crate) fn read_line(text: &[u8], from: usize, row: &mut [u64; PLACES]) -> Line {
     let mut reading = Some(Reading::after(0));
     let mut next = from;
-    for (at, &byte) in text.iter().enumerate().skip(from) {
-        next = at + 1;
+    // A `skip` would walk over all lines before this one.
+    let rest = text.get(from..).unwrap_or(b"");
+    for (i, &byte) in rest.iter().enumerate() {
+        next = from + i + 1;
         if byte == b'\n' {
             break;
         }

@@ -1,14 +1,13 @@
-use Rattle.std.proofs.Common.{sym, ◌∙◌, not, refl, rules, arith}
-use borrow.Author.Tests.{tests}
-use Rattle.std.proofs.lemmas.Iterator.{YieldsList-from_range}
-use Rattle.std.proofs.lemmas.Iterator.Search.{find_from_yields_List}
-use Rattle.std.proofs.lemmas.Iterator.Adapters.{option_map_id}
-use Rattle.notation.proofs.Facts.Parts.{find-range}
-use Rattle.table_bytes.specs.Model.Entries.{entry_for}
+use Rattle.std.proofs.Common.{sym, ◌∙◌, arith}
+use Rattle.notation.proofs.Facts.Scan.{first_next}
+use Rattle.symbol.proofs.Facts.Found.{first_found, first_nowhere}
 use Rattle.table_bytes.proofs.inner.first_bad.Goals as goal
 
+pub returns-then-not-entry_ok : goal.returns-then-not-entry_ok
+returns-then-not-entry_ok c = first_found _ _ _ _ c.loop-i.invariant (omega arith) (sym c.entry_ok.ensures ∙ c.if-not-entry_ok.true)
+
+pub loop-i-preserved : goal.loop-i-preserved
+loop-i-preserved c = first_next _ _ _ _ c.loop-i.invariant (omega arith) (sym c.entry_ok.ensures ∙ c.if-not-entry_ok.false)
+
 pub returns : goal.returns
-returns c =
-    let a = c.args in
-    let found = find_from_yields_List (λ i. not (entry_for a.n a.t a.k a.table.now i)) _ _ _ c.find.ensures.ran (YieldsList-from_range 0 a.count a.count refl (omega arith)) (λ x b q k. search (rules, tests)) in
-    sym (option_map_id _) ∙ found ∙ find-range _ _ _
+returns c = search first_nowhere
