@@ -158,8 +158,8 @@ fn weight(symbol: u8, len: u64) -> u64
     len
 }
 
-// The symbol of run count - 1; below the bottom run all cells are blank.
-fn top(symbols: &[u8], count: usize) -> u8
+// The symbol next to the head; below the bottom run all cells are blank.
+pub fn top(symbols: &[u8], count: usize) -> u8
     requires { count ≤ length symbols.now }
     ensures { result ≡ symbol_under symbols.now count }
 {
@@ -167,6 +167,34 @@ fn top(symbols: &[u8], count: usize) -> u8
         return 0;
     }
     symbols[count - 1]
+}
+
+// Whether a push of `s` needs a new run for which there is no place. The places are tested first, since a run of the
+// engine rarely fills them.
+pub fn lacks(symbols: &[u8], count: usize, places: usize, s: u8) -> bool
+    requires { count ≤ length symbols.now }
+    ensures { (ls : List ℕ) → result ≡ lacks places s (side symbols.now ls count) }
+{
+    if count < places {
+        return false;
+    }
+    s != top(symbols, count)
+}
+
+// Takes n cells off the run next to the head, and returns the new count of runs.
+pub fn take(lengths: &mut [u64], count: usize, n: u64) -> usize
+    requires { count ≤ length lengths.old }
+    ensures { (ss : List ℕ) → side ss lengths.new result ≡ take_of n (side ss lengths.old count) }
+{
+    if count == 0 {
+        return 0;
+    }
+    let left = lengths[count - 1].saturating_sub(n);
+    lengths[count - 1] = left;
+    if left == 0 {
+        return count - 1;
+    }
+    count
 }
 
 // A side to write: its live runs lie in the first `count` of `places` places.
@@ -200,10 +228,7 @@ impl<'a> Stack<'a> {
     pub fn top(&self) -> u8
         ensures { result ≡ top_of (held self.now) }
     {
-        if self.count == 0 {
-            return 0;
-        }
-        self.symbols[self.count - 1]
+        top(self.symbols, self.count)
     }
 
     // How many cells of symbol `a` lie next to the head.
@@ -219,15 +244,11 @@ impl<'a> Stack<'a> {
         }
     }
 
-    // Whether a push of `s` needs a new run for which there is no place. The places are tested first, since a run of the
-    // engine rarely fills them.
+    // Whether a push of `s` needs a new run for which there is no place.
     pub fn lacks(&self, s: u8) -> bool
         ensures { result ≡ lacks self.now.places s (held self.now) }
     {
-        if self.count < self.places {
-            return false;
-        }
-        s != self.top()
+        lacks(self.symbols, self.count, self.places, s)
     }
 
     // Puts n cells of `s` next to the head.
@@ -256,15 +277,7 @@ impl<'a> Stack<'a> {
         ensures same { SameSlices self.old self.new }
         ensures taken { held self.new ≡ take_of n (held self.old) }
     {
-        let count = self.count;
-        if count == 0 {
-            return;
-        }
-        let left = self.lengths[count - 1].saturating_sub(n);
-        self.lengths[count - 1] = left;
-        if left == 0 {
-            self.count = count - 1;
-        }
+        self.count = take(self.lengths, self.count, n);
     }
 }
 
