@@ -87,7 +87,7 @@ fn carry(behind: &mut Stack, ahead: &mut Stack, write: u8, n: u64) -> u8
     ensures ahead_same { SameSlices ahead.old ahead.new }
     ensures carried { carried (held behind.new) result (held ahead.new) ≡ carry_of write n (held behind.old) (held ahead.old) }
 {
-    behind.push(write, n);
+    stack::push(behind, write, n);
     ahead.take(n - 1);
     let cur = ahead.top();
     ahead.take(1);
