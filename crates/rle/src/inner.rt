@@ -14,7 +14,7 @@ use machine::{Action, Machine};
 use outcome::Outcome;
 use rle_macro::inner::macro_step;
 use rle_macro::inner::macro_step::{Moved, Step};
-use rle_stack::inner::Stack;
+use rle_stack::inner as stack;
 use std::ops::ControlFlow;
 use symbol::State;
 
@@ -157,8 +157,8 @@ impl ChainSim {
         requires { RunOk t.m t.stride (conf self ls.old ll.old rs.old rl.old) fuel }
         ensures { end (conf result.sim ls.new ll.new rs.new rl.new) result.outcome ≡ run_of (task t.entry.m t.entry.entries.now proves rule) fuel (conf self ls.old ll.old rs.old rl.old) }
     {
-        let mut left = Stack::new(ls, ll, self.tape.left);
-        let mut right = Stack::new(rs, rl, self.tape.right);
+        let mut left = stack::side_to_write(ls, ll, self.tape.left);
+        let mut right = stack::side_to_write(rs, rl, self.tape.right);
         let mut rest = fuel;
         loop {
             let turn = self.decide(t, proves, rule, rest);

@@ -9,8 +9,9 @@ use super::ChainSim;
 use machine::Machine;
 use notation::limits;
 use outcome::Refusal;
+use rle_macro::inner::questions;
 use rle_macro::inner::questions::Tape;
-use rle_stack::inner::Runs;
+use rle_stack::inner as stack;
 use symbol::{Symbol, position};
 use tape::Span;
 
@@ -38,8 +39,8 @@ impl ChainSim {
         Tape {
             head: tape.head,
             cur: tape.cur,
-            left: Runs::new(ls, ll, tape.left),
-            right: Runs::new(rs, rl, tape.right),
+            left: stack::side_to_read(ls, ll, tape.left),
+            right: stack::side_to_read(rs, rl, tape.right),
         }
     }
 
@@ -50,12 +51,14 @@ impl ChainSim {
     {
         let tape = self.tape;
         if tape.left != 0 {
-            return tape.head - Runs::new(ls, ll, tape.left).cells(self.steps + limits::SLACK);
+            let lefts = stack::side_to_read(ls, ll, tape.left);
+            return tape.head - stack::cells(&lefts, self.steps + limits::SLACK);
         }
         if tape.cur != 0 {
             return tape.head;
         }
-        tape.head + Runs::new(rs, rl, tape.right).near()
+        let rights = stack::side_to_read(rs, rl, tape.right);
+        tape.head + stack::near(&rights)
     }
 
     // The raised position of the highest cell that is not blank. One function for this and `lowest_cell` would choose a
@@ -66,12 +69,14 @@ impl ChainSim {
     {
         let tape = self.tape;
         if tape.right != 0 {
-            return tape.head + Runs::new(rs, rl, tape.right).cells(self.steps + limits::SLACK);
+            let rights = stack::side_to_read(rs, rl, tape.right);
+            return tape.head + stack::cells(&rights, self.steps + limits::SLACK);
         }
         if tape.cur != 0 {
             return tape.head;
         }
-        tape.head - Runs::new(ls, ll, tape.left).near()
+        let lefts = stack::side_to_read(ls, ll, tape.left);
+        tape.head - stack::near(&lefts)
     }
 
     fn span(self, ls: &[u8], ll: &[u64], rs: &[u8], rl: &[u64]) -> Option<Span>
@@ -134,7 +139,7 @@ impl ChainSim {
     {
         self.engine_check(m, table, ls, ll, rs, rl)?;
         let tape = self.read(ls, ll, rs, rl);
-        Ok(tape.count())
+        Ok(questions::count(&tape))
     }
 
     // Writes the symbols from a position on into the whole of `out`; positions past i64 are blank.

@@ -8,7 +8,7 @@ use super::ChainSim;
 use machine::Machine;
 use outcome::Refusal;
 use rle_records::Run;
-use rle_stack::inner::Runs;
+use rle_stack::inner as stack;
 
 impl ChainSim {
     // The table check, refusals 8, 11 and 12, then 18 where `room` records are too few for `count` runs.
@@ -44,7 +44,7 @@ impl ChainSim {
     {
         let listed = self.list_check(m, table, ls, ll, rs, rl, self.tape.left, out.len());
         let count = rle_records::inner::written(listed);
-        rle_records::inner::fill(&Runs::new(ls, ll, count), out);
+        rle_records::inner::fill(&stack::side_to_read(ls, ll, count), out);
         listed
     }
 
@@ -63,7 +63,7 @@ impl ChainSim {
     {
         let listed = self.list_check(m, table, ls, ll, rs, rl, self.tape.right, out.len());
         let count = rle_records::inner::written(listed);
-        rle_records::inner::fill(&Runs::new(rs, rl, count), out);
+        rle_records::inner::fill(&stack::side_to_read(rs, rl, count), out);
         listed
     }
 }

@@ -4,6 +4,7 @@ ghost use Rattle.rle_records.specs.Model.{run_at, records_of, room_for, written_
 
 use super::Run;
 use outcome::Refusal;
+use rle_stack::inner as stack;
 use rle_stack::inner::Runs;
 use symbol::Symbol;
 
@@ -12,7 +13,7 @@ fn run_at(side: &Runs<'_, &[u64]>, i: usize) -> Run
     requires { i < side.now.count }
     ensures { result ≡ run_at side.now.symbols side.now.lengths i }
 {
-    let (symbol, len) = side.run(i);
+    let (symbol, len) = stack::run(side, i);
     Run {
         symbol: Symbol(symbol),
         len,

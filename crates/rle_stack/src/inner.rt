@@ -1,10 +1,13 @@
 // One side of a tape. `Runs` is a side to read, and `Stack` is a side to write; the live runs of both have places.
-ghost use Rattle.std.specs.Prelude.{◌≡◌, false, List, ℕ, ◌+◌, ◌≤◌, ◌<◌, min, eqb, length, get_or};
+mod to_write;
+
+ghost use Rattle.std.specs.Prelude.{◌≡◌, List, ℕ, ◌+◌, ◌≤◌, ◌<◌, min, eqb, length, get_or};
 ghost use Rattle.notation.specs.Choice.{pick};
 ghost use Rattle.notation.specs.Limits.{raised_zero};
-ghost use Rattle.rle_stack.specs.Model.{Side, side, places_of, symbol_under, top_of, ahead_of, push_of, lacks, take_of, run_fits, runs_fit, cells_of, cell_at, written_of, near_of};
+ghost use Rattle.rle_stack.specs.Model.{Side, side, places_of, symbol_under, top_of, ahead_of, lacks, take_of, run_fits, runs_fit, cells_of, cell_at, written_of, near_of};
 
 use std::marker::Model;
+pub use to_write::{push, side_to_write};
 
 // The lengths of a side's runs: numbers, or the bytes of a slot.
 pub trait Lengths: Drop {
@@ -39,31 +42,23 @@ impl<'a, L: Lengths> Model for Runs<'a, L> {
     ghost invariant = { λ r. (r.count ≤ length r.symbols.now) × (r.count ≤ length (L.list r.lengths)) };
 }
 
-impl<'a, L: Lengths> Runs<'a, L> {
-    pub fn new(symbols: &'a [u8], lengths: L, count: usize) -> Self
-        requires { (count ≤ length symbols.now) × (count ≤ length (L.list lengths)) }
-        ensures { result ≡ side symbols.now (L.list lengths) count }
-    {
-        Runs {
-            symbols,
-            lengths,
-            count,
-        }
+// A side to read.
+pub fn side_to_read<'a, L: Lengths>(symbols: &'a [u8], lengths: L, count: usize) -> Runs<'a, L>
+    requires { (count ≤ length symbols.now) × (count ≤ length (L.list lengths)) }
+    ensures { result ≡ side symbols.now (L.list lengths) count }
+{
+    Runs {
+        symbols,
+        lengths,
+        count,
     }
+}
 
+impl<'a, L: Lengths> Runs<'a, L> {
     pub fn count(&self) -> usize
         ensures { result ≡ self.now.count }
     {
         self.count
-    }
-
-    // The symbol and the length of run i.
-    pub fn run(&self, i: usize) -> (u8, u64)
-        requires { i < self.now.count }
-        ensures { (result.0 ≡ get_or self.now.symbols i 0) × (result.1 ≡ get_or self.now.lengths i 0) }
-    {
-        let symbol = self.symbols[i];
-        (symbol, self.lengths.at(i))
     }
 
     // Whether run i has a cell, a symbol below k, and another symbol than the run under it.
@@ -93,22 +88,6 @@ impl<'a, L: Lengths> Runs<'a, L> {
         true
     }
 
-    // How many cells the live runs have, or `most + 1` where they have more than `most`.
-    pub fn cells(&self, most: u64) -> u64
-        requires { most < raised_zero }
-        ensures { result ≡ min (cells_of self.now) (most + 1) }
-    {
-        let mut sum = 0;
-        for i in 0..self.count {
-            let len = self.lengths.at(i);
-            if most - sum < len {
-                return most + 1;
-            }
-            sum += len;
-        }
-        sum
-    }
-
     // The symbol at a distance from the head; the next cell is at distance 0.
     pub fn symbol_at(&self, distance: u64) -> u8
         ensures { result ≡ cell_at self.now distance }
@@ -123,29 +102,54 @@ impl<'a, L: Lengths> Runs<'a, L> {
         }
         0
     }
+}
 
-    // How many cells of the live runs are not blank.
-    pub fn written(&self) -> u64
-        requires { cells_of self.now < raised_zero }
-        ensures { (result ≡ written_of self.now) × (result ≤ cells_of self.now) }
-    {
-        let mut sum = 0;
-        for i in 0..self.count {
-            sum += weight(self.symbols[i], self.lengths.at(i));
-        }
-        sum
-    }
+// The symbol and the length of run i.
+pub fn run<L: Lengths>(side: &Runs<'_, L>, i: usize) -> (u8, u64)
+    requires { i < side.now.count }
+    ensures { (result.0 ≡ get_or side.now.symbols i 0) × (result.1 ≡ get_or side.now.lengths i 0) }
+{
+    let symbol = side.symbols[i];
+    (symbol, side.lengths.at(i))
+}
 
-    // The distance of the nearest cell that is not blank, on a side with runs; the next cell is at distance 1.
-    pub fn near(&self) -> u64
-        requires { (0 < self.now.count) × (cells_of self.now < raised_zero) }
-        ensures { (result ≡ near_of self.now) × (result ≤ cells_of self.now + 1) }
-    {
-        if top(self.symbols, self.count) == 0 {
-            return self.lengths.at(self.count - 1) + 1;
+// How many cells the live runs have, or `most + 1` where they have more than `most`.
+pub fn cells<L: Lengths>(side: &Runs<'_, L>, most: u64) -> u64
+    requires { most < raised_zero }
+    ensures { result ≡ min (cells_of side.now) (most + 1) }
+{
+    let mut sum = 0;
+    for i in 0..side.count {
+        let len = side.lengths.at(i);
+        if most - sum < len {
+            return most + 1;
         }
-        1
+        sum += len;
     }
+    sum
+}
+
+// How many cells of the live runs are not blank.
+pub fn written<L: Lengths>(side: &Runs<'_, L>) -> u64
+    requires { cells_of side.now < raised_zero }
+    ensures { (result ≡ written_of side.now) × (result ≤ cells_of side.now) }
+{
+    let mut sum = 0;
+    for i in 0..side.count {
+        sum += weight(side.symbols[i], side.lengths.at(i));
+    }
+    sum
+}
+
+// The distance of the nearest cell that is not blank, on a side with runs; the next cell is at distance 1.
+pub fn near<L: Lengths>(side: &Runs<'_, L>) -> u64
+    requires { (0 < side.now.count) × (cells_of side.now < raised_zero) }
+    ensures { (result ≡ near_of side.now) × (result ≤ cells_of side.now + 1) }
+{
+    if top(side.symbols, side.count) == 0 {
+        return side.lengths.at(side.count - 1) + 1;
+    }
+    1
 }
 
 // How many cells of a run are not blank.
@@ -158,8 +162,8 @@ fn weight(symbol: u8, len: u64) -> u64
     len
 }
 
-// The symbol of run count - 1; below the bottom run all cells are blank.
-fn top(symbols: &[u8], count: usize) -> u8
+// The symbol next to the head; below the bottom run all cells are blank.
+pub fn top(symbols: &[u8], count: usize) -> u8
     requires { count ≤ length symbols.now }
     ensures { result ≡ symbol_under symbols.now count }
 {
@@ -167,6 +171,34 @@ fn top(symbols: &[u8], count: usize) -> u8
         return 0;
     }
     symbols[count - 1]
+}
+
+// Whether a push of `s` needs a new run for which there is no place. The places are tested first, since a run of the
+// engine rarely fills them.
+pub fn lacks(symbols: &[u8], count: usize, places: usize, s: u8) -> bool
+    requires { count ≤ length symbols.now }
+    ensures { (ls : List ℕ) → result ≡ lacks places s (side symbols.now ls count) }
+{
+    if count < places {
+        return false;
+    }
+    s != top(symbols, count)
+}
+
+// Takes n cells off the run next to the head, and returns the new count of runs.
+pub fn take(lengths: &mut [u64], count: usize, n: u64) -> usize
+    requires { count ≤ length lengths.old }
+    ensures { (ss : List ℕ) → side ss lengths.new result ≡ take_of n (side ss lengths.old count) }
+{
+    if count == 0 {
+        return 0;
+    }
+    let left = lengths[count - 1].saturating_sub(n);
+    lengths[count - 1] = left;
+    if left == 0 {
+        return count - 1;
+    }
+    count
 }
 
 // A side to write: its live runs lie in the first `count` of `places` places.
@@ -182,28 +214,11 @@ pub struct Stack<'a> {
 impl<'a> Stack<'a> {
     ghost use Rattle.rle_stack.specs.Written.{held, SameSlices};
 
-    pub fn new(symbols: &'a mut [u8], lengths: &'a mut [u64], count: usize) -> Self
-        requires { count ≤ places_of symbols.old lengths.old }
-        ensures same { (result.symbols.ghost_name ≡ symbols.entry.ghost_name) × (result.lengths.ghost_name ≡ lengths.entry.ghost_name) }
-        ensures made { (held result ≡ side symbols.old lengths.old count) × (result.places ≡ places_of symbols.old lengths.old) }
-    {
-        let places = places(symbols, lengths);
-        Stack {
-            symbols,
-            lengths,
-            places,
-            count,
-        }
-    }
-
     // The symbol next to the head.
     pub fn top(&self) -> u8
         ensures { result ≡ top_of (held self.now) }
     {
-        if self.count == 0 {
-            return 0;
-        }
-        self.symbols[self.count - 1]
+        top(self.symbols, self.count)
     }
 
     // How many cells of symbol `a` lie next to the head.
@@ -219,36 +234,11 @@ impl<'a> Stack<'a> {
         }
     }
 
-    // Whether a push of `s` needs a new run for which there is no place. The places are tested first, since a run of the
-    // engine rarely fills them.
+    // Whether a push of `s` needs a new run for which there is no place.
     pub fn lacks(&self, s: u8) -> bool
         ensures { result ≡ lacks self.now.places s (held self.now) }
     {
-        if self.count < self.places {
-            return false;
-        }
-        s != self.top()
-    }
-
-    // Puts n cells of `s` next to the head.
-    pub fn push(&mut self, s: u8, n: u64)
-        requires place { lacks self.old.places s (held self.old) ≡ false }
-        requires n_bound { cells_of (held self.old) + n < 18446744073709551616 }
-        ensures same { SameSlices self.old self.new }
-        ensures pushed { held self.new ≡ push_of s n (held self.old) }
-    {
-        let count = self.count;
-        let symbols = &mut *self.symbols;
-        if s == top(symbols, count) {
-            if count == 0 {
-                return;
-            }
-            self.lengths[count - 1] += n;
-            return;
-        }
-        symbols[count] = s;
-        self.lengths[count] = n;
-        self.count = count + 1;
+        lacks(self.symbols, self.count, self.places, s)
     }
 
     // Takes n cells off the run next to the head.
@@ -256,15 +246,7 @@ impl<'a> Stack<'a> {
         ensures same { SameSlices self.old self.new }
         ensures taken { held self.new ≡ take_of n (held self.old) }
     {
-        let count = self.count;
-        if count == 0 {
-            return;
-        }
-        let left = self.lengths[count - 1].saturating_sub(n);
-        self.lengths[count - 1] = left;
-        if left == 0 {
-            self.count = count - 1;
-        }
+        self.count = take(self.lengths, self.count, n);
     }
 }
 

@@ -8,7 +8,8 @@ ghost use Rattle.rle.specs.Fits.{side_fits, head_fits, reach_fits, counts_fit};
 use super::super::ChainSim;
 use machine::Machine;
 use notation::limits;
-use rle_stack::inner::{Lengths, Runs};
+use rle_stack::inner as stack;
+use rle_stack::inner::Lengths;
 use run_checks::inner::sizes;
 
 pub fn counts_fit(sim: ChainSim, m: Machine) -> bool
@@ -75,9 +76,9 @@ pub fn measure<L: Lengths>(
     if places < count {
         return most + 1;
     }
-    let side = Runs::new(symbols, lengths, count);
+    let side = stack::side_to_read(symbols, lengths, count);
     if !side.runs_fit(k) {
         return most + 1;
     }
-    side.cells(most)
+    stack::cells(&side, most)
 }

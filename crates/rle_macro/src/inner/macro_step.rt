@@ -7,6 +7,7 @@ ghost use Rattle.rle_stack.specs.Written.{held, SameSlices};
 ghost use Rattle.rle_macro.specs.Model.MacroStep.{walks_on, loops_for, proof_of, reach_of, carried, carry_of, gone, go_of, moved, make_of, head_for, MakeOk};
 
 use outcome::NonHaltProof;
+use rle_stack::inner as stack;
 use rle_stack::inner::Stack;
 use symbol::{Dir, State};
 
@@ -86,7 +87,7 @@ fn carry(behind: &mut Stack, ahead: &mut Stack, write: u8, n: u64) -> u8
     ensures ahead_same { SameSlices ahead.old ahead.new }
     ensures carried { carried (held behind.new) result (held ahead.new) ≡ carry_of write n (held behind.old) (held ahead.old) }
 {
-    behind.push(write, n);
+    stack::push(behind, write, n);
     ahead.take(n - 1);
     let cur = ahead.top();
     ahead.take(1);
@@ -100,7 +101,8 @@ fn go(behind: &mut Stack, ahead: &mut Stack, cur: u8, s: Step, fuel: u64) -> Mov
     ensures ahead_same { SameSlices ahead.old ahead.new }
     ensures gone { gone (held behind.new) result.cur (held ahead.new) result.repeats ≡ go_of behind.old.places s cur fuel (held behind.old) (held ahead.old) }
 {
-    if behind.lacks(s.write) {
+    let symbols = &mut *behind.symbols;
+    if stack::lacks(symbols, behind.count, behind.places, s.write) {
         return Moved { cur, repeats: 0 };
     }
     let repeats = reach(s.loops, s.keeps, ahead, cur, fuel);

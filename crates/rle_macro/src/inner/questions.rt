@@ -4,6 +4,7 @@ ghost use Rattle.notation.specs.Limits.{raised_zero};
 ghost use Rattle.rle_stack.specs.Model.{cells_of};
 ghost use Rattle.rle_macro.specs.Model.Questions.{cell_on, window_on, window_all, count_on};
 
+use rle_stack::inner as stack;
 use rle_stack::inner::Runs;
 
 // A tape to read: the head's position raised by 2^63, the symbol under the head, and the two sides.
@@ -48,17 +49,17 @@ impl<'a> Tape<'a> {
             out[j] = self.window_cell(raised, j);
         }
     }
+}
 
-    // How many cells are not blank.
-    pub fn count(&self) -> u64
-        requires { (cells_of self.now.left < raised_zero - 1) × (cells_of self.now.right < raised_zero - 1) }
-        ensures { result ≡ count_on self.now.cur self.now.left self.now.right }
-    {
-        let lefts = self.left.written();
-        let rights = self.right.written();
-        if self.cur == 0 {
-            return lefts + rights;
-        }
-        lefts + 1 + rights
+// How many cells are not blank.
+pub fn count(tape: &Tape) -> u64
+    requires { (cells_of tape.now.left < raised_zero - 1) × (cells_of tape.now.right < raised_zero - 1) }
+    ensures { result ≡ count_on tape.now.cur tape.now.left tape.now.right }
+{
+    let lefts = stack::written(&tape.left);
+    let rights = stack::written(&tape.right);
+    if tape.cur == 0 {
+        return lefts + rights;
     }
+    lefts + 1 + rights
 }

@@ -7,7 +7,7 @@ ghost use Rattle.rle_counts.specs.Model.Words.{word_of, runs_of, fresh_sizes, fr
 use machine::Machine;
 use notation::limits;
 use outcome::Refusal;
-use rle_stack::inner::Stack;
+use rle_stack::inner as stack;
 
 // The number of runs after a push of `s`: one more where `s` differs from the symbol on top.
 fn more(count: usize, top: u8, s: u8) -> usize
@@ -40,9 +40,9 @@ pub fn lay(symbols: &mut [u8], lengths: &mut [u64], word: &[u8]) -> usize
     requires word_bound { runs_of word.now (length word.now - 1) 0 0 ≤ places_of symbols.old lengths.old }
     ensures { side symbols.new lengths.new result ≡ word_of word.now (side symbols.old lengths.old 0) }
 {
-    let mut side = Stack::new(symbols, lengths, 0);
+    let mut side = stack::side_to_write(symbols, lengths, 0);
     for i in (1..word.len()).rev() {
-        side.push(word[i], 1);
+        stack::push(&mut side, word[i], 1);
     }
     side.count
 }

@@ -7,9 +7,9 @@ use Rattle.rle_macro.proofs.inner.word.lay.Goals as goal
 
 pub loop-i-init : goal.loop-i-init
 loop-i-init c =
-    let made = c.new-side.ensures.made in
+    let made = c.side_to_write-side.ensures.made in
     let start = laying_start c.args.word.now c.args.symbols.now c.args.lengths.now c.requires.word_bound in (
-      subst (λ (p : ℕ). Laying c.args.word.now p (held c.new-side.result) (held c.new-side.result) (length c.args.word.now)) (sym made.1)
+      subst (λ (p : ℕ). Laying c.args.word.now p (held c.side_to_write-side.result) (held c.side_to_write-side.result) (length c.args.word.now)) (sym made.1)
           (subst (λ (x : Side). Laying c.args.word.now (places_of c.args.symbols.now c.args.lengths.now) x x (length c.args.word.now)) (sym made.0) start),
       (refl, refl, refl),
     )
@@ -29,8 +29,8 @@ loop-i-preserved c = (
 
 pub returns : goal.returns
 returns c =
-    let laid = laying_end _ _ _ _ _ c.loop-i.invariant.0 (omega arith) ∙ ap (word_of c.args.word.now) c.new-side.ensures.made.0 in
+    let laid = laying_end _ _ _ _ _ c.loop-i.invariant.0 (omega arith) ∙ ap (word_of c.args.word.now) c.side_to_write-side.ensures.made.0 in
     let same = c.loop-i.invariant.1 in
-    let first = sym (same.0 ∙ c.new-side.ensures.same.0) in
-    let second = sym (same.1 ∙ c.new-side.ensures.same.1) in
+    let first = sym (same.0 ∙ c.side_to_write-side.ensures.same.0) in
+    let second = sym (same.1 ∙ c.side_to_write-side.ensures.same.1) in
     rw (c.symbols-1.given.1.1 first, c.lengths-1.given.1.1 second) laid

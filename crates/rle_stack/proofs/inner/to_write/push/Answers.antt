@@ -3,13 +3,13 @@ use native.Mathlib.Omega.{arith}
 use Rattle.rle_stack.specs.Model.{side}
 use Rattle.rle_stack.proofs.Facts.Sides.{sum_last}
 use Rattle.rle_stack.proofs.Facts.SideCases.{push-none, push_grows, push_adds, has-place}
-use Rattle.rle_stack.proofs.inner.Stack.push.Goals as goal
+use Rattle.rle_stack.proofs.inner.to_write.push.Goals as goal
 
 pub returns-then-count-eq0-clause-pushed : goal.returns-then-count-eq0-clause-pushed
 returns-then-count-eq0-clause-pushed c = ap (side _ _) c.if-count-eq0.true ∙ push-none _ _ _ _ _ _ c.top.ensures c.if-s-top.true c.if-count-eq0.true
 
-pub overflow_add-self : goal.overflow_add-self
-overflow_add-self c = omega (arith, c.requires.n_bound, sum_last c.args.self.now.count c.args.self.now.lengths.now c.if-count-eq0.false)
+pub overflow_add-side : goal.overflow_add-side
+overflow_add-side c = omega (arith, c.requires.n_bound, sum_last c.args.side.now.count c.args.side.now.lengths.now c.if-count-eq0.false)
 
 pub returns-then-s-top-clause-pushed : goal.returns-then-s-top-clause-pushed
 returns-then-s-top-clause-pushed c = push_grows _ _ _ _ _ _ c.top.ensures c.if-s-top.true c.if-count-eq0.false
@@ -17,18 +17,18 @@ returns-then-s-top-clause-pushed c = push_grows _ _ _ _ _ _ c.top.ensures c.if-s
 pub bounds-symbols-count : goal.bounds-symbols-count
 bounds-symbols-count c = omega (arith, has-place _ _ _ _ _ _ c.top.ensures c.if-s-top.false c.requires.place)
 
-pub bounds-self-count-2 : goal.bounds-self-count-2
-bounds-self-count-2 c = omega (arith, has-place _ _ _ _ _ _ c.top.ensures c.if-s-top.false c.requires.place)
+pub bounds-side-count-2 : goal.bounds-side-count-2
+bounds-side-count-2 c = omega (arith, has-place _ _ _ _ _ _ c.top.ensures c.if-s-top.false c.requires.place)
 
 pub returns-clause-pushed : goal.returns-clause-pushed
 returns-clause-pushed c = push_adds _ _ _ _ _ _ c.top.ensures c.if-s-top.false
 
-pub invariant_of-self-3 : goal.invariant_of-self-3
-invariant_of-self-3 c =
+pub invariant_of-side-3 : goal.invariant_of-side-3
+invariant_of-side-3 c =
     let place = has-place _ _ _ _ _ _ c.top.ensures c.if-s-top.false c.requires.place in
     record {
       live = (
         omega (arith, place),
-        omega (arith, length-set c.args.self.now.symbols.now c.args.self.now.count c.args.s, length-set c.args.self.now.lengths.now c.args.self.now.count c.args.n),
+        omega (arith, length-set c.args.side.now.symbols.now c.args.side.now.count c.args.s, length-set c.args.side.now.lengths.now c.args.side.now.count c.args.n),
       );
     }
