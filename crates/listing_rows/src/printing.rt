@@ -11,7 +11,7 @@ use listing_text::inner as writer;
 use outcome::Outcome;
 use sim::Simulator;
 use tape::Tape;
-use tape::view::View;
+use tape::inner::view::View;
 
 // Prints the word of an answer.
 fn answer(out: &mut [u8], at: usize, outcome: Outcome) -> usize

@@ -7,7 +7,7 @@ use super::Simulator;
 use machine::Machine;
 use outcome::Refusal;
 use symbol::{Dir, Symbol};
-use tape::view::View;
+use tape::inner::view::View;
 use tape::{Span, Tape};
 
 fn cells_at<'a>(i: u64, c0: &'a [u8], c1: &'a [u8], c2: &'a [u8]) -> &'a [u8]

@@ -8,7 +8,7 @@ ghost use Rattle.sim_burst_wide.specs.Model.{wrote, FreeIf, DecodedOf, TapeMoves
 
 use machine::inner;
 use tape::Tape;
-use tape::view::View;
+use tape::inner::view::View;
 
 // What a burst goes by: its table, the state of the stop rule, the number of symbols, and a row's length.
 #[derive(Clone, Copy)]

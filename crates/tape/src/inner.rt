@@ -1,4 +1,6 @@
 // The operations on one tape. They require that its numbers lie inside its cells.
+pub mod view;
+
 ghost use Rattle.std.specs.Prelude.{◌≡◌, true, false, ◌+◌, ◌≤◌, length};
 ghost use Rattle.notation.specs.Limits.{cells_most};
 ghost use Rattle.tape.specs.Model.Moves.{held, fresh_of, leaves, room_for, grow_of, shift_of, act_of};

@@ -2,7 +2,6 @@
 #![tactic(auto)]
 
 pub mod inner;
-pub mod view;
 
 // The first `len` of the lent cells are the tape's. The other numbers are indexes into them: of position 0, of the
 // head, and of the lowest and the highest head so far. A tape that the machine lacks has 0 in every field.

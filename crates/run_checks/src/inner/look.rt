@@ -9,7 +9,7 @@ use outcome::{NonHaltProof, Outcome};
 use std::ops::ControlFlow;
 use symbol::{Dir, State};
 use tape::Tape;
-use tape::view::View;
+use tape::inner::view::View;
 
 // The result of the lookup and the never test before a step: no entry, a proved loop, or the entry to follow.
 #[derive(Clone, Copy)]

@@ -1,6 +1,6 @@
 use Rattle.notation.proofs.Facts.Tests.{tests}
 use Rattle.tape.specs.Model.Moves.{read_of}
-use Rattle.tape.proofs.view.View.read.Goals as goal
+use Rattle.tape.proofs.inner.view.View.read.Goals as goal
 
 pub returns-then-head-self : goal.returns-then-head-self
 unfolding read_of

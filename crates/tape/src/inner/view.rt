@@ -5,7 +5,7 @@ ghost use Rattle.tape.specs.Model.Moves.{read_of};
 ghost use Rattle.tape.specs.Fits.{reach};
 ghost use Rattle.tape.specs.Model.Questions.{blank_beyond, cell_of, span_of, spot_of, non_blank_of, count_of, window_of, find_of};
 
-use super::{Span, Tape};
+use super::super::{Span, Tape};
 use std::marker::Model;
 use symbol::{Dir, position};
 use tape_cells::inner as loops;

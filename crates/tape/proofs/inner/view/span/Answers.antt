@@ -1,7 +1,7 @@
 use mir.ValLaws.{to_z-of_z}
 use mir.Syntax.{w64}
 use Rattle.tape.proofs.Facts.QuestionCases.{span_none, span_no_last, span_cells}
-use Rattle.tape.proofs.view.span.Goals as goal
+use Rattle.tape.proofs.inner.view.span.Goals as goal
 
 pub returns-in_err-i : goal.returns-in_err-i
 returns-in_err-i c = rw c.from_residual.ensures (span_none _ _ _ c.in_err-i.was)

@@ -1,7 +1,7 @@
 use mir.ValLaws.{to_z-of_z}
 use mir.Syntax.{w64}
 use Rattle.tape.proofs.Facts.QuestionCases.{spot_none, spot_at}
-use Rattle.tape.proofs.view.spot.Goals as goal
+use Rattle.tape.proofs.inner.view.spot.Goals as goal
 
 pub returns-in-None : goal.returns-in-None
 returns-in-None c = search spot_none

@@ -1,7 +1,7 @@
 use mir.ValLaws.{to_z-of_z}
 use mir.Syntax.{w64}
 use Rattle.tape.proofs.Facts.QuestionCases.{find_none, find_left, find_right, find_here}
-use Rattle.tape.proofs.view.View.find_non_blank.Goals as goal
+use Rattle.tape.proofs.inner.view.View.find_non_blank.Goals as goal
 
 pub returns-then-get-eq0 : goal.returns-then-get-eq0
 returns-then-get-eq0 c = search (find_none, to_z-of_z)

@@ -1,7 +1,7 @@
 use Rattle.std.proofs.Common.{rules}
 use Rattle.tape_cells.proofs.Facts.LoopCases.{first-front, last-front, first_reach, last_reach}
 use Rattle.tape.proofs.Facts.QuestionCases.{non_blank_is}
-use Rattle.tape.proofs.view.View.non_blank.Goals as goal
+use Rattle.tape.proofs.inner.view.View.non_blank.Goals as goal
 
 pub span-requires : goal.span-requires
 span-requires c =

@@ -1,6 +1,6 @@
 use Rattle.std.proofs.Common.{arith}
 use Rattle.tape.proofs.Facts.QuestionCases.{beyond_left, beyond_right, beyond_none}
-use Rattle.tape.proofs.view.View.only_blanks_beyond.Goals as goal
+use Rattle.tape.proofs.inner.view.View.only_blanks_beyond.Goals as goal
 
 pub returns-in-L : goal.returns-in-L
 returns-in-L c = rw (← c.self.view_is) (beyond_left _ _ _ _ (omega arith) c.all_blank.ensures c.in-L.is)
