@@ -1,5 +1,6 @@
 -- Packed words in a burst: the decoding of a word, and when words are those of a table. Definitions only.
-use Rattle.std.specs.Prelude.{◌≡◌, Bool, true, not, List, ℕ, ◌*◌, ◌%◌, ◌<◌, eqb, length, get_or, Ok}
+use Rattle.std.specs.Prelude.{◌≡◌, Bool, true, not, List, ℕ, ◌*◌, ◌%◌, ◌<◌, eqb, length, get_or, Ok, Option, Some, None}
+use Rattle.notation.specs.Choice.{pick}
 use Rattle.machine.specs.declared.Machine.{Machine}
 use Rattle.machine.specs.Model.Check.{table_check}
 use Rattle.machine.specs.Layout.{entry_at}
@@ -19,6 +20,10 @@ decoded_word w =
       next = word_next w;
       row = word_row w;
     }
+
+-- the entry of a word: the undefined word has none
+abbrev pub unpacked : ℕ → Option Decoded
+unpacked w = pick (word_known w) (Some (decoded_word w)) None
 
 -- where word i is known, it decodes to entry i of table s
 pub record Packs (words : List ℕ) (k : ℕ) (s : List ℕ) : Type 0 where

@@ -1,5 +1,6 @@
 // The entries of packed words.
-ghost use Rattle.sim_burst.specs.Model.Words.{Packs};
+ghost use Rattle.std.specs.Prelude.{◌≡◌};
+ghost use Rattle.sim_burst.specs.Model.Words.{unpacked, Packs};
 
 use super::entries::Entries;
 use super::step::Decoded;
@@ -7,20 +8,27 @@ use super::step::Decoded;
 impl Entries for &[u64] {
     ghost known = { λ words k. Packs words.now k };
 
-    // A word has the number of the next state's first word. Only the word 3 is undefined.
+    #[tactic(auto, unfolding(notation::specs::Choice::pick))]
     fn entry(self, _k: usize, i: usize) -> Option<Decoded> {
         if self.len() <= i {
             return None;
         }
-        let word = self[i];
-        if word == 3 {
-            return None;
-        }
-        Some(Decoded {
-            write: (word / 256 % 256) as u8,
-            dir: (word % 256) as u8,
-            next: (word / 65536 % 65536) as usize,
-            row: (word / 4294967296) as usize,
-        })
+        unpack(self[i])
     }
+}
+
+// Decodes a word, which has the number of the next state's first word. Only the word 3 is undefined.
+#[tactic(auto, unfolding(notation::specs::Choice::pick))]
+fn unpack(word: u64) -> Option<Decoded>
+    ensures { result ≡ unpacked word }
+{
+    if word == 3 {
+        return None;
+    }
+    Some(Decoded {
+        write: (word / 256 % 256) as u8,
+        dir: (word % 256) as u8,
+        next: (word / 65536 % 65536) as usize,
+        row: (word / 4294967296) as usize,
+    })
 }
