@@ -68,7 +68,12 @@ pub fn first_written(cells: &[u8]) -> Option<usize>
 pub fn last_written(cells: &[u8]) -> Option<usize>
     ensures { MatchOption result (All (λ x. x ≡ 0) cells.now) (IsLastWritten cells.now) }
 {
-    cells.iter().rposition(|&x| x != 0)
+    for i in (0..cells.len()).rev() {
+        if cells[i] != 0 {
+            return Some(i);
+        }
+    }
+    None
 }
 
 // How many of the cells are not blank.
