@@ -68,14 +68,19 @@ pub fn first_written(cells: &[u8]) -> Option<usize>
 pub fn last_written(cells: &[u8]) -> Option<usize>
     ensures { MatchOption result (All (λ x. x ≡ 0) cells.now) (IsLastWritten cells.now) }
 {
-    cells.iter().rposition(|&x| x != 0)
+    for i in (0..cells.len()).rev() {
+        if cells[i] != 0 {
+            return Some(i);
+        }
+    }
+    None
 }
 
 // How many of the cells are not blank.
 pub fn count_written(cells: &[u8]) -> u64
     ensures { result ≡ count_by (λ x. not (x == 0)) cells.now }
 {
-    cells.iter().filter(|x| **x != 0).count() as u64
+    cells.iter().map(|&x| u64::from(x != 0)).sum()
 }
 
 // How many cells a growth adds: as many as there are, or none where the buffer has no space for them.
