@@ -1,12 +1,15 @@
-use Rattle.std.proofs.Common.{◌∙◌, ap, length-set}
+use Rattle.std.proofs.Common.{◌≡◌, length-set}
 use native.Mathlib.Omega.{arith}
-use Rattle.rle_stack.specs.Model.{side}
+use Rattle.rle_stack.specs.Model.{side, push_of}
 use Rattle.rle_stack.proofs.Facts.Sides.{sum_last}
 use Rattle.rle_stack.proofs.Facts.SideCases.{push-none, push_grows, push_adds, has-place}
 use Rattle.rle_stack.proofs.inner.to_write.push.Goals as goal
 
 pub returns-then-count-eq0-clause-pushed : goal.returns-then-count-eq0-clause-pushed
-returns-then-count-eq0-clause-pushed c = ap (side _ _) c.if-count-eq0.true ∙ push-none _ _ _ _ _ _ c.top.ensures c.if-s-top.true c.if-count-eq0.true
+returns-then-count-eq0-clause-pushed c =
+    let side0 = c.args.side.now in
+    let none : side side0.symbols.now side0.lengths.now 0 ≡ push_of c.args.s c.args.n (side side0.symbols.now side0.lengths.now side0.count) = push-none _ _ _ _ _ _ c.top.ensures c.if-s-top.true c.if-count-eq0.true in
+    grind (arith, none, c.if-count-eq0.true)
 
 pub overflow_add-side : goal.overflow_add-side
 overflow_add-side c = omega (arith, c.requires.n_bound, sum_last c.args.side.now.count c.args.side.now.lengths.now c.if-count-eq0.false)
