@@ -12,7 +12,6 @@ use super::{Answered, Simulator};
 use machine::Machine;
 use outcome::{Outcome, Refusal};
 use sim_burst::inner::burst;
-use sim_burst::inner::entries::Entries;
 use sim_burst::inner::step::BurstState;
 use sim_burst_wide::inner as wide;
 use sim_burst_wide::inner::WideBurstState;
@@ -125,30 +124,39 @@ impl Simulator {
         }
     }
 
-    // Makes the ordinary steps on one tape. Makes none where no burst may run.
-    fn burst_one<E: Entries>(
-        self,
-        entries: E,
-        m: Machine,
-        proves: bool,
-        stop: usize,
-        c0: &mut [u8],
-        left: u64,
-    ) -> Ahead
-        requires { OneTapeOk m self c0.old left }
-        ensures { (s : List ℕ) → E.known entries m.symbols s → SameRunOne m s proves stop self c0.old left result.sim c0.new result.left }
+    // Makes the ordinary steps on one tape, over the words where they are given. Makes none where no burst may run.
+    fn burst_one(self, job: Job, stop: usize, c0: &mut [u8], left: u64) -> Ahead
+        requires one_tape_ok { OneTapeOk job.m self c0.old left }
+        requires words_if { IfSome job.words (λ words. WordsOk job.m job.table.now words.now) }
+        ensures { SameRunOne job.entry.m job.entry.table.now job.entry.proves stop self c0.old left result.sim c0.new result.left }
     {
+        let m = job.m;
         if !self.burst_allowed(m.tapes) {
             return Ahead { sim: self, left };
         }
+        let proves = job.proves;
+        let k = m.symbols as usize;
+        let len = self.t0.len;
+        let start = self.burst_start(left);
+        if let Some(entries) = job.words {
+            let by = burst::Rules {
+                entries,
+                proves,
+                stop,
+                k,
+                len,
+            };
+            let at = burst::burst(by, c0, start);
+            return self.after(at, left);
+        }
         let by = burst::Rules {
-            entries,
+            entries: job.table,
             proves,
             stop,
-            k: m.symbols as usize,
-            len: self.t0.len,
+            k,
+            len,
         };
-        let at = burst::burst(by, c0, self.burst_start(left));
+        let at = burst::burst(by, c0, start);
         self.after(at, left)
     }
 
@@ -197,11 +205,12 @@ impl Simulator {
         ensures { SameRun job.entry.m job.entry.table.now job.entry.proves stop self c0.old c1.old c2.old left result.sim c0.new c1.new c2.new result.left }
     {
         let m = job.m;
-        if let Some(words) = job.words {
-            return self.burst_one(words, m, job.proves, stop, c0, left);
+        // Two calls of `burst_one` on purpose (docs/DECISIONS.md 7.6).
+        if job.words.is_some() {
+            return self.burst_one(job, stop, c0, left);
         }
         if m.tapes == 1 {
-            return self.burst_one(job.table, m, job.proves, stop, c0, left);
+            return self.burst_one(job, stop, c0, left);
         }
         let by = wide::Rules {
             table: job.table,
