@@ -57,11 +57,8 @@ fn make(
 ) -> Answered
     ensures { replied result.answer (with_lent result.timeline c0.new c1.new c2.new store.new) ≡ call_on plain_kind m table.now (with_lent line c0.old c1.old c2.old store.old) call }
 {
-    match call {
-        Call::Seek(target) => line.seek(m, table, c0, c1, c2, store, target),
-        Call::Forward(steps) => line.forward(m, table, c0, c1, c2, store, steps),
-        Call::Back(steps) => line.back(m, table, c0, c1, c2, store, steps),
-    }
+    let (which, number) = call.numbers();
+    line.call(m, table, c0, c1, c2, store, which, number)
 }
 
 // Makes the first n calls, one after another, and prints a row for each. The cells and the store are left as the last

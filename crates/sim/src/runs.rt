@@ -1,5 +1,5 @@
 // The run: bursts of ordinary steps. After each burst the run decides whether it ends or makes one more step.
-ghost use Rattle.std.specs.Prelude.{◌≡◌, List, ℕ, ◌+◌, ◌-◌, ◌≤◌, ◌<◌, IfSome, Ok};
+ghost use Rattle.std.specs.Prelude.{◌≡◌, ◌+◌, ◌-◌, ◌≤◌, ◌<◌, IfSome, Ok};
 ghost use Rattle.notation.specs.Limits.{steps_most};
 ghost use Rattle.outcome.specs.declared.Outcome.TheVariants.{Stopped};
 ghost use Rattle.sim_burst.specs.Model.Words.{WordsOk};

@@ -3,7 +3,7 @@
 #![tactic(auto)]
 
 ghost use Rattle.std.specs.Prelude.{◌≡◌};
-ghost use Rattle.timeline_rule.specs.Model.Timeline.{new_ok};
+ghost use Rattle.timeline_rule.specs.Model.Timeline.{new_ok, call_for};
 
 pub mod inner;
 
@@ -25,6 +25,19 @@ pub enum Call {
     Seek(u64),
     Forward(u64),
     Back(u64),
+}
+
+impl Call {
+    // The call as two numbers, as it crosses the C boundary: 0 for seek, 1 for forward, 2 for back; and its number.
+    pub fn numbers(self) -> (u64, u64)
+        ensures { call_for result.0 result.1 ≡ self }
+    {
+        match self {
+            Call::Seek(target) => (0, target),
+            Call::Forward(steps) => (1, steps),
+            Call::Back(steps) => (2, steps),
+        }
+    }
 }
 
 // Whether the settings of a new timeline pass the test of refusal 14.

@@ -100,15 +100,10 @@ impl Engine for ChainEngine {
         let mut ll = self.ll;
         let mut rs = self.rs;
         let mut rl = self.rl;
-        let answered = match call {
-            Call::Seek(step) => timeline.seek(
-                m, table, &mut ls, &mut ll, &mut rs, &mut rl, store, step,
-            ),
-            Call::Forward(n) => timeline.forward(
-                m, table, &mut ls, &mut ll, &mut rs, &mut rl, store, n,
-            ),
-            Call::Back(n) => timeline.back(m, table, &mut ls, &mut ll, &mut rs, &mut rl, store, n),
-        };
+        let (which, number) = call.numbers();
+        let answered = timeline.call(
+            m, table, &mut ls, &mut ll, &mut rs, &mut rl, store, which, number,
+        );
         let timeline = answered.timeline;
         let answer = answered.answer;
         let sim = timeline.engine;

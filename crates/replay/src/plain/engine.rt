@@ -114,11 +114,8 @@ impl Engine for PlainEngine {
         let mut c0 = self.c0;
         let mut c1 = self.c1;
         let mut c2 = self.c2;
-        let answered = match call {
-            Call::Seek(step) => timeline.seek(m, table, &mut c0, &mut c1, &mut c2, store, step),
-            Call::Forward(n) => timeline.forward(m, table, &mut c0, &mut c1, &mut c2, store, n),
-            Call::Back(n) => timeline.back(m, table, &mut c0, &mut c1, &mut c2, store, n),
-        };
+        let (which, number) = call.numbers();
+        let answered = timeline.call(m, table, &mut c0, &mut c1, &mut c2, store, which, number);
         let timeline = answered.timeline;
         let answer = answered.answer;
         let sim = timeline.engine;

@@ -101,6 +101,7 @@ fn go(behind: &mut Stack, ahead: &mut Stack, cur: u8, s: Step, fuel: u64) -> Mov
     ensures ahead_same { SameSlices ahead.old ahead.new }
     ensures gone { gone (held behind.new) result.cur (held ahead.new) result.repeats ≡ go_of behind.old.places s cur fuel (held behind.old) (held ahead.old) }
 {
+    // Lent as `&mut`: of a slice that is lent from `behind` as shared, the check keeps the length alone.
     let symbols = &mut *behind.symbols;
     if stack::lacks(symbols, behind.count, behind.places, s.write) {
         return Moved { cur, repeats: 0 };
