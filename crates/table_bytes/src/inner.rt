@@ -129,8 +129,11 @@ pub fn word_of(dir: u8, write: u8, next: u16, stride: u64, undefined: u64) -> u6
 {
     let next = u64::from(next);
     let low = u64::from(dir) + 256 * u64::from(write) + 65536 * next;
-    match next.checked_mul(stride) {
-        Some(row) if row < 4294967296 => low + 4294967296 * row,
-        _ => undefined,
+    // A stride past 2^32 gives a row that does not fit, as 2^32 does. `checked_mul` made the test of packed words a quarter
+    // slower.
+    let row = next * stride.min(4294967296);
+    if 4294967296 <= row {
+        return undefined;
     }
+    low + 4294967296 * row
 }
