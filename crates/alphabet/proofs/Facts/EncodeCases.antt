@@ -1,9 +1,10 @@
 -- The encoder, one fact for each way through the code. Assumes nothing.
 use Rattle.std.specs.Prelude.{refl, take, ◌≡◌, Bool, true, false, not, List, ℕ, ◌≤◌, ◌<◌, min, eqb, length, get_or, Err, Ok, Option, Result, ⊤}
 use Rattle.std.proofs.Math.Path.{sym}
+use Rattle.std.proofs.Math.Nat.{min_comm}
 use Rattle.std.proofs.Common.{ap, ◌∙◌, arith}
 use Rattle.std.specs.List.{position}
-use Rattle.std.proofs.lemmas.List.{length-take, get_or-take}
+use Rattle.std.proofs.lemmas.List.{length-take, get_or-take, take_min}
 use Rattle.notation.proofs.Facts.Parts.{position-scan}
 use borrow.Author.Tests.{le-leb, lt-leb}
 use Rattle.notation.specs.Choice.{pick}
@@ -20,18 +21,23 @@ not-not : (b : Bool) → b ≡ not (not b)
 not-not true = refl
 not-not false = refl
 
--- the place of the first equal glyph among the first 256; `searched` are these glyphs
-pub place-symbol : (glyphs : List ℕ) (glyph : ℕ) (r : Option ℕ) (most : ℕ) (searched : List ℕ) → r ≡ position (λ g. eqb g glyph) searched
-    → most ≡ min (length glyphs) 256 → searched ≡ take most glyphs → named r ≡ symbol_for glyphs glyph
+-- the place of the first equal glyph among the first 256
+pub place-symbol : (glyphs : List ℕ) (glyph : ℕ) (r : Option ℕ) → r ≡ position (λ g. eqb g glyph) (take 256 glyphs) → named r ≡ symbol_for glyphs glyph
 unfolding symbol_for
-place-symbol glyphs glyph r most searched e m first =
-    ap named (e ∙ ap (position (λ g. eqb g glyph)) first ∙ position-scan (λ g. eqb g glyph) (differs glyphs glyph) (take most glyphs) same ∙ ap (λ n. first_fail (differs glyphs glyph) n 0) size)
+place-symbol glyphs glyph r e =
+    ap named (e ∙ position-scan (λ g. eqb g glyph) (differs glyphs glyph) (take 256 glyphs) same ∙ ap (λ n. first_fail (differs glyphs glyph) n 0) size)
   where
-    size : length (take most glyphs) ≡ min (length glyphs) 256
-    size = omega (arith, length-take most glyphs, m)
+    size : length (take 256 glyphs) ≡ min (length glyphs) 256
+    size = omega (arith, length-take 256 glyphs)
 
-    same : (j : ℕ) → j < length (take most glyphs) → eqb (get_or (take most glyphs) j 0) glyph ≡ not (differs glyphs glyph j)
-    same j h = rw (get_or-take most glyphs j 0 (omega (arith, size, m))) (not-not (eqb (get_or glyphs j 0) glyph))
+    same : (j : ℕ) → j < length (take 256 glyphs) → eqb (get_or (take 256 glyphs) j 0) glyph ≡ not (differs glyphs glyph j)
+    same j h = rw (get_or-take 256 glyphs j 0 (omega (arith, size))) (not-not (eqb (get_or glyphs j 0) glyph))
+
+-- the same place, where `searched` are these glyphs
+pub place-searched : (glyphs : List ℕ) (glyph : ℕ) (r : Option ℕ) (most : ℕ) (searched : List ℕ) → r ≡ position (λ g. eqb g glyph) searched
+    → most ≡ min (length glyphs) 256 → searched ≡ take most glyphs → named r ≡ symbol_for glyphs glyph
+place-searched glyphs glyph r most searched e m first =
+    place-symbol glyphs glyph r (e ∙ ap (position (λ g. eqb g glyph)) (first ∙ ap (λ n. take n glyphs) (m ∙ min_comm (length glyphs) 256) ∙ take_min 256 glyphs))
 
 -- the place of the first glyph that is not allowed
 pub place-check : (glyphs flags word : List ℕ) (r : Option ℕ) → r ≡ position (λ g. not (allowed_on flags (symbol_for glyphs g))) word
